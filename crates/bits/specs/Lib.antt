@@ -1,0 +1,3 @@
+-- Bits, and what packing and unpacking answer.
+pub mod Bits
+pub mod Packing

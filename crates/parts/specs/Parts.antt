@@ -1,0 +1,84 @@
+-- The parts as rows, the four commands, and what a row, a command and a configuration make: subframes, and slices.
+-- Nothing but the rows knows a part's numbers; what is said of slices and subframes is said of any row.
+use Prim.Native.Nat.{ℕ, _+_, _*_, _/_, _%_, _^_}
+use mathlib.Core.Bool.{Bool, true, false, _||_, cond}
+use mathlib.Core.List.{List, [], _∷_}
+use lib.Dec.{eqb}
+use lib.ListN.{getD}
+use Rattle.parts.specs.declared.command.Command.{Command}
+use Rattle.parts.specs.declared.command.Command.the-variants.{Individual, Calibration, Global, Configuration}
+
+-- a part's row
+pub record Part : Type 0 where
+  pub name : ℕ              -- its number: 6974
+  pub banks : ℕ             -- banks of eight outputs; bytes in a slice of bytes
+  pub width : ℕ             -- bits in a value
+  pub edge : ℕ              -- edge zone, in clocks
+  pub clocks : ℕ            -- clocks per subframe
+  pub subframesBy : List ℕ  -- subframes per frame: plain, multiplexed, with GLB4, both
+
+abbrev pub max6974 : Part
+max6974 = record { name = 6974; banks = 3; width = 12; edge = 16; clocks = 4096; subframesBy = 128 ∷ 64 ∷ 128 ∷ 64 ∷ [] }
+
+abbrev pub max6975 : Part
+max6975 = record { name = 6975; banks = 3; width = 14; edge = 32; clocks = 16384; subframesBy = 32 ∷ 16 ∷ 8 ∷ 4 ∷ [] }
+
+-- all rows
+abbrev pub rows : List Part
+rows = max6974 ∷ max6975 ∷ []
+
+-- a number is a part's
+abbrev pub knownIn : List Part → ℕ → Bool
+knownIn [] n = false
+knownIn (p ∷ ps) n = eqb n (p .name) || knownIn ps n
+
+abbrev pub known : ℕ → Bool
+known n = knownIn rows n
+
+-- the row with a number, or the last one
+abbrev pub rowFrom : Part → List Part → ℕ → Part
+rowFrom p [] n = p
+rowFrom p (q ∷ qs) n = cond (eqb n (p .name)) p (rowFrom q qs n)
+
+abbrev pub partOf : ℕ → Part
+partOf n = rowFrom max6974 (max6975 ∷ []) n
+
+-- configuration bit D0, multiplex, and D4, GLB4
+abbrev pub multiplex : ℕ → ℕ
+multiplex configuration = configuration % 2
+
+abbrev pub glb4 : ℕ → ℕ
+glb4 configuration = configuration / 16 % 2
+
+-- subframes per frame, S
+abbrev pub subframes : Part → ℕ → ℕ
+subframes p configuration = getD (p .subframesBy) (multiplex configuration + 2 * glb4 configuration) 0
+
+-- a value is below this
+abbrev pub limit : Part → ℕ
+limit p = 2 ^ p .width
+
+-- C1 C0
+abbrev pub code : Command → ℕ
+code Individual = 0
+code Calibration = 1
+code Global = 2
+code Configuration = 3
+
+-- bits of one field of a slice
+abbrev pub fieldWidth : Part → Command → ℕ
+fieldWidth p Individual = p .width
+fieldWidth p Calibration = 8
+fieldWidth p Global = 8
+fieldWidth p Configuration = 8
+
+-- fields of one slice, by the multiplex bit: a value for each output and phase, or a byte for each bank
+abbrev pub sliceFields : Part → Command → ℕ → ℕ
+sliceFields p Individual mux = 8 * p .banks * (1 + mux)
+sliceFields p Calibration mux = p .banks
+sliceFields p Global mux = p .banks
+sliceFields p Configuration mux = p .banks
+
+-- bits of one slice
+abbrev pub sliceBits : Part → Command → ℕ → ℕ
+sliceBits p c mux = sliceFields p c mux * fieldWidth p c

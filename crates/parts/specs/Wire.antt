@@ -1,0 +1,61 @@
+-- Frames and returns as bits, and as line states. Document 01, "The set and the wire" and "One device, clock by clock".
+use Prim.Native.Nat.{ℕ, _+_, _*_, _%_}
+use mathlib.Core.Bool.{Bool, true, false, cond}
+use mathlib.Core.List.{List, [], _∷_, _++_, map}
+use lib.Dec.{eqb, ltb}
+use lib.ListN.{take, drop}
+use Rattle.bits.specs.Bits.{bits, digit}
+use Rattle.parts.specs.Parts.{code}
+use Rattle.parts.specs.declared.command.Command.{Command}
+
+-- SYNC
+abbrev pub sync : List Bool
+sync = bits 8 0xE8
+
+-- C1 C0 three times, and the count
+unfoldable pub commandCount : Command → ℕ → List Bool
+commandCount c n = bits 2 (code c) ++ (bits 2 (code c) ++ (bits 2 (code c) ++ bits 10 n))
+
+-- SYNC, C1 C0 three times, and the count: 24 bits
+unfoldable pub header : Command → ℕ → List Bool
+header c n = sync ++ commandCount c n
+
+-- header, slices, tail
+unfoldable pub frame : Command → ℕ → List Bool → List Bool → List Bool
+frame c n slices tail = header c n ++ (slices ++ tail)
+
+-- what comes back: the header with the count of faults, and the tail
+abbrev pub returnOf : Command → ℕ → List Bool → List Bool
+returnOf c n tail = frame c n [] tail
+
+-- a line state: the data bit at low or at high load
+pub data Line : Type 0 where
+  low high : Bool → Line
+
+-- the data bit of a line state
+abbrev pub dataBit : Line → Bool
+dataBit (low b) = b
+dataBit (high b) = b
+
+-- document 01's number of a line state: data bit plus twice the load bit
+abbrev pub stateOf : Line → ℕ
+stateOf (low b) = digit b
+stateOf (high b) = 2 + digit b
+
+-- the line state of a number; of a number over 3, by its lowest bit, at high load
+abbrev pub lineOf : ℕ → Line
+lineOf s = cond (ltb s 2) (low (eqb (s % 2) 1)) (high (eqb (s % 2) 1))
+
+abbrev pub lows : List Bool → List Line
+lows bs = map low bs
+
+abbrev pub highs : List Bool → List Line
+highs bs = map high bs
+
+-- the clocks of a frame or of a header: SYNC at low load and the rest at high
+unfoldable pub clocked : List Bool → List Line
+clocked bs = lows (take 8 bs) ++ highs (drop 8 bs)
+
+-- the same as document 01's numbers
+abbrev pub statesOf : List Bool → List ℕ
+statesOf bs = map stateOf (clocked bs)

@@ -1,0 +1,8 @@
+// The four commands.
+
+pub enum Command {
+    Individual,
+    Calibration,
+    Global,
+    Configuration,
+}

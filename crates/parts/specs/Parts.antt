@@ -5,16 +5,17 @@ use mathlib.Core.Bool.{Bool, true, false, _||_, cond}
 use mathlib.Core.List.{List, [], _∷_}
 use lib.Dec.{eqb}
 use lib.ListN.{getD}
+use Rattle.parts.specs.declared.part.Constants.{Constants}
 use Rattle.parts.specs.declared.command.Command.{Command}
 use Rattle.parts.specs.declared.command.Command.the-variants.{Individual, Calibration, Global, Configuration}
 
 -- a part's row
 pub record Part : Type 0 where
-  pub name : ℕ              -- its number: 6974
-  pub banks : ℕ             -- banks of eight outputs; bytes in a slice of bytes
-  pub width : ℕ             -- bits in a value
-  pub edge : ℕ              -- edge zone, in clocks
-  pub clocks : ℕ            -- clocks per subframe
+  pub name : ℕ  -- its number: 6974
+  pub banks : ℕ  -- banks of eight outputs; bytes in a slice of bytes
+  pub width : ℕ  -- bits in a value
+  pub edge : ℕ  -- edge zone, in clocks
+  pub clocks : ℕ  -- clocks per subframe
   pub subframesBy : List ℕ  -- subframes per frame: plain, multiplexed, with GLB4, both
 
 abbrev pub max6974 : Part
@@ -43,6 +44,14 @@ rowFrom p (q ∷ qs) n = cond (eqb n (p .name)) p (rowFrom q qs n)
 abbrev pub partOf : ℕ → Part
 partOf n = rowFrom max6974 (max6975 ∷ []) n
 
+-- its place among the rows
+abbrev pub rowIndex : ℕ → ℕ
+rowIndex n = cond (eqb n 6974) 0 1
+
+-- what the code's constants say of a row
+abbrev pub constantsOf : Part → Constants
+constantsOf p = record { banks = p .banks; width = p .width; edge = p .edge; clocks = p .clocks }
+
 -- configuration bit D0, multiplex, and D4, GLB4
 abbrev pub multiplex : ℕ → ℕ
 multiplex configuration = configuration % 2
@@ -65,12 +74,21 @@ code Calibration = 1
 code Global = 2
 code Configuration = 3
 
+-- the command of C1 C0: of a number over 3, by its two low bits
+abbrev pub commandAt : ℕ → Command
+commandAt n =
+    cond (eqb (n % 4) 0) Individual (cond (eqb (n % 4) 1) Calibration (cond (eqb (n % 4) 2) Global Configuration))
+
 -- bits of one field of a slice
 abbrev pub fieldWidth : Part → Command → ℕ
 fieldWidth p Individual = p .width
 fieldWidth p Calibration = 8
 fieldWidth p Global = 8
 fieldWidth p Configuration = 8
+
+-- a field is below this
+abbrev pub fieldLimit : Part → Command → ℕ
+fieldLimit p c = 2 ^ fieldWidth p c
 
 -- fields of one slice, by the multiplex bit: a value for each output and phase, or a byte for each bank
 abbrev pub sliceFields : Part → Command → ℕ → ℕ

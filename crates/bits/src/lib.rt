@@ -1,0 +1,5 @@
+// Bits.
+mod packing;
+
+pub use packing::Number;
+pub use packing::Packed;

@@ -1,0 +1,11 @@
+// Answers.
+
+pub enum Packed {
+    Bytes(usize),
+    Refused,
+}
+
+pub enum Number {
+    Value(u64),
+    Refused,
+}

@@ -1,0 +1,60 @@
+use mathlib.Core.Path.{ap₂, _∙_}
+use Prim.Native.Nat.{ℕ, _+_, _*_, _%_}
+use native.Mathlib.Nat.{mod-lt}
+use native.Mathlib.Omega.{arith}
+use lib.ListN.{getD}
+use Rattle.parts.proofs.Laws.{code-lt, row-index-lt, table, slice-table}
+use borrow.Author.Needs.{needs}
+use Rattle.parts.proofs.slices.slice_bits.Statement.{statement}
+use Rattle.parts.proofs.slices.slice_bits.Tie as tie
+
+number-of-requires : tie.Need-number-of-requires
+number-of-requires c κs = search needs
+
+cast-at : tie.Need-cast-at
+cast-at c = search needs
+
+mul-at : tie.Need-mul-at
+mul-at c = search needs
+
+row-of-requires : tie.Need-row-of-requires
+row-of-requires c κs = search needs
+
+mul-at-2 : tie.Need-mul-at-2
+mul-at-2 c = omega (arith, c .before .number-of .ensures, c .row-of .ensures, code-lt (c .before .before .args .command), row-index-lt (c .before .before .args .part))
+
+add-at : tie.Need-add-at
+add-at c = omega (arith, c .before .number-of .ensures, c .row-of .ensures, code-lt (c .before .before .args .command), row-index-lt (c .before .before .args .part))
+
+cast-at-2 : tie.Need-cast-at-2
+cast-at-2 c = search needs
+
+add-at-2 : tie.Need-add-at-2
+add-at-2 c = omega (arith, c .before .number-of .ensures, c .row-of .ensures, code-lt (c .before .before .args .command), row-index-lt (c .before .before .args .part))
+
+mul-result : tie.Need-mul-result
+mul-result c = omega (arith, c .before .number-of .ensures, c .row-of .ensures, code-lt (c .before .before .args .command), row-index-lt (c .before .before .args .part))
+
+array-read-result : tie.Need-array-read-result
+array-read-result c = omega (arith, c .before .number-of .ensures, c .row-of .ensures, code-lt (c .before .before .args .command), row-index-lt (c .before .before .args .part))
+
+returns : tie.Need-returns
+returns c = let a = c .before .before .args in
+    ap₂ (λ (j k : ℕ). getD table (j * 4 + k * 2 + a .configuration % 2) 0) (c .before .number-of .ensures) (c .row-of .ensures)
+    ∙ slice-table (a .command) (a .part) (a .configuration % 2) (omega arith)
+
+pub slice-bits-spec : {M : Type 1} → statement M
+slice-bits-spec =
+    tie.close
+    (tie.spec
+    number-of-requires
+    cast-at
+    mul-at
+    row-of-requires
+    mul-at-2
+    add-at
+    cast-at-2
+    add-at-2
+    mul-result
+    array-read-result
+    returns)

@@ -1,0 +1,81 @@
+// Slices by command, part and configuration.
+ghost use mathlib.Core.Path.{_≡_};
+ghost use Rattle.parts.specs.Parts.{partOf, multiplex, fieldWidth, fieldLimit, sliceFields, sliceBits, rowIndex};
+use crate::command::Command;
+use crate::command::number_of;
+use crate::part::Max6974;
+use crate::part::constants_of;
+use crate::part::value_limit;
+
+// Bits of a slice, by command, part and multiplex bit: a row of four for each command, 6974 first, nonmultiplexed first.
+const SLICE_BITS: [u16; 16] = [
+    288,
+    576,
+    336,
+    672,
+    24,
+    24,
+    24,
+    24,
+    24,
+    24,
+    24,
+    24,
+    24,
+    24,
+    24,
+    24,
+];
+
+// Bits of a slice.
+pub fn slice_bits(command: Command, part: u16, configuration: u8) -> u16
+    ensures { λ r. ⌜ r ≡ sliceBits (partOf part) command (multiplex configuration) ⌝ }
+{
+    let at = (number_of(command) as usize) * 4 + row_of(part) * 2 + (configuration % 2) as usize;
+    SLICE_BITS[at]
+}
+
+// The column of a part in the table.
+fn row_of(part: u16) -> usize
+    ensures { λ r. ⌜ r ≡ rowIndex part ⌝ }
+{
+    if part == Max6974::NUMBER { 0 } else { 1 }
+}
+
+// Bits of one field of a slice.
+pub fn field_width(command: Command, part: u16) -> u32
+    ensures { λ r. ⌜ r ≡ fieldWidth (partOf part) command ⌝ }
+{
+    match command {
+        Command::Individual => constants_of(part).width,
+        Command::Calibration => 8,
+        Command::Global => 8,
+        Command::Configuration => 8,
+    }
+}
+
+// A field of a slice is below this.
+pub fn field_limit(command: Command, part: u16) -> u16
+    ensures { λ r. ⌜ r ≡ fieldLimit (partOf part) command ⌝ }
+{
+    match command {
+        Command::Individual => value_limit(part),
+        Command::Calibration => 256,
+        Command::Global => 256,
+        Command::Configuration => 256,
+    }
+}
+
+// Fields of a slice.
+pub fn slice_fields(command: Command, part: u16, configuration: u8) -> u16
+    ensures { λ r. ⌜ r ≡ sliceFields (partOf part) command (multiplex configuration) ⌝ }
+{
+    let banks = constants_of(part).banks;
+    let phases = 1 + (configuration % 2) as u16;
+    match command {
+        Command::Individual => 8 * banks * phases,
+        Command::Calibration => banks,
+        Command::Global => banks,
+        Command::Configuration => banks,
+    }
+}

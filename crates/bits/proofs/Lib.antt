@@ -1,0 +1,2 @@
+-- The laws that callers' proofs cite are in Laws.
+pub mod Laws

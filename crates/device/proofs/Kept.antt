@@ -10,13 +10,14 @@ use lib.Dec.{eqb, ltb, lit<}
 use lib.ListN.{getD, set, replicate}
 use borrow.Author.Tests.{lt-ltb, le-leb, eq-eqb, ltb-true, leb-true, eqb-true}
 use Rattle.parts.specs.Parts.{partOf, multiplex, limit, fieldWidth, fieldLimit}
+use Rattle.parts.specs.Lists.{allBelow}
 use Rattle.parts.proofs.Laws.{command-code}
 use Rattle.parts.specs.declared.command.Command.{Command}
 use Rattle.parts.specs.declared.command.Command.the-variants.{Individual, Calibration, Global, Configuration}
 use Rattle.device.specs.Phases.{placeOf, phaseOf, pushed, windowOf, heard, rising, opened, opening, counting}
 use Rattle.device.specs.Held.{holding, showing, took, stored, strided, copies, zeros}
 use Rattle.device.specs.Step.{step, stepHigh, at, sliceLength, bounded, faulted, freshDevice}
-use Rattle.device.specs.Judgement.{phaseFits, samePlace, placeFits, flagsFit, allBelow, valuesFit, fits}
+use Rattle.device.specs.Judgement.{phaseFits, samePlace, placeFits, flagsFit, valuesFit, fits}
 use Rattle.device.specs.declared.phase.Phase.{Phase}
 use Rattle.device.specs.declared.phase.Phase.the-variants.{Hunting, Opening, Counting, Slice, Passing, Lost}
 use Rattle.device.specs.declared.phase.Place.{Place}

@@ -3,3 +3,4 @@
 pub mod Lines
 pub mod Phases
 pub mod Slices
+pub mod Runs

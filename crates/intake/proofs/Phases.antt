@@ -44,7 +44,7 @@ pub low-cons : (d : Device) (s : ℕ) (rest : List ℕ) (i : ℕ) → ltb s 2 �
 unfolding lowTaken
 low-cons d s rest i e = ap (λ (t : Bool). cond t (lowTaken (step d s .device) rest (i + 1)) (stopped d i Nothing)) e
 
-low-high : (d : Device) (s : ℕ) (rest : List ℕ) (i : ℕ) → ltb s 2 ≡ false → lowTaken d (s ∷ rest) i ≡ stopped d i Nothing
+pub low-high : (d : Device) (s : ℕ) (rest : List ℕ) (i : ℕ) → ltb s 2 ≡ false → lowTaken d (s ∷ rest) i ≡ stopped d i Nothing
 unfolding lowTaken
 low-high d s rest i e = ap (λ (t : Bool). cond t (lowTaken (step d s .device) rest (i + 1)) (stopped d i Nothing)) e
 

@@ -57,7 +57,7 @@ pub fn is_lit(
     judge_position(known, configuration, at)?;
     let (clocks, edge, value) = (known.clocks(), known.edge_zone(), u32::from(value));
     let named = named(at.output);
-    let phased = if named % 2 == 0 {
+    let phased = if named.is_multiple_of(2) {
         at.clock < value
     } else {
         at.clock >= clocks - value

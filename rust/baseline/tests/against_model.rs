@@ -31,8 +31,9 @@ fn any_set(random: &mut Random) -> Set {
 fn packing_and_unpacking() {
     type Pack = fn(&[u16], u32, &mut [u8], usize) -> Option<usize>;
     type Unpack = fn(&[u8], usize, u32, &mut [u16]) -> bool;
-    let kinds: [(Pack, Unpack); 2] = [
+    let kinds: [(Pack, Unpack); 3] = [
         (packing::pack, packing::unpack),
+        (packing::pack_words, packing::unpack_words),
         (grouped::pack, grouped::unpack),
     ];
     for case in 0..4000 {

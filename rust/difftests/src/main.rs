@@ -33,6 +33,9 @@ fn main() {
         light::devices,
         compare::compared,
     ];
+    if cfg!(feature = "standin") {
+        println!("The stand-in is tested here, and not the proved library.");
+    }
     let (mut passed, mut failed) = (0, 0);
     for kind in kinds {
         let tally = kind();

@@ -1,8 +1,8 @@
 //! The customer's paper 01, written out a second time.
 //!
-//! This model was written from the paper alone and shares no code or definition with the proved library. It is clear and
-//! slow: frames are lists of bits, a chain goes device by device and state by state, and light is counted. An operation
-//! answers a `Result`, with the paper's refusal number as its error, and a refused one changes nothing.
+//! This model was written from the paper alone and shares no code or definition with the proved library. It is clear
+//! and slow: frames are lists of bits, a chain goes device by device and state by state, and light is counted. An
+//! operation answers a `Result`, with the paper's refusal number as its error, and a refused one changes nothing.
 
 pub mod bits;
 pub mod chain;

@@ -1,7 +1,7 @@
 //! The device record that a chain is lent as: `struct bb_device` of `include/bractbeacon.h`.
 //!
-//! Plain numbers without padding: every pattern of its 304 bytes is a record. Whether its numbers fit is for each user to
-//! judge.
+//! Plain numbers without padding: every pattern of its 304 bytes is a record. Whether its numbers fit is for each user
+//! to judge.
 
 /// Phase: looking for SYNC at low load.
 pub const HUNTING: u8 = 0;

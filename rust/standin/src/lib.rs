@@ -1,5 +1,5 @@
-//! The functions of `include/bractbeacon.h` over plain Rust, for trying the tests, the benchmarks and the C example on a
-//! machine without the proved library. It stands in for the library and is no part of what is delivered.
+//! The functions of `include/bractbeacon.h` over plain Rust, for trying the tests, the benchmarks and the C example on
+//! a machine without the proved library. It stands in for the library and is no part of what is delivered.
 
 // The header says what each function does and what its caller owes.
 #![allow(missing_docs, clippy::missing_safety_doc, clippy::too_many_arguments)]

@@ -1,0 +1,4 @@
+-- Laws of light: signed differences, ON subframes, lit clocks, and document 01's examples i, j, k.
+pub mod Signed
+pub mod Subframes
+pub mod Lit

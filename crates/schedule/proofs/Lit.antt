@@ -17,12 +17,12 @@ use Rattle.schedule.specs.Light.{count, nameNumber, litAt, litBy, isEven
 abbrev pub inRun : ℕ → ℕ → ℕ → Bool
 inRun from to c = leb from c && ltb c to
 
--- the first lit clock, and the clock after the last
-abbrev pub litFrom : Part → ℕ → ℕ → ℕ
-litFrom p v output = cond (isEven output) (p .edge) (max (p .edge) (p .clocks - v))
+-- the first lit clock of an even or an odd output, and the clock after the last
+abbrev pub litFrom : Part → ℕ → Bool → ℕ
+litFrom p v even = cond even (p .edge) (max (p .edge) (p .clocks - v))
 
-abbrev pub litTo : Part → ℕ → ℕ → ℕ
-litTo p v output = cond (isEven output) (min v (p .clocks - p .edge)) (p .clocks - p .edge)
+abbrev pub litTo : Part → ℕ → Bool → ℕ
+litTo p v even = cond even (min v (p .clocks - p .edge)) (p .clocks - p .edge)
 
 -- how many clocks are lit
 abbrev pub litClocks : Part → ℕ → ℕ
@@ -50,11 +50,18 @@ and-turn true true false = refl
 and-turn true true true = refl
 
 -- clock by clock, an output is lit in one run
-pub lit-run : (p : Part) (v output c : ℕ) → litAt p v output c ≡ inRun (litFrom p v output) (litTo p v output) c
+pub lit-run : (p : Part) (v output c : ℕ) → litAt p v output c ≡ inRun (litFrom p v (isEven output)) (litTo p v (isEven output)) c
 lit-run p v output c = at (isEven output) where
   at : (t : Bool) → leb (p .edge) c && (ltb c (p .clocks - p .edge) && cond t (ltb c v) (leb (p .clocks - v) c)) ≡ inRun (cond t (p .edge) (max (p .edge) (p .clocks - v))) (cond t (min v (p .clocks - p .edge)) (p .clocks - p .edge)) c
   at true = ap (λ (t : Bool). leb (p .edge) c && t) (sym (ltb-min c v (p .clocks - p .edge)))
   at false = and-turn (leb (p .edge) c) (ltb c (p .clocks - p .edge)) (leb (p .clocks - v) c) ∙ ap (λ (t : Bool). t && ltb c (p .clocks - p .edge)) (sym (leb-max c (p .edge) (p .clocks - v)))
+
+-- a run that stops where it begins has no clock
+pub run-empty : (from to c : ℕ) → to ≤ from → inRun from to c ≡ false
+run-empty from to c h = at (leb from c) refl where
+  at : (t : Bool) → leb from c ≡ t → (t && ltb c to) ≡ false
+  at true e = le-ltb c to (omega (arith, leb-true from c e))
+  at false e = refl
 
 -- ---- how many
 
@@ -79,8 +86,8 @@ mirror e n v = omega arith
 -- an output is lit for as many clocks of a subframe, even or odd
 pub count-lit : (p : Part) (v output : ℕ) → count (litAt p v output) 0 (p .clocks) ≡ litClocks p v
 count-lit p v output =
-    count-same (litAt p v output) (inRun (litFrom p v output) (litTo p v output)) (lit-run p v output) 0 (p .clocks)
-    ∙ count-run (litFrom p v output) (litTo p v output) (p .clocks)
+    count-same (litAt p v output) (inRun (litFrom p v (isEven output)) (litTo p v (isEven output))) (lit-run p v output) 0 (p .clocks)
+    ∙ count-run (litFrom p v (isEven output)) (litTo p v (isEven output)) (p .clocks)
     ∙ at (isEven output) where
       at : (t : Bool) → min (cond t (min v (p .clocks - p .edge)) (p .clocks - p .edge)) (p .clocks) - cond t (p .edge) (max (p .edge) (p .clocks - v)) ≡ litClocks p v
       at true =

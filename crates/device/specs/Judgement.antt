@@ -1,0 +1,73 @@
+-- The judgement of a record: what document 01's table says of one under numbers 1 and 13, and the judged step.
+use Prim.Native.Nat.{ℕ}
+use mathlib.Core.Bool.{Bool, true, false, _&&_, not}
+use mathlib.Core.List.{List, [], _∷_, _++_}
+use lib.Dec.{eqb, ltb, leb}
+use Rattle.parts.specs.Parts.{partOf, known, limit}
+use Rattle.parts.specs.Refusals.{Row, _when_, first, answer}
+use Rattle.device.specs.Phases.{placeOf, phaseOf}
+use Rattle.device.specs.Step.{step, sliceLength}
+use Rattle.device.specs.declared.phase.Place.{Place}
+use Rattle.device.specs.declared.phase.Phase.{Phase}
+use Rattle.device.specs.declared.phase.Phase.the-variants.{Hunting, Opening, Counting, Slice, Passing, Lost}
+use Rattle.device.specs.declared.phase.Sent.the-variants.{Nothing}
+use Rattle.device.specs.declared.registers.Registers.{Registers}
+use Rattle.device.specs.declared.device.Device.{Device}
+use Rattle.device.specs.declared.device.Stepped.{Stepped}
+use Rattle.device.specs.declared.device.Answer.{Answer}
+
+-- a phase's numbers are ones that a device can come to
+abbrev pub phaseFits : Phase → Registers → Bool
+phaseFits (Hunting window) r = true
+phaseFits (Opening read) r = leb 2 read && ltb read 64
+phaseFits (Counting c read) r = leb 1 read && ltb read 1024
+phaseFits (Slice c count taken) r = ltb count 1024 && ltb taken (sliceLength r c)
+phaseFits Passing r = true
+phaseFits Lost r = true
+
+abbrev pub samePlace : Place → Place → Bool
+samePlace p q =
+    eqb (p .phase) (q .phase) && (eqb (p .command) (q .command) && (eqb (p .count) (q .count) && eqb (p .read) (q .read)))
+
+-- the numbers are those of a phase, and of one that a device can come to
+abbrev pub placeFits : Place → Registers → Bool
+placeFits q r = samePlace (placeOf (phaseOf q)) q && phaseFits (phaseOf q) r
+
+-- a fault flag is 0 or 1
+abbrev pub flagsFit : Registers → Bool
+flagsFit r = ltb (r .overtemperature) 2 && ltb (r .openled) 2
+
+abbrev pub allBelow : List ℕ → ℕ → Bool
+allBelow [] m = true
+allBelow (x ∷ xs) m = ltb x m && allBelow xs m
+
+abbrev pub pairBelow : List ℕ → List ℕ → ℕ → Bool
+pairBelow xs ys m = allBelow xs m && allBelow ys m
+
+-- each value is within the part's width, also those of the slice that is coming in
+abbrev pub valuesFit : Registers → Bool
+valuesFit r =
+    pairBelow (r .waiting0) (r .waiting1) (limit (partOf (r .part)))
+    && (pairBelow (r .active0) (r .active1) (limit (partOf (r .part))) && allBelow (r .slice) (limit (partOf (r .part))))
+
+-- number 13 does not apply to the record
+abbrev pub fits : Device → Bool
+fits d = placeFits (d .place) (d .registers) && (flagsFit (d .registers) && valuesFit (d .registers))
+
+-- a record's own rows
+abbrev pub judgement : Device → List Row
+judgement d = (1 when not (known (d .registers .part))) ∷ (13 when not (fits d)) ∷ []
+
+-- a step's rows
+abbrev pub stepRefusals : Device → ℕ → List Row
+stepRefusals d s = judgement d ++ (13 when not (ltb s 4)) ∷ []
+
+abbrev pub taken : Stepped → Answer
+taken s = record { refusal = 0; device = s .device; sent = s .sent }
+
+-- a refused device comes back as it came in, and nothing is sent
+abbrev pub refusedWith : Device → ℕ → Answer
+refusedWith d n = record { refusal = n; device = d; sent = Nothing }
+
+abbrev pub stepAnswer : Device → ℕ → Answer
+stepAnswer d s = answer (first (stepRefusals d s)) (refusedWith d) (taken (step d s))

@@ -1,0 +1,75 @@
+-- One device, clock by clock: the step by one line state, and what it sends. The same section of document 01. Every record has a step: one
+-- that does not fit (see Judgement) too. Then a frame boundary, a fault setting, and a fresh device.
+use Prim.Native.Nat.{ℕ, _+_, _*_, _/_, _%_}
+use mathlib.Core.Bool.{Bool, true, false, cond}
+use mathlib.Core.List.{List, [], _∷_}
+use lib.Dec.{ltb}
+use Rattle.parts.specs.Parts.{partOf, multiplex, fieldWidth, fieldLimit, sliceBits}
+use Rattle.parts.specs.Wire.{header, statesOf}
+use Rattle.parts.specs.declared.command.Command.{Command}
+use Rattle.device.specs.Phases.{placeOf, phaseOf, heard, rising, opening, counting}
+use Rattle.device.specs.Held.{took, stored, fault, raised, activated, flagged, zeros}
+use Rattle.device.specs.declared.phase.Phase.{Phase}
+use Rattle.device.specs.declared.phase.Phase.the-variants.{Hunting, Opening, Counting, Slice, Passing, Lost}
+use Rattle.device.specs.declared.phase.Sent.{Sent}
+use Rattle.device.specs.declared.phase.Sent.the-variants.{Nothing, One, Header}
+use Rattle.device.specs.declared.registers.Registers.{Registers}
+use Rattle.device.specs.declared.device.Device.{Device}
+use Rattle.device.specs.declared.device.Stepped.{Stepped}
+
+-- the states that a clock sends on
+abbrev pub sentStates : Sent → List ℕ
+sentStates Nothing = []
+sentStates (One s) = s ∷ []
+sentStates (Header c count) = statesOf (header c count)
+
+abbrev pub at : Registers → Phase → Device
+at r p = record { registers = r; place = placeOf p }
+
+abbrev pub sending : Registers → Phase → Sent → Stepped
+sending r p s = record { device = at r p; sent = s }
+
+-- the phase changes, and nothing is sent
+abbrev pub moved : Registers → Phase → Stepped
+moved r p = sending r p Nothing
+
+-- bits of a slice for this device: by its part and its own D0
+abbrev pub sliceLength : Registers → Command → ℕ
+sliceLength r c = sliceBits (partOf (r .part)) c (multiplex (r .configuration))
+
+-- after a bit: the last one stores the slice and sends the header on
+abbrev pub lastOrMore : Registers → Command → ℕ → ℕ → ℕ → Stepped
+lastOrMore r c count taken length =
+    cond (ltb (taken + 1) length) (moved r (Slice c count (taken + 1)))
+    (sending (stored r c) Passing (Header c (raised count (fault r c))))
+
+-- a bit of a slice goes into the field that it is of
+abbrev pub collected : Registers → Command → ℕ → ℕ → ℕ → Stepped
+collected r c count taken bit =
+    lastOrMore (took r (taken / fieldWidth (partOf (r .part)) c) bit (fieldLimit (partOf (r .part)) c)) c count taken (sliceLength r c)
+
+-- high load
+abbrev pub stepHigh : Registers → Phase → ℕ → Stepped
+stepHigh r (Hunting window) s = moved r (rising window (s % 2))
+stepHigh r (Opening read) s = moved r (opening read (s % 2))
+stepHigh r (Counting c read) s = moved r (counting c read (s % 2))
+stepHigh r (Slice c count taken) s = collected r c count taken (s % 2)
+stepHigh r Passing s = sending r Passing (One s)
+stepHigh r Lost s = moved r Lost
+
+-- one line state: the data bit plus twice the load bit
+abbrev pub step : Device → ℕ → Stepped
+step d s =
+    cond (ltb s 2) (moved (d .registers) (heard (phaseOf (d .place)) s)) (stepHigh (d .registers) (phaseOf (d .place)) s)
+
+-- ---- what is not a clock
+
+abbrev pub bounded : Device → Device
+bounded d = record { registers = activated (d .registers); place = d .place }
+
+abbrev pub faulted : Device → ℕ → ℕ → Device
+faulted d kind flag = record { registers = flagged (d .registers) kind flag; place = d .place }
+
+-- hunting, with no bit seen
+abbrev pub freshDevice : ℕ → Device
+freshDevice part = at (zeros part) (Hunting 0)

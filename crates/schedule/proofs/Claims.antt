@@ -5,15 +5,15 @@ use mathlib.Core.Bool.{true, false}
 use Prim.Native.Nat.{ℕ, _+_, _-_, _*_, _/_}
 use lib.IntN.{pos, negℤ}
 use lib.Signed.{_<ℤ_}
-use Rattle.parts.specs.Refusals.{first, answer}
+use Rattle.parts.specs.Refusals.{first, Lowest}
 use Rattle.parts.specs.Parts.{Part, partOf, subframes}
-use Rattle.parts.proofs.Rows.{accepted}
+use Rattle.parts.proofs.Rows.{accepted, lowest}
 use Rattle.schedule.specs.declared.answer.Asked.the-variants as asked
 use Rattle.schedule.specs.declared.answer.Lead.the-variants as lead
-use Rattle.schedule.specs.Light.{count, level, isOn, leadOf, isEven, litAt}
-use Rattle.schedule.specs.Answers.{litRows, litAnswer}
+use Rattle.schedule.specs.Light.{count, total, level, isOn, leadOf, isEven, isLit, litAt}
+use Rattle.schedule.specs.Answers.{onRows, leadRows, litRows, litAnswer}
 use Rattle.schedule.proofs.Subframes.{level-lt, count-frame, count-quotients, lead-below}
-use Rattle.schedule.proofs.Lit.{inRun, litFrom, litTo, litClocks, lit-run, count-lit, lit-on, lit-off}
+use Rattle.schedule.proofs.Lit.{inRun, litFrom, litTo, litClocks, lit-run, count-lit, total-lit, lit-on, lit-off}
 
 -- a frame has exactly g + 1 ON subframes
 pub frame-on :
@@ -66,3 +66,31 @@ lit-never part configuration global value output subframe clock phase a e =
 -- of an ON subframe's clocks, those of the value outside the edge zones are lit, whether the output is even or odd
 pub lit-count : (p : Part) (value output : ℕ) → count (litAt p value output) 0 (p .clocks) ≡ litClocks p value
 lit-count p value output = count-lit p value output
+
+-- so in a frame, over its subframes and their clocks, g + 1 times as many
+pub frame-lit :
+    (part configuration global value output : ℕ)
+    → total (λ s. count (isLit (partOf part) configuration global value output s) 0 (partOf part .clocks)) (subframes (partOf part) configuration)
+    ≡ (level (partOf part) configuration global + 1) * litClocks (partOf part) value
+frame-lit part configuration global value output =
+    total-lit (partOf part) configuration global value output (subframes (partOf part) configuration)
+    ∙ ap (λ (n : ℕ). n * litClocks (partOf part) value) (frame-on part configuration global)
+
+-- ---- a refusal is the lowest number that applies
+
+pub on-lowest :
+    (part configuration subframe : ℕ) → (first (onRows part configuration subframe) ≡ 0 → ⊥)
+    → Lowest (first (onRows part configuration subframe)) (onRows part configuration subframe)
+on-lowest part configuration subframe h = lowest (onRows part configuration subframe) refl h
+
+pub lead-lowest :
+    (part configuration start length : ℕ) → (first (leadRows part configuration start length) ≡ 0 → ⊥)
+    → Lowest (first (leadRows part configuration start length)) (leadRows part configuration start length)
+lead-lowest part configuration start length h = lowest (leadRows part configuration start length) refl h
+
+pub lit-lowest :
+    (part configuration value output subframe clock phase : ℕ)
+    → (first (litRows part configuration value output subframe clock phase) ≡ 0 → ⊥)
+    → Lowest (first (litRows part configuration value output subframe clock phase)) (litRows part configuration value output subframe clock phase)
+lit-lowest part configuration value output subframe clock phase h =
+    lowest (litRows part configuration value output subframe clock phase) refl h

@@ -4,6 +4,7 @@
 use mathlib.Core.Path.{_≡_, refl, sym, ap, ap₂, _∙_}
 use mathlib.Core.Bool.{Bool, true, false, true≢false, _&&_, _||_, cond}
 use Prim.Native.Nat.{ℕ, zero, suc, _+_, _-_, _*_, _%_, _<_, _≤_, min, max}
+use native.Mathlib.Nat.{add-zero, zero-add, zero-mul, one-mul, add-mul}
 use native.Mathlib.Omega.{arith}
 use lib.Dec.{ltb, leb, eqb, lit≤}
 use borrow.Author.Tests.{eqb-true, eqb-false, eq-eqb, ne-eqb, ltb-true, ltb-false, leb-true, leb-false, lt-ltb, le-ltb, le-leb, lt-leb}
@@ -11,7 +12,7 @@ use Rattle.bits.specs.Bits.{digit}
 use Rattle.parts.specs.Parts.{Part, partOf, subframes, multiplex}
 use Rattle.parts.proofs.Laws.{each-row}
 use Rattle.schedule.specs.Answers.{positionOver}
-use Rattle.schedule.specs.Light.{count, nameNumber, litAt, litBy, isEven, isOn, isLit}
+use Rattle.schedule.specs.Light.{count, total, nameNumber, litAt, litBy, isEven, isOn, isLit}
 
 -- c lies in the run of clocks from `from` up to `to`, `to` not among them
 abbrev pub inRun : ℕ → ℕ → ℕ → Bool
@@ -104,6 +105,25 @@ lit-on p configuration global v output s c e = ap (λ (t : Bool). t && litAt p v
 
 pub lit-off : (p : Part) (configuration global v output s c : ℕ) → isOn p configuration global s ≡ false → isLit p configuration global v output s c ≡ false
 lit-off p configuration global v output s c e = ap (λ (t : Bool). t && litAt p v output c) e
+
+count-none : (from n : ℕ) → count (λ c. false) from n ≡ 0
+unfolding count
+count-none from zero = refl
+count-none from (suc n) = add-zero _ ∙ count-none from n
+
+-- the lit clocks of the first n subframes
+pub total-lit :
+    (p : Part) (configuration global v output n : ℕ)
+    → total (λ s. count (isLit p configuration global v output s) 0 (p .clocks)) n ≡ count (isOn p configuration global) 0 n * litClocks p v
+unfolding count total
+total-lit p configuration global v output zero = sym (zero-mul (litClocks p v))
+total-lit p configuration global v output (suc n) =
+    ap₂ (λ (j k : ℕ). j + k) (total-lit p configuration global v output n)
+    (at (isOn p configuration global n) ∙ ap (λ (k : ℕ). digit (isOn p configuration global k) * litClocks p v) (sym (zero-add n)))
+    ∙ sym (add-mul (count (isOn p configuration global) 0 n) (digit (isOn p configuration global (0 + n))) (litClocks p v)) where
+      at : (t : Bool) → count (λ c. t && litAt p v output c) 0 (p .clocks) ≡ digit t * litClocks p v
+      at true = count-lit p v output ∙ sym (one-mul (litClocks p v))
+      at false = count-none 0 (p .clocks) ∙ sym (zero-mul (litClocks p v))
 
 -- ---- by the tests of the code
 

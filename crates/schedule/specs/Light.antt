@@ -13,6 +13,11 @@ unfoldable pub count : (ℕ → Bool) → ℕ → ℕ → ℕ
 count f from zero = 0
 count f from (suc n) = count f from n + digit (f (from + n))
 
+-- the sum of f over the n numbers from 0 on
+unfoldable pub total : (ℕ → ℕ) → ℕ → ℕ
+total f zero = 0
+total f (suc n) = total f n + f n
+
 -- ---- subframes
 
 -- s(g + 1) div S

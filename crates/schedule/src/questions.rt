@@ -3,7 +3,7 @@ ghost use mathlib.Core.Path.{_≡_};
 ghost use Rattle.schedule.specs.Answers.{onAnswer, leadAnswer, litAnswer};
 use crate::answer::Asked;
 use crate::answer::Lead;
-use crate::clocks::is_clock_lit;
+use crate::clocks::is_output_lit;
 use crate::judge::judge_lit;
 use crate::judge::judge_subframe;
 use crate::judge::judge_window;
@@ -49,9 +49,5 @@ pub fn is_lit(
     if refusal != 0 {
         return Asked::Refused(refusal);
     }
-    if is_subframe_on(part, configuration, global, subframe) {
-        Asked::Is(is_clock_lit(part, value, output, clock))
-    } else {
-        Asked::Is(false)
-    }
+    Asked::Is(is_output_lit(part, configuration, global, value, output, subframe, clock))
 }

@@ -2,5 +2,6 @@
 pub mod Signed
 pub mod Subframes
 pub mod Lit
+pub mod Records
 pub mod Claims
 pub mod Examples

@@ -150,7 +150,7 @@ even-bit output = at (eqb (output % 2) 1) refl where
 pub edge-le : (part : ℕ) → partOf part .edge ≤ partOf part .clocks
 edge-le part = each-row (λ p. p .edge ≤ p .clocks) (lit≤ tt) (lit≤ tt) part
 
-or-none : (a b : Bool) → (a || b) ≡ false → (a ≡ false) × (b ≡ false)
+pub or-none : (a b : Bool) → (a || b) ≡ false → (a ≡ false) × (b ≡ false)
 or-none true b e = absurd (true≢false e)
 or-none false b e = (refl, e)
 

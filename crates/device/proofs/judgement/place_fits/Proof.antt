@@ -1,0 +1,45 @@
+use mathlib.Core.Path.{_≡_, sym}
+use mathlib.Core.Bool.{true, false}
+use Rattle.device.specs.Judgement.{samePlace}
+use Rattle.device.specs.Phases.{placeOf, phaseOf}
+use borrow.Author.Tests.{not-true, not-false}
+use borrow.Author.Needs.{needs}
+use Rattle.device.proofs.judgement.place_fits.Statement.{statement}
+use Rattle.device.proofs.judgement.place_fits.Tie as tie
+
+phase-of-requires : tie.Need-phase-of-requires
+phase-of-requires c κs = search needs
+
+place-of-requires : tie.Need-place-of-requires
+place-of-requires c κs = search needs
+
+same-place-requires : tie.Need-same-place-requires
+same-place-requires c κs = search needs
+
+returns : tie.Need-returns
+returns c = let t = c .before .before in
+    let q = t .before .before .args .place in
+    let e : samePlace (placeOf (phaseOf q)) q ≡ false =
+    rw (sym (t .before .phase-of .ensures), sym (t .place-of .ensures), sym (c .before .same-place .ensures)) (not-true _ (c .if1 .taken)) in
+    rw e
+
+phase-fits-requires : tie.Need-phase-fits-requires
+phase-fits-requires c κs = search needs
+
+returns-2 : tie.Need-returns-2
+returns-2 c = let t = c .before .before .before in
+    let q = t .before .before .args .place in
+    let e : samePlace (placeOf (phaseOf q)) q ≡ true =
+    rw (sym (t .before .phase-of .ensures), sym (t .place-of .ensures), sym (c .before .before .same-place .ensures)) (not-false _ (c .before .if1 .left)) in
+    rw (e, sym (t .before .phase-of .ensures)) (c .phase-fits .ensures)
+
+pub place-fits-spec : {M : Type 1} → statement M
+place-fits-spec =
+    tie.close
+    (tie.spec
+    phase-of-requires
+    place-of-requires
+    same-place-requires
+    returns
+    phase-fits-requires
+    returns-2)

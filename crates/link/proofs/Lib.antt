@@ -1,4 +1,6 @@
--- x
+-- The link of records and the model, the calls, and the claims about them.
 pub mod Numbers
 pub mod Device
 pub mod Calls
+pub mod Frames
+pub mod Claims

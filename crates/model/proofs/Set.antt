@@ -3,15 +3,15 @@
 use mathlib.Core.Path.{_≡_, refl, sym, ap, _∙_}
 use mathlib.Core.Bool.{Bool, true}
 use mathlib.Core.List.{List, [], _∷_, _++_, map, flatten, append-nil}
-use Prim.Native.Nat.{ℕ, zero, suc, _+_, _*_, _^_, _<_}
+use Prim.Native.Nat.{ℕ, zero, suc, _+_, _*_, _^_, _≤_, _<_}
 use native.Mathlib.Omega.{arith}
 use native.Mathlib.Nat.{suc-mul, zero-mul, zero-add, suc-add}
 use lib.Dec.{eqb, eqb-refl}
-use lib.ListN.{length, take, drop, getD, replicate, length-replicate, length-take, length-drop, take-append-drop}
+use lib.ListN.{length, take, drop, getD, replicate, length-replicate, length-take, length-drop, length-append, take-append-drop}
 use lib.Pow.{pow-pos}
 use Rattle.bits.specs.Bits.{fields, split}
-use Rattle.bits.proofs.Laws.{split-fields, fields-append}
-use Rattle.parts.specs.Parts.{Part, multiplex, fieldWidth, sliceFields}
+use Rattle.bits.proofs.Laws.{split-fields, fields-append, length-fields}
+use Rattle.parts.specs.Parts.{Part, multiplex, fieldWidth, sliceFields, sliceBits}
 use Rattle.parts.specs.declared.command.Command.{Command}
 use Rattle.parts.specs.declared.command.Command.the-variants.{Individual, Calibration, Global, Configuration}
 use Rattle.model.specs.Lists.{All}
@@ -59,6 +59,46 @@ length-deal p (suc n) configuration global bytes values =
 pub length-owned : (s : Set) → length (owned s) ≡ s .devices
 unfolding owned
 length-owned s = length-deal (s .part) (s .devices) (s .configuration) (s .global) (s .calibration) (s .individual)
+
+deal-configuration : (p : Part) (n configuration global : ℕ) (bytes values : List ℕ)
+    → All (λ o. o .configuration ≡ configuration) (deal p n configuration global bytes values)
+unfolding deal
+deal-configuration p zero configuration global bytes values = tt
+deal-configuration p (suc n) configuration global bytes values =
+    (refl, deal-configuration p n configuration global (drop (p .banks) bytes) (drop (sliceFields p Individual (multiplex configuration)) values))
+
+pub owned-configuration : (s : Set) → All (λ o. o .configuration ≡ s .configuration) (owned s)
+unfolding owned
+owned-configuration s = deal-configuration (s .part) (s .devices) (s .configuration) (s .global) (s .calibration) (s .individual)
+
+-- ---- lengths of slices
+
+length-ownFields : (p : Part) (c : Command) (o : Own) → OwnProper p o → length (ownFields p c o) ≡ sliceFields p c (multiplex (o .configuration))
+length-ownFields p Individual o q = q .individualLength
+length-ownFields p Calibration o q = q .calibrationLength
+length-ownFields p Global o q = length-replicate (p .banks) (o .global)
+length-ownFields p Configuration o q = length-replicate (p .banks) (o .configuration)
+
+pub length-sliceOf : (p : Part) (c : Command) (o : Own) → OwnProper p o → length (sliceOf p c o) ≡ sliceBits p c (multiplex (o .configuration))
+unfolding sliceOf
+length-sliceOf p c o q = length-fields (fieldWidth p c) (ownFields p c o) ∙ ap (λ (n : ℕ). n * fieldWidth p c) (length-ownFields p c o q)
+
+length-slices : (p : Part) (c : Command) (configuration i : ℕ) (os : List Own) → i ≤ length os → All (OwnProper p) os → All (λ o. o .configuration ≡ configuration) os
+    → length (flatten (take i (map (sliceOf p c) os))) ≡ i * sliceBits p c (multiplex configuration)
+unfolding flatten
+length-slices p c configuration zero os l q e = sym (zero-mul (sliceBits p c (multiplex configuration)))
+length-slices p c configuration (suc i) [] l q e = absurd (omega arith)
+length-slices p c configuration (suc i) (o ∷ os) l q e =
+    let n : ℕ = sliceBits p c (multiplex configuration) in
+    let a : length (sliceOf p c o) ≡ n = length-sliceOf p c o (q .0) ∙ ap (λ (k : ℕ). sliceBits p c (multiplex k)) (e .0) in
+    let b = length-slices p c configuration i os (omega arith) (q .1) (e .1) in
+    length-append (sliceOf p c o) (flatten (take i (map (sliceOf p c) os))) ∙ omega (arith, suc-mul i n)
+
+-- the slices of the first i devices
+pub length-owned-slices : (s : Set) → Proper s → (c : Command) (i : ℕ) → i ≤ s .devices
+    → length (flatten (take i (map (sliceOf (s .part) c) (owned s)))) ≡ i * sliceBits (s .part) c (multiplex (s .configuration))
+length-owned-slices s p c i l =
+    length-slices (s .part) c (s .configuration) i (owned s) (rw (length-owned s) l) (owned-proper s p) (owned-configuration s)
 
 -- ---- what each slice of a set loads
 

@@ -1,19 +1,20 @@
 -- The claims of specs/Claims. The calls of a restore are one run of the records; by the link that is a run of the model's chain, and what
 -- the model's theorems say of its devices is read back from the records' fields. Assumes nothing.
-use mathlib.Core.Path.{_≡_, refl, sym, ap, _∙_}
+use mathlib.Core.Path.{_≡_, refl, sym, ap, _∙_, subst}
 use mathlib.Core.Bool.{Bool, true, false, cond, _&&_}
 use mathlib.Core.List.{List, [], _∷_, _++_, map, flatten, append-nil, map-append}
 use Prim.Native.Nat.{ℕ, zero, suc, _+_, _-_, _≤_, _<_}
 use native.Mathlib.Omega.{arith}
 use lib.Dec.{leb}
 use lib.ListN.{length, length-map, take, getD}
-use borrow.Author.Tests.{le-ltb, ltb-false}
+use borrow.Author.Tests.{not-false, le-ltb, ltb-false}
 use Rattle.bits.specs.Bits.{isOne, digit}
 use Rattle.parts.specs.Lists.{allBelow}
 use Rattle.parts.specs.Parts.{Part, partOf}
+use Rattle.parts.specs.Refusals.{first, Lowest}
 use Rattle.parts.specs.Wire.{Line, low, high, lows, lineOf, stateOf, dataBit}
 use Rattle.parts.proofs.Laws.{each-row}
-use Rattle.parts.proofs.Rows.{clear}
+use Rattle.parts.proofs.Rows.{clear, above, numbered, lowest, none-applies}
 use Rattle.parts.specs.declared.command.Command.{Command}
 use Rattle.parts.specs.declared.command.Command.the-variants.{Individual, Calibration, Global, Configuration}
 use Rattle.device.specs.Held as held
@@ -21,9 +22,9 @@ use Rattle.device.specs.Judgement.{fits, placeFits}
 use Rattle.device.specs.declared.registers.Registers.{Registers}
 use Rattle.device.specs.declared.device.Device.{Device}
 use Rattle.device.proofs.Kept.{and-true, Below, below-of}
-use Rattle.calls.specs.Chain.{blank}
-use Rattle.calls.specs.Calls.{roomFor, returned}
-use Rattle.calls.specs.History.{Call, fresh, run, boundary, refusalOf, after, afterCalls, fed, answers}
+use Rattle.calls.specs.Chain.{allFit, blank}
+use Rattle.calls.specs.Calls.{freshRefusal, runTable, runRefusal, boundaryRefusal, faultRefusal, roomFor, returned}
+use Rattle.calls.specs.History.{Call, fresh, run, boundary, fault, tableOf, refusalOf, after, afterCalls, fed, answers}
 use Rattle.model.specs.Lists.{All, Both}
 use Rattle.model.specs.Run.{chain}
 use Rattle.model.specs.Device.{multiplexed, odds, faults, stepDevice, runChain, registersIn}
@@ -40,9 +41,10 @@ use Rattle.model.proofs.Restore.{sendPiece, sendPieces, pieces-run, pieces-sent
 use Rattle.model.proofs.Restore as model-restore
 use Rattle.model.proofs.CutSet.{cut-restore}
 use Rattle.model.proofs.Room.{surplus}
-use Rattle.link.specs.Claims.{restorePart, restoreStates, arrival, Holds, CutFields, flags, dataBits, returnsOf, start, Begun, Restored, Returned, Cut, Room, ownTable, Kept, Restorable}
-use Rattle.link.proofs.Device.{registersOf, deviceOf, stepRecord, Sound, through-same, chain-agree}
-use Rattle.link.proofs.Calls.{Whole, own-refusal, boundary-same, whole-calls, whole-start, partAfter, length-afterCalls, ran, calls-append}
+use Rattle.link.specs.Claims.{restorePart, restoreStates, arrival, Holds, CutFields, flags, dataBits, returnsOf, start, Begun, Restored, Returned, Cut, Room, Judged, Kept, Restorable}
+use Rattle.link.proofs.View.{registersOf, deviceOf, stepRecord, Sound}
+use Rattle.link.proofs.Device.{through-same, chain-agree}
+use Rattle.link.proofs.Calls.{Whole, own-refusal, boundary-same, whole-calls, whole-start, partAfter, length-afterCalls, ran, calls-append, refused-after}
 use Rattle.link.proofs.Frames.{restore-states, restore-part, arrival-same}
 
 -- ---- from the model to the records
@@ -152,13 +154,44 @@ kept p records earlier c e =
     let w = whole-begun p records earlier e in
     (length-afterCalls records (fresh p ∷ earlier), sound-fits (start p records earlier) (w .sound), own-refusal _ (start p records earlier) c w)
 
+all-sound : (ds : List Device) → allFit ds ≡ true → All (λ d. length (d .registers .slice) ≡ 48) ds → All Sound ds
+all-sound [] e h = tt
+all-sound (d ∷ ds) e h = let f = and-true (fits d) (allFit ds) e in (record { fit = f .0; slots = h .0 }, all-sound ds (f .1) (h .1))
+
 pub room : Room
-room p records earlier ss out e f =
-    let w = whole-begun p records earlier e in
-    let n = length-returned (start p records earlier) ss (w .sound) in
-    let t = clear (ownTable (length (start p records earlier)) (run ss out)) refl (sym (own-refusal _ (start p records earlier) (run ss out) w) ∙ f) in
-    let l = ltb-false (length out) (roomFor (length ss)) (t .0) in
-    (n, omega arith)
+unfolding refusalOf runRefusal
+room ds ss out h e =
+    let t = clear (runTable ds ss (length out)) refl e in
+    let l = ltb-false (length out) (roomFor (length ss)) (t .1 .1 .1 .0) in
+    let f = and-true (allBelow ss 4) (allFit ds) (not-false (allBelow ss 4 && allFit ds) (t .1 .1 .1 .1 .0)) in
+    (length-returned ds ss (all-sound ds (f .1) h), l)
+
+table-refusal : (ds : List Device) (c : Call) → refusalOf ds c ≡ first (tableOf ds c)
+unfolding refusalOf freshRefusal runRefusal boundaryRefusal faultRefusal
+table-refusal ds (fresh part) = refl
+table-refusal ds (run ss out) = refl
+table-refusal ds boundary = refl
+table-refusal ds (fault device kind flag) = refl
+
+-- the numbers of each table rise
+table-rises : (ds : List Device) (c : Call) → above 0 (tableOf ds c) ≡ true
+table-rises ds (fresh part) = refl
+table-rises ds (run ss out) = refl
+table-rises ds boundary = refl
+table-rises ds (fault device kind flag) = refl
+
+table-numbered : (ds : List Device) (c : Call) → numbered (tableOf ds c) ≡ true
+table-numbered ds (fresh part) = refl
+table-numbered ds (run ss out) = refl
+table-numbered ds boundary = refl
+table-numbered ds (fault device kind flag) = refl
+
+pub judged : Judged
+judged ds c =
+    let e = table-refusal ds c in (
+      λ h. (subst (λ (n : ℕ). Lowest n (tableOf ds c)) (sym e) (lowest (tableOf ds c) (table-rises ds c) (λ z. h (e ∙ z))), refused-after ds c h),
+      λ h. none-applies (tableOf ds c) (table-numbered ds c) (sym e ∙ h),
+    )
 
 module _ (p : ℕ) (records : List Device) (earlier during : List Call) (s : Set) (b : Begun p records earlier during s) where
   abbrev now : List Device

@@ -1,5 +1,8 @@
 -- The link of records and the model, the calls, and the claims about them.
 pub mod Numbers
+pub mod View
+pub mod Header
+pub mod Slice
 pub mod Device
 pub mod Calls
 pub mod Frames

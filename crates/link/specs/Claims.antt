@@ -10,7 +10,7 @@ use lib.ListN.{length, take, getD}
 use Rattle.bits.specs.Bits.{fields}
 use Rattle.parts.specs.Lists.{allBelow}
 use Rattle.parts.specs.Parts.{partOf, multiplex, fieldWidth, sliceBits}
-use Rattle.parts.specs.Refusals.{Row, _when_, first}
+use Rattle.parts.specs.Refusals.{Row, _when_, first, Applies, Lowest}
 use Rattle.parts.specs.Wire.{lineOf, stateOf, dataBit, lows, frame, returnOf, statesOf}
 use Rattle.parts.specs.declared.command.Command.{Command}
 use Rattle.parts.specs.declared.command.Command.the-variants.{Individual, Calibration, Global, Configuration}
@@ -20,7 +20,7 @@ use Rattle.device.specs.declared.registers.Registers.{Registers}
 use Rattle.device.specs.declared.device.Device.{Device}
 use Rattle.calls.specs.Chain.{blank}
 use Rattle.calls.specs.Calls.{freshTable, roomFor, returned}
-use Rattle.calls.specs.History.{Call, fresh, run, boundary, fault, refusalOf, after, afterCalls, fed, answers, Runs}
+use Rattle.calls.specs.History.{Call, fresh, run, boundary, fault, tableOf, refusalOf, after, afterCalls, fed, answers, Runs}
 use Rattle.model.specs.Lists.{All, Both}
 use Rattle.model.specs.Device.{multiplexed, evens, odds}
 use Rattle.model.specs.Set.{Set, Own, Proper, owned, frameFields}
@@ -136,14 +136,20 @@ Cut =
     (getD (start p records earlier) (device - 1) blank .registers)
     (getD (afterCalls (start p records earlier) during) (device - 1) blank .registers)
 
--- an accepted run of n states returns at most n + 23: it never lacks room
+-- of any lent records, whose arrays have the length of their type: an accepted run of n states returns at most n + 23, and has that room
 abbrev pub Room : Type 0
 Room =
-    (p : ℕ) (records : List Device) (earlier : List Call) (ss out : List ℕ)
-    → refusalOf records (fresh p) ≡ 0
-    → let now : List Device = start p records earlier in
-    refusalOf now (run ss out) ≡ 0
-    → (length (returned now ss) ≤ roomFor (length ss)) × (length (returned now ss) ≤ length out)
+    (ds : List Device) (ss out : List ℕ)
+    → All (λ d. length (d .registers .slice) ≡ 48) ds
+    → refusalOf ds (run ss out) ≡ 0
+    → (length (returned ds ss) ≤ roomFor (length ss)) × (roomFor (length ss) ≤ length out)
+
+-- of any lent records: a call is refused with the lowest number that applies and then changes no record; it is accepted where none applies
+abbrev pub Judged : Type 0
+Judged =
+    (ds : List Device) (c : Call)
+    → ((refusalOf ds c ≡ 0 → ⊥) → Lowest (refusalOf ds c) (tableOf ds c) × (after ds c ≡ ds))
+    × (refusalOf ds c ≡ 0 → (n : ℕ) → Applies n (tableOf ds c) → ⊥)
 
 -- what a call is refused for beside the records
 abbrev pub ownTable : ℕ → Call → List Row

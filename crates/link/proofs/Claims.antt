@@ -1,132 +1,61 @@
 -- The claims of specs/Claims. The calls of a restore are one run of the records; by the link that is a run of the model's chain, and what
 -- the model's theorems say of its devices is read back from the records' fields. Assumes nothing.
 use mathlib.Core.Path.{_≡_, refl, sym, ap, _∙_, subst}
-use mathlib.Core.Bool.{Bool, true, false, cond, _&&_}
-use mathlib.Core.List.{List, [], _∷_, _++_, map, flatten, append-nil, map-append}
+use mathlib.Core.Bool.{Bool, true, false, _&&_}
+use mathlib.Core.List.{List, [], _∷_, _++_, map, flatten, append-nil, append-assoc, map-append}
 use Prim.Native.Nat.{ℕ, zero, suc, _+_, _-_, _≤_, _<_}
 use native.Mathlib.Omega.{arith}
 use lib.Dec.{leb}
-use lib.ListN.{length, length-map, take, getD}
+use lib.Seq.{drop-at}
+use lib.ListN.{drop, length, length-map, take, getD}
 use borrow.Author.Tests.{not-false, le-ltb, ltb-false}
-use Rattle.bits.specs.Bits.{isOne, digit}
+use Rattle.bits.specs.Bits.{bytesOf}
 use Rattle.parts.specs.Lists.{allBelow}
-use Rattle.parts.specs.Parts.{Part, partOf}
+use Rattle.parts.specs.Parts.{partOf}
 use Rattle.parts.specs.Refusals.{first, Lowest}
-use Rattle.parts.specs.Wire.{Line, low, high, lows, lineOf, stateOf, dataBit}
-use Rattle.parts.proofs.Laws.{each-row}
-use Rattle.parts.proofs.Rows.{clear, above, numbered, lowest, none-applies}
+use Rattle.parts.specs.Wire.{Line, low, high, lows, lineOf, stateOf, dataBit, returnOf}
+use Rattle.parts.proofs.Rows.{clear, none, above, numbered, lowest, none-applies}
 use Rattle.parts.specs.declared.command.Command.{Command}
 use Rattle.parts.specs.declared.command.Command.the-variants.{Individual, Calibration, Global, Configuration}
+use Rattle.line.specs.States.{dataBits}
+use Rattle.frames.specs.Frames.{tailBits, frameLength, toldRows}
+use Rattle.frames.specs.Writing.{writeTable, writeRefusal}
+use Rattle.frames.specs.Returns as reader
+use Rattle.frames.specs.declared.told.Told.{Told}
+use Rattle.frames.specs.declared.told.Tail.{Tail}
+use Rattle.frame_laws.proofs.Returns.{return-read}
 use Rattle.device.specs.Held as held
-use Rattle.device.specs.Judgement.{fits, placeFits}
-use Rattle.device.specs.declared.registers.Registers.{Registers}
+use Rattle.device.specs.Judgement.{fits}
 use Rattle.device.specs.declared.device.Device.{Device}
-use Rattle.device.proofs.Kept.{and-true, Below, below-of}
+use Rattle.device.proofs.Kept.{and-true}
 use Rattle.calls.specs.Chain.{allFit, blank}
 use Rattle.calls.specs.Calls.{freshRefusal, runTable, runRefusal, boundaryRefusal, faultRefusal, roomFor, returned}
-use Rattle.calls.specs.History.{Call, fresh, run, boundary, fault, tableOf, refusalOf, after, afterCalls, fed, answers}
+use Rattle.calls.specs.History.{Call, fresh, run, boundary, fault, tableOf, refusalOf, after, afterCalls, fed, answers, Runs}
 use Rattle.model.specs.Lists.{All, Both}
 use Rattle.model.specs.Run.{chain}
-use Rattle.model.specs.Device.{multiplexed, odds, faults, stepDevice, runChain, registersIn}
+use Rattle.model.specs.Device.{stepDevice, runChain, registersIn}
 use Rattle.model.specs.Device as model
-use Rattle.model.specs.Set.{Set, Own, OwnProper, Wide, owned}
-use Rattle.model.specs.Restore.{Piece, pieceStates, piecesOf}
+use Rattle.model.specs.Set.{Set, Own, Proper, Wide, owned}
+use Rattle.model.specs.Restore.{restoreOrder, Piece, pieceStates, piecesOf}
 use Rattle.model.specs.Restore as restore
-use Rattle.model.proofs.Lists.{take-map}
+use Rattle.model.proofs.Lists.{take-map, getD-map, flatten-take-suc}
 use Rattle.model.proofs.Run.{chain-append}
 use Rattle.model.proofs.Wire.{lines-states}
 use Rattle.model.proofs.Frame.{quiet-sends}
-use Rattle.model.proofs.Set.{owned-proper, length-owned}
-use Rattle.model.proofs.Restore.{sendPiece, sendPieces, pieces-run, pieces-sent, sent-four, length-run, Ready}
+use Rattle.model.proofs.Set.{wide-row, owned-proper, length-owned}
+use Rattle.model.proofs.Restore.{sendPieces, pieces-run, pieces-sent, sent-four, length-run, faults-le, Ready}
 use Rattle.model.proofs.Restore as model-restore
 use Rattle.model.proofs.CutSet.{cut-restore}
 use Rattle.model.proofs.Room.{surplus}
-use Rattle.link.specs.Claims.{restorePart, restoreStates, arrival, Holds, CutFields, flags, dataBits, returnsOf, start, Begun, Restored, Returned, Cut, Room, Judged, Kept, Restorable}
+use Rattle.link.specs.Restore.{told, byteOf, framePart, restorePart, restoreStates, arrival, flags, returnsOf}
+use Rattle.link.specs.Claims.{Holds, CutFields, start, Begun, Restored, Returned, Counted, Cut, Restorable, Room, Judged, Kept}
 use Rattle.link.proofs.View.{registersOf, deviceOf, stepRecord, Sound}
 use Rattle.link.proofs.Device.{through-same, chain-agree}
-use Rattle.link.proofs.Calls.{Whole, own-refusal, boundary-same, whole-calls, whole-start, partAfter, length-afterCalls, ran, calls-append, refused-after}
-use Rattle.link.proofs.Frames.{restore-states, restore-part, arrival-same}
-
--- ---- from the model to the records
-
-to-holds : (os : List Own) (ds : List Device) → Both restore.Holds os (registersIn (map deviceOf ds)) → Both Holds os ds
-unfolding deviceOf
-to-holds [] [] h = tt
-to-holds [] (d ∷ ds) h = absurd h
-to-holds (o ∷ os) [] h = absurd h
-to-holds (o ∷ os) (d ∷ ds) h =
-    let x = h .0 in
-    (record { configuration = x .configuration; calibration = x .calibration; global = x .global; individual = x .individual }, to-holds os ds (h .1))
-
-flag-digit : (f : ℕ) → f < 2 → digit (isOne f) ≡ f
-flag-digit zero h = refl
-flag-digit (suc zero) h = refl
-flag-digit (suc (suc f)) h = absurd (omega arith)
-
-fault-same : (c : Command) (r : Registers) → Below r → digit (model.fault c (registersOf r)) ≡ held.fault r c
-unfolding model.fault
-fault-same Individual r b = flag-digit (r .overtemperature) (b .hot)
-fault-same Calibration r b = flag-digit (r .openled) (b .lit)
-fault-same Global r b = flag-digit (r .overtemperature) (b .hot)
-fault-same Configuration r b = flag-digit (r .openled) (b .lit)
-
-sound-below : (d : Device) → Sound d → Below (d .registers)
-sound-below d o = below-of (d .registers) (and-true (placeFits (d .place) (d .registers)) _ (o .fit) .1)
-
-flags-same : (c : Command) (ds : List Device) → All Sound ds → faults c (registersIn (map deviceOf ds)) ≡ flags c ds
-unfolding faults flags deviceOf
-flags-same c [] h = refl
-flags-same c (d ∷ ds) h = rw (fault-same c (d .registers) (sound-below d (h .0)), flags-same c ds (h .1))
-
-ready-of : (p : Part) (os : List Own) (ds : List Device) → All (OwnProper p) os → length os ≡ length ds → All (λ d. partOf (d .registers .part) ≡ p) ds → Both (Ready p) os (registersIn (map deviceOf ds))
-unfolding deviceOf
-ready-of p [] [] a e u = tt
-ready-of p [] (d ∷ ds) a e u = absurd (omega arith)
-ready-of p (o ∷ os) [] a e u = absurd (omega arith)
-ready-of p (o ∷ os) (d ∷ ds) a e u = ((a .0, u .0), ready-of p os ds (a .1) (omega arith) (u .1))
-
-boundary-whole : (p : ℕ) (ds : List Device) → Whole p ds → map deviceOf (afterCalls ds (boundary ∷ [])) ≡ model.boundary (map deviceOf ds)
-unfolding afterCalls after refusalOf
-boundary-whole p ds w = rw (own-refusal p ds boundary w) (boundary-same ds)
-
-take-sent : (ds : List model.Device) (ps : List Piece) (j : ℕ) → (sendPieces ds (take j ps)) .1 ≡ take j ((sendPieces ds ps) .1)
-unfolding sendPieces sendPiece
-take-sent ds ps zero = refl
-take-sent ds [] (suc j) = refl
-take-sent ds (p ∷ ps) (suc j) = rw (take-sent ((sendPiece ds p) .0) ps j)
-
-data-lines : (ss : List ℕ) → dataBits ss ≡ map dataBit (map lineOf ss)
-data-lines [] = refl
-data-lines (s ∷ ss) = rw (data-lines ss)
-
-registers-at : (ds : List Device) (i : ℕ) (z : Device) → getD (registersIn (map deviceOf ds)) i (registersOf (z .registers)) ≡ registersOf (getD ds i z .registers)
-unfolding deviceOf
-registers-at [] i z = refl
-registers-at (d ∷ ds) zero z = refl
-registers-at (d ∷ ds) (suc i) z = registers-at ds i z
-
-cond-and : {A : Type 0} (a b : Bool) (x y : A) → cond a (cond b x y) y ≡ cond (a && b) x y
-cond-and true b x y = refl
-cond-and false b x y = refl
-
-to-cut : (arrived : Command → Bool) (o : Own) (old new : Registers)
-    → restore.CutFields (arrived Configuration) (arrived Calibration) (arrived Global) (arrived Individual) o (registersOf old) (registersOf new)
-    → CutFields arrived o old new
-to-cut arrived o old new h = record {
-  configuration = h .configuration;
-  calibration = h .calibration;
-  global = h .global;
-  mux0 = h .mux0;
-  mux1 = h .mux1 ∙ cond-and (arrived Individual) (multiplexed (o .configuration)) (odds (o .individual)) (old .waiting1);
-  active = ap (λ (v : model.Values). v .global) (h .active);
-  active0 = ap (λ (v : model.Values). v .mux0) (h .active);
-  active1 = ap (λ (v : model.Values). v .mux1) (h .active);
-}
+use Rattle.link.proofs.Calls.{Whole, own-refusal, whole-calls, whole-start, partAfter, length-afterCalls, ran, calls-append, refused-after}
+use Rattle.link.proofs.Frames.{taken, writable-proper, restore-states, restore-part, arrival-same}
+use Rattle.link.proofs.Records.{to-holds, flags-same, ready-of, boundary-whole, take-sent, data-lines, registers-at, to-cut}
 
 -- ---- a chain that was made fresh, and what was called since
-
-wide-row : (p : ℕ) → Wide (partOf p)
-wide-row p = each-row Wide (record { width = omega arith; banks = omega arith }) (record { width = omega arith; banks = omega arith }) p
 
 wide-all : (ds : List Device) → All Wide (map (λ (d : model.Device). d .registers .part) (map deviceOf ds))
 unfolding deviceOf
@@ -193,15 +122,18 @@ judged ds c =
       λ h. none-applies (tableOf ds c) (table-numbered ds c) (sym e ∙ h),
     )
 
-module _ (p : ℕ) (records : List Device) (earlier during : List Call) (s : Set) (b : Begun p records earlier during s) where
+module _ (p : ℕ) (records : List Device) (earlier during : List Call) (s : Set) (tail : Command → Tail) (b : Begun p records earlier during s tail) where
   abbrev now : List Device
   now = start p records earlier
 
   whole : Whole (partAfter (after records (fresh p)) p earlier) now
   whole = whole-begun p records earlier (b .accepted)
 
-  ready : Both (Ready (s .part)) (owned s) (registersIn (map deviceOf now))
-  ready = ready-of (s .part) (owned s) now (owned-proper s (b .proper)) (length-owned s ∙ b .devices) (b .part)
+  proper : Proper s
+  proper = writable-proper s tail (b .writable)
+
+  ready : Both (Ready (partOf (s .part))) (owned s) (registersIn (map deviceOf now))
+  ready = ready-of (s .part) (owned s) now (owned-proper s proper) (length-owned s ∙ b .devices) (b .part)
 
   few : length (registersIn (map deviceOf now)) < 1024
   few = rw (length-map, length-map) (let h = whole .fewDevices in omega arith)
@@ -215,22 +147,25 @@ module _ (p : ℕ) (records : List Device) (earlier during : List Call) (s : Set
   then-lows : (ls : List Line) (last : List Bool) (ss : List ℕ) → ss ≡ map stateOf ls → ss ++ map stateOf (lows last) ≡ map stateOf (ls ++ lows last)
   then-lows ls last ss e = rw e (sym (map-append stateOf ls (lows last)))
 
-  module _ (gap tail : Command → List Bool) where
+  module _ (gap : Command → List Bool) where
+    abbrev bits : Command → List Bool
+    bits c = tailBits (tail c)
+
     abbrev pieces : List Piece
-    pieces = piecesOf (s .part) (owned s) gap tail
+    pieces = piecesOf (partOf (s .part)) (owned s) gap bits
 
     abbrev lines : List Line
-    lines = restore.restoreStates (s .part) (owned s) gap tail
+    lines = restore.restoreStates (partOf (s .part)) (owned s) gap bits
 
     held-all : (last : List Bool) → fed now during ≡ restoreStates s gap tail ++ map stateOf (lows last) → Both Holds (owned s) (afterCalls now (during ++ boundary ∷ []))
     held-all last e =
         let ds : List model.Device = map deviceOf now in
         let w = whole-calls _ now during whole in
-        let f = e ∙ then-lows lines last (restoreStates s gap tail) (restore-states s (b .proper) gap tail) in
+        let f = e ∙ then-lows lines last (restoreStates s gap tail) (restore-states s tail (b .writable) gap) in
         let k : map deviceOf (afterCalls now (during ++ boundary ∷ [])) ≡ model.boundary ((runChain ((sendPieces ds pieces) .0) (lows last)) .0) =
         rw (calls-append now during (boundary ∷ []), boundary-whole _ (afterCalls now during) w)
         (ap (λ (x : List model.Device × List Line). model.boundary (x .0)) (seen (lines ++ lows last) f) ∙ rw (chain-append stepDevice ds lines (lows last), pieces-run ds pieces)) in
-        to-holds (owned s) (afterCalls now (during ++ boundary ∷ [])) (rw k (model-restore.restored (s .part) (owned s) gap tail ds last few ready))
+        to-holds (owned s) (afterCalls now (during ++ boundary ∷ [])) (rw k (model-restore.restored (partOf (s .part)) (owned s) gap bits ds last few ready))
 
     returned-all : (last : List Bool) (j : ℕ) → fed now during ≡ restorePart s gap tail j ++ map stateOf (lows last)
         → dataBits (answers now during) ≡ flatten (take j (returnsOf now tail))
@@ -238,7 +173,7 @@ module _ (p : ℕ) (records : List Device) (earlier during : List Call) (s : Set
         let ds : List model.Device = map deviceOf now in
         let h : 0 < length ds = rw length-map (whole .someDevice) in
         let ls : List Line = flatten (map pieceStates (take j pieces)) in
-        let f = e ∙ then-lows ls last (restorePart s gap tail j) (restore-part s (b .proper) gap tail j) in
+        let f = e ∙ then-lows ls last (restorePart s gap tail j) (restore-part s tail (b .writable) gap j) in
         let x : map lineOf (answers now during) ≡ (runChain ds (ls ++ lows last)) .1 = ap (λ (x : List model.Device × List Line). x .1) (seen (ls ++ lows last) f) in
         let q : (runChain ds (ls ++ lows last)) .1 ≡ (runChain ds ls) .1 =
         rw (chain-append stepDevice ds ls (lows last), quiet-sends last ((runChain ds ls) .0) (rw length-run h), append-nil) in
@@ -247,7 +182,7 @@ module _ (p : ℕ) (records : List Device) (earlier during : List Call) (s : Set
         ∙ pieces-sent ds (take j pieces) h
         ∙ rw (
           take-sent ds pieces j,
-          sent-four (s .part) (owned s) gap tail ds few ready,
+          sent-four (partOf (s .part)) (owned s) gap bits ds few ready,
           flags-same Configuration now (whole .sound),
           flags-same Calibration now (whole .sound),
           flags-same Global now (whole .sound),
@@ -258,26 +193,79 @@ module _ (p : ℕ) (records : List Device) (earlier during : List Call) (s : Set
         → CutFields (λ c. leb (arrival s gap tail c (suc i)) k) (getD (owned s) i o) (getD now i blank .registers) (getD (afterCalls now during) i blank .registers)
     cut-at k i o e h =
         let ds : List model.Device = map deviceOf now in
-        let f : fed now during ≡ map stateOf (take k lines) = e ∙ ap (λ (l : List ℕ). take k l) (restore-states s (b .proper) gap tail) ∙ take-map stateOf k lines in
+        let f : fed now during ≡ map stateOf (take k lines) = e ∙ ap (λ (l : List ℕ). take k l) (restore-states s tail (b .writable) gap) ∙ take-map stateOf k lines in
         let x : map deviceOf (afterCalls now during) ≡ (runChain ds (take k lines)) .0 = ap (λ (x : List model.Device × List Line). x .0) (seen (take k lines) f) in
-        let a : (c : Command) → arrival s gap tail c (suc i) ≡ restore.arrival (s .part) (owned s) gap tail c i = λ c. arrival-same s (b .proper) gap tail c i h in
-        let g = cut-restore (s .part) (owned s) gap tail ds ready k i o (registersOf (blank .registers)) (rw (length-owned s) h) in
+        let a : (c : Command) → arrival s gap tail c (suc i) ≡ restore.arrival (partOf (s .part)) (owned s) gap bits c i = λ c. arrival-same s tail (b .writable) gap c i h in
+        let g = cut-restore (partOf (s .part)) (owned s) gap bits ds ready k i o (registersOf (blank .registers)) (rw (length-owned s) h) in
         to-cut (λ c. leb (arrival s gap tail c (suc i)) k) (getD (owned s) i o) _ _
         (rw (← x, registers-at (afterCalls now during) i blank, registers-at now i blank, ← a Configuration, ← a Calibration, ← a Global, ← a Individual) at g)
 
 -- ---- the claims
 
 pub restored : Restored
-restored p records earlier during s gap tail last b e = held-all p records earlier during s b gap tail last e
+restored p records earlier during s gap tail last b e = held-all p records earlier during s tail b gap last e
 
 pub returns : Returned
-returns p records earlier during s gap tail last j b e = returned-all p records earlier during s b gap tail last j e
+returns p records earlier during s gap tail last j b e = returned-all p records earlier during s tail b gap last j e
 
 pub cut : Cut
 cut p records earlier during s gap tail k zero o b e h l = absurd (omega arith)
 cut p records earlier during s gap tail k (suc i) o b e h l =
     let j : suc i - 1 ≡ i = omega arith in
-    rw j (cut-at p records earlier during s b gap tail k i o e l)
+    rw j (cut-at p records earlier during s tail b gap k i o e l)
+
+-- ---- each frame's own return
+
+fed-append : (ds : List Device) (cs es : List Call) → fed ds (cs ++ es) ≡ fed ds cs ++ fed (afterCalls ds cs) es
+unfolding fed afterCalls
+fed-append ds [] es = refl
+fed-append ds (c ∷ cs) es = rw (fed-append (after ds c) cs es, append-assoc)
+
+answers-append : (ds : List Device) (cs es : List Call) → answers ds (cs ++ es) ≡ answers ds cs ++ answers (afterCalls ds cs) es
+unfolding answers afterCalls
+answers-append ds [] es = refl
+answers-append ds (c ∷ cs) es = rw (answers-append (after ds c) cs es, append-assoc)
+
+runs-front : (ds : List Device) (cs es : List Call) → Runs ds (cs ++ es) → Runs ds cs
+runs-front ds [] es r = tt
+runs-front ds (c ∷ cs) es r = (r .0, runs-front (after ds c) cs es (r .1))
+
+flags-le : (c : Command) (ds : List Device) → All Sound ds → flags c ds ≤ length ds
+flags-le c ds h = let l = faults-le c (registersIn (map deviceOf ds)) in rw (flags-same c ds h, length-map, length-map) at l
+
+told-zero : (t : Told) (tail : Tail) (byte : ℕ) (bytes values : List ℕ) (room : ℕ) → writeRefusal t tail byte bytes values room ≡ 0
+    → first (toldRows (t .part) (t .devices) tail) ≡ 0
+unfolding writeRefusal
+told-zero t tail byte bytes values room e =
+    let c = clear (writeTable t tail byte bytes values room) refl e in
+    none (toldRows (t .part) (t .devices) tail) (c .0, (c .1 .0, (c .1 .1 .0, tt)))
+
+pub counted : Counted
+counted p records earlier former during s gap tail last j b l e f =
+    let ds : List Device = start p records earlier in
+    let now : List Device = afterCalls ds former in
+    let c : Command = getD restoreOrder j Individual in
+    let rs : List (List Bool) = returnsOf ds tail in
+    let b′ : Begun p records earlier former s tail = record { accepted = b .accepted; writable = b .writable; devices = b .devices; part = b .part; runs = runs-front ds former during (b .runs) } in
+    let x = returned-all p records earlier former s tail b′ gap [] j (e ∙ sym (append-nil (restorePart s gap tail j))) in
+    let n : flatten (take (suc j) (map (framePart s gap tail) restoreOrder)) ≡ restorePart s gap tail j ++ framePart s gap tail c =
+    flatten-take-suc (map (framePart s gap tail) restoreOrder) j (rw length-map l) ∙ rw (getD-map (framePart s gap tail) restoreOrder j Individual [] l) in
+    let g : fed ds (former ++ during) ≡ restorePart s gap tail (suc j) ++ map stateOf (lows last) = rw (fed-append ds former during, e, f, n, append-assoc) in
+    let y = returned-all p records earlier (former ++ during) s tail b gap last (suc j) g in
+    let r : flatten (take (suc j) rs) ≡ flatten (take j rs) ++ returnOf c (flags c ds) (tailBits (tail c)) =
+    flatten-take-suc rs j (rw length-map l) ∙ rw (getD-map (λ (k : Command). returnOf k (flags k ds) (tailBits (tail k))) restoreOrder j Individual [] l) in
+    let k : dataBits (answers ds former) ++ dataBits (answers now during) ≡ flatten (take j rs) ++ returnOf c (flags c ds) (tailBits (tail c)) =
+    sym (map-append (λ s. dataBit (lineOf s)) (answers ds former) (answers now during)) ∙ ap (λ (a : List ℕ). dataBits a) (sym (answers-append ds former during)) ∙ y ∙ r in
+    let z : dataBits (answers now during) ≡ returnOf c (flags c ds) (tailBits (tail c)) =
+    sym (drop-at (dataBits (answers ds former)) (dataBits (answers now during)) _ refl) ∙ ap (drop (length (dataBits (answers ds former)))) k
+    ∙ drop-at (flatten (take j rs)) (returnOf c (flags c ds) (tailBits (tail c))) (length (dataBits (answers ds former))) (ap (λ (a : List Bool). length a) (sym x)) in
+    let w = whole-begun p records earlier (b .accepted) in
+    ap (λ (a : List Bool). reader.returned (s .part) (s .devices) c (tail c) (bytesOf a)) z
+    ∙ return-read (s .part) (s .devices) c (tail c) (flags c ds)
+    (told-zero (told s c) (tail c) (byteOf s c) (s .calibration) (s .individual) (frameLength (told s c) (tail c)) (b .writable .accepted c))
+    (taken s tail (b .writable) c .tail-low) (rw (b .devices) (flags-le c ds (w .sound)))
+
+-- ---- the claims can be met
 
 -- any states can be given: one run of them, with the room that it needs
 states-below : (ls : List Line) → allBelow (map stateOf ls) 4 ≡ true
@@ -300,7 +288,7 @@ restorable p records earlier s gap tail out b l =
     let now : List Device = start p records earlier in
     let during : List Call = run ss out ∷ [] in
     let w = whole-begun p records earlier (b .accepted) in
-    let a : allBelow ss 4 ≡ true = rw (restore-states s (b .proper) gap tail) (states-below (restore.restoreStates (s .part) (owned s) gap tail)) in
+    let a : allBelow ss 4 ≡ true = rw (restore-states s tail (b .writable) gap) (states-below (restore.restoreStates (partOf (s .part)) (owned s) gap (λ c. tailBits (tail c)))) in
     let r = run-accepted _ now ss out w a l in
-    let c : Begun p records earlier during s = record { accepted = b .accepted; proper = b .proper; devices = b .devices; part = b .part; runs = (tt, tt) } in
+    let c : Begun p records earlier during s tail = record { accepted = b .accepted; writable = b .writable; devices = b .devices; part = b .part; runs = (tt, tt) } in
     (r, restored p records earlier during s gap tail [] c (fed-one now ss out r))

@@ -6,4 +6,5 @@ pub mod Slice
 pub mod Device
 pub mod Calls
 pub mod Frames
+pub mod Records
 pub mod Claims

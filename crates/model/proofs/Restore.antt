@@ -55,7 +55,7 @@ bit-le : (b : Bool) → digit b ≤ 1
 bit-le true = omega arith
 bit-le false = omega arith
 
-faults-le : (c : Command) (rs : List Registers) → faults c rs ≤ length rs
+pub faults-le : (c : Command) (rs : List Registers) → faults c rs ≤ length rs
 unfolding faults
 faults-le c [] = omega arith
 faults-le c (r ∷ rs) = let h = faults-le c rs in omega (arith, bit-le (fault c r))

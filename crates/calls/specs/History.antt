@@ -5,9 +5,9 @@ use mathlib.Core.Path.{_≡_}
 use mathlib.Core.Bool.{Bool}
 use mathlib.Core.List.{List, [], _∷_, _++_}
 use lib.ListN.{length, take}
-use Rattle.parts.specs.Refusals.{content}
+use Rattle.parts.specs.Refusals.{Row, content}
 use Rattle.device.specs.declared.device.Device.{Device}
-use Rattle.calls.specs.Calls.{freshRefusal, freshAfter, runRefusal, runAfter, runRoom, returned, boundaryRefusal, boundaryAfter, faultRefusal, faultAfter}
+use Rattle.calls.specs.Calls.{freshTable, runTable, boundaryTable, faultTable, freshRefusal, freshAfter, runRefusal, runAfter, runRoom, returned, boundaryRefusal, boundaryAfter, faultRefusal, faultAfter}
 
 -- fresh: the part. run: states, and the lent room as it is. fault: device, kind, flag
 pub data Call : Type 0 where
@@ -15,6 +15,13 @@ pub data Call : Type 0 where
   run : List ℕ → List ℕ → Call
   boundary : Call
   fault : ℕ → ℕ → Bool → Call
+
+-- what a call is refused for, in the order of the numbers
+abbrev pub tableOf : List Device → Call → List Row
+tableOf ds (fresh part) = freshTable part (length ds)
+tableOf ds (run ss out) = runTable ds ss (length out)
+tableOf ds boundary = boundaryTable ds
+tableOf ds (fault device kind flag) = faultTable ds device kind
 
 -- the number under which a call is refused, or 0
 unfoldable pub refusalOf : List Device → Call → ℕ

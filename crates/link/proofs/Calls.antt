@@ -34,7 +34,8 @@ use Rattle.model.specs.Device as model
 use Rattle.model.proofs.Lists.{All-replicate}
 use Rattle.model.proofs.Run.{chain-append, chain-nil, chain-holds}
 use Rattle.link.specs.Claims.{ownTable}
-use Rattle.link.proofs.Device.{phaseIn, deviceOf, stepRecord, Sound, step-part, through-same, chain-keep}
+use Rattle.link.proofs.View.{phaseIn, deviceOf, stepRecord, Sound}
+use Rattle.link.proofs.Device.{step-part, through-same, chain-keep}
 
 -- ---- what an accepted call leaves
 
@@ -229,7 +230,7 @@ length-afterCalls ds (c ∷ cs) = length-afterCalls (after ds c) cs ∙ length-a
 
 -- ---- runs, and calls that are refused
 
-refused-after : (ds : List Device) (c : Call) → (refusalOf ds c ≡ 0 → ⊥) → after ds c ≡ ds
+pub refused-after : (ds : List Device) (c : Call) → (refusalOf ds c ≡ 0 → ⊥) → after ds c ≡ ds
 refused-after ds c h = rw (after-effect ds c, ne-eqb (refusalOf ds c) 0 h)
 
 run-one : (ds : List Device) (c : Call) → RunOrRefused ds c → _≡_ {A = List Device × List ℕ} (after ds c, answered ds c) (chain stepRecord ds (given ds c))

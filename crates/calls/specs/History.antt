@@ -64,13 +64,26 @@ unfoldable pub answers : List Device → List Call → List ℕ
 answers ds [] = []
 answers ds (c ∷ cs) = answered ds c ++ answers (after ds c) cs
 
--- each call of a list is a run, or is refused where it stands
+-- a call is a run, or is refused where it stands
 abbrev pub RunOrRefused : List Device → Call → Type 0
 RunOrRefused ds (fresh part) = refusalOf ds (fresh part) ≡ 0 → ⊥
 RunOrRefused ds (run ss out) = Unit {0}
 RunOrRefused ds boundary = refusalOf ds boundary ≡ 0 → ⊥
 RunOrRefused ds (fault device kind flag) = refusalOf ds (fault device kind flag) ≡ 0 → ⊥
 
+-- and so is each of a list
 abbrev pub Runs : List Device → List Call → Type 0
 Runs ds [] = Unit {0}
 Runs ds (c ∷ cs) = RunOrRefused ds c × Runs (after ds c) cs
+
+-- a call sets a fault, or is refused where it stands
+abbrev pub FaultOrRefused : List Device → Call → Type 0
+FaultOrRefused ds (fresh part) = refusalOf ds (fresh part) ≡ 0 → ⊥
+FaultOrRefused ds (run ss out) = refusalOf ds (run ss out) ≡ 0 → ⊥
+FaultOrRefused ds boundary = refusalOf ds boundary ≡ 0 → ⊥
+FaultOrRefused ds (fault device kind flag) = Unit {0}
+
+-- and so does each of a list
+abbrev pub Faults : List Device → List Call → Type 0
+Faults ds [] = Unit {0}
+Faults ds (c ∷ cs) = FaultOrRefused ds c × Faults (after ds c) cs

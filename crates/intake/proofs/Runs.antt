@@ -56,9 +56,9 @@ ran-on b d s rest i t e q r =
       within = omega (arith, r .within);
       load = (e, r .load);
       runs =
-        run-cons d s (take (r .count) rest)
-        ∙ ap (λ (x : Device × List ℕ). (x .0, sentStates (step d s .sent) ++ x .1)) (r .runs)
-        ∙ ap (λ (x : Sent). (t .device, sentStates x ++ sentStates (t .sent))) q;
+          run-cons d s (take (r .count) rest)
+          ∙ ap (λ (x : Device × List ℕ). (x .0, sentStates (step d s .sent) ++ x .1)) (r .runs)
+          ∙ ap (λ (x : Sent). (t .device, sentStates x ++ sentStates (t .sent))) q;
     }
 
 -- a state that sends
@@ -70,9 +70,9 @@ ran-one b d s rest i e =
       within = omega arith;
       load = (e, tt);
       runs =
-        run-cons d s []
-        ∙ ap (λ (x : Device × List ℕ). (x .0, sentStates (step d s .sent) ++ x .1)) (run-none (step d s .device))
-        ∙ ap (λ (x : List ℕ). (step d s .device, x)) (append-nil (sentStates (step d s .sent)));
+          run-cons d s []
+          ∙ ap (λ (x : Device × List ℕ). (x .0, sentStates (step d s .sent) ++ x .1)) (run-none (step d s .device))
+          ∙ ap (λ (x : List ℕ). (step d s .device, x)) (append-nil (sentStates (step d s .sent)));
     }
 
 low-quiet : (d : Device) (s : ℕ) → ltb s 2 ≡ true → step d s .sent ≡ Nothing
@@ -96,6 +96,7 @@ high-ran d (s ∷ rest) i = go (ltb s 2) refl (high-ran (step d s .device) rest 
   by Nothing q e ih = ran-on false d s rest i _ e q ih
   by (One b) q e ih = ran-one false d s rest i e
   by (Header c n) q e ih = ran-one false d s rest i e
+
   go : (t : Bool) → ltb s 2 ≡ t → Ran false (step d s .device) rest (i + 1) (highTaken (step d s .device) rest (i + 1)) → Ran false d (s ∷ rest) i (highTaken d (s ∷ rest) i)
   go true e ih = subst (Ran false d (s ∷ rest) i) (sym (high-low d s rest i e)) (ran-none false d (s ∷ rest) i)
   go false e ih = subst (Ran false d (s ∷ rest) i) (sym (high-cons d s rest i e)) (by (step d s .sent) refl e ih)

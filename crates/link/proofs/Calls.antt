@@ -23,7 +23,8 @@ use Rattle.device.specs.declared.phase.Phase.{Phase}
 use Rattle.device.specs.declared.phase.Phase.the-variants.{Hunting, Opening, Counting, Slice, Passing, Lost}
 use Rattle.device.specs.declared.registers.Registers.{Registers}
 use Rattle.device.specs.declared.device.Device.{Device}
-use Rattle.device.proofs.Kept.{and-true, cond-both, kept-bounded, kept-faulted, kept-fresh}
+use Rattle.device.proofs.Places.{and-both, cond-both}
+use Rattle.device.proofs.Kept.{kept-bounded, kept-faulted, kept-fresh}
 use Rattle.calls.specs.Chain.{every, hasPart, allKnown, sameParts, allFit, isCount, blank}
 use Rattle.calls.specs.Calls.{freshTable, freshRefusal, freshDevices, runRefusal, runDevices, returned, boundaryRefusal, boundaryDevices, faultRefusal, faultDevices}
 use Rattle.calls.specs.History.{Call, fresh, run, boundary, fault, refusalOf, after, afterCalls, given, answered, fed, answers, RunOrRefused, Runs}
@@ -160,7 +161,7 @@ unfolding refusalOf freshRefusal
 whole-fresh q ds a =
     let t = clear (freshTable q (length ds)) refl a in
     let k = not-false (known q) (t .0) in
-    let n = and-true (leb 1 (length ds)) (leb (length ds) 1023) (not-false (isCount (length ds)) (t .1 .0)) in
+    let n = and-both (leb 1 (length ds)) (leb (length ds) 1023) (not-false (isCount (length ds)) (t .1 .0)) in
     let l = length-replicate (length ds) (freshDevice q) in
     record {
       someDevice = rw l (leb-true 1 (length ds) (n .0));

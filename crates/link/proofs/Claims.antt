@@ -5,11 +5,11 @@ use mathlib.Core.Bool.{Bool, true, false, _&&_}
 use mathlib.Core.List.{List, [], _∷_, _++_, map, flatten, append-nil, append-assoc, map-append}
 use Prim.Native.Nat.{ℕ, zero, suc, _+_, _-_, _≤_, _<_}
 use native.Mathlib.Omega.{arith}
-use lib.Dec.{leb}
+use lib.Dec.{eqb, leb}
 use lib.Seq.{drop-at}
-use lib.ListN.{drop, length, length-map, take, getD}
+use lib.ListN.{set, drop, length, length-map, take, getD}
 use borrow.Author.Tests.{not-false, le-ltb, ltb-false}
-use Rattle.bits.specs.Bits.{bytesOf}
+use Rattle.bits.specs.Bits.{digit, bytesOf}
 use Rattle.parts.specs.Lists.{allBelow}
 use Rattle.parts.specs.Parts.{partOf}
 use Rattle.parts.specs.Refusals.{first, Lowest}
@@ -25,12 +25,14 @@ use Rattle.frames.specs.declared.told.Told.{Told}
 use Rattle.frames.specs.declared.told.Tail.{Tail}
 use Rattle.frame_laws.proofs.Returns.{return-read}
 use Rattle.device.specs.Held as held
+use Rattle.device.specs.Step.{bounded, faulted}
 use Rattle.device.specs.Judgement.{fits}
+use Rattle.device.specs.declared.registers.Registers.{Registers}
 use Rattle.device.specs.declared.device.Device.{Device}
-use Rattle.device.proofs.Kept.{and-true}
+use Rattle.device.proofs.Places.{and-both, cond-both}
 use Rattle.calls.specs.Chain.{allFit, blank}
-use Rattle.calls.specs.Calls.{freshRefusal, runTable, runRefusal, boundaryRefusal, faultRefusal, roomFor, returned}
-use Rattle.calls.specs.History.{Call, fresh, run, boundary, fault, tableOf, refusalOf, after, afterCalls, fed, answers, Runs}
+use Rattle.calls.specs.Calls.{freshRefusal, runTable, runRefusal, boundaryRefusal, boundaryDevices, faultRefusal, roomFor, returned}
+use Rattle.calls.specs.History.{Call, fresh, run, boundary, fault, tableOf, refusalOf, after, afterCalls, fed, answers, Runs, FaultOrRefused, Faults}
 use Rattle.model.specs.Lists.{All, Both}
 use Rattle.model.specs.Run.{chain}
 use Rattle.model.specs.Device.{stepDevice, runChain, registersIn}
@@ -85,14 +87,14 @@ kept p records earlier c e =
 
 all-sound : (ds : List Device) → allFit ds ≡ true → All (λ d. length (d .registers .slice) ≡ 48) ds → All Sound ds
 all-sound [] e h = tt
-all-sound (d ∷ ds) e h = let f = and-true (fits d) (allFit ds) e in (record { fit = f .0; slots = h .0 }, all-sound ds (f .1) (h .1))
+all-sound (d ∷ ds) e h = let f = and-both (fits d) (allFit ds) e in (record { fit = f .0; slots = h .0 }, all-sound ds (f .1) (h .1))
 
 pub room : Room
 unfolding refusalOf runRefusal
 room ds ss out h e =
     let t = clear (runTable ds ss (length out)) refl e in
     let l = ltb-false (length out) (roomFor (length ss)) (t .1 .1 .1 .0) in
-    let f = and-true (allBelow ss 4) (allFit ds) (not-false (allBelow ss 4 && allFit ds) (t .1 .1 .1 .1 .0)) in
+    let f = and-both (allBelow ss 4) (allFit ds) (not-false (allBelow ss 4 && allFit ds) (t .1 .1 .1 .1 .0)) in
     (length-returned ds ss (all-sound ds (f .1) h), l)
 
 table-refusal : (ds : List Device) (c : Call) → refusalOf ds c ≡ first (tableOf ds c)
@@ -202,8 +204,48 @@ module _ (p : ℕ) (records : List Device) (earlier during : List Call) (s : Set
 
 -- ---- the claims
 
+-- what waits is untouched by a fault setting, so what a boundary makes of it is
+faulted-holds : (kind flag : ℕ) (o : Own) (d : Device) → Holds o (bounded d) → Holds o (bounded (faulted d kind flag))
+faulted-holds kind flag o d h =
+    cond-both (λ (r : Registers). Holds o (bounded (record { registers = r; place = d .place }))) (eqb kind 0) _ _
+    (λ _. record { configuration = h .configuration; calibration = h .calibration; global = h .global; individual = h .individual })
+    (λ _. record { configuration = h .configuration; calibration = h .calibration; global = h .global; individual = h .individual })
+
+set-holds : (f : Device → Device) → ((o : Own) (d : Device) → Holds o (bounded d) → Holds o (bounded (f d))) → (os : List Own) (ds : List Device) (i : ℕ) (z : Device)
+    → Both Holds os (boundaryDevices ds) → Both Holds os (boundaryDevices (set ds i (f (getD ds i z))))
+set-holds f k os [] i z h = h
+set-holds f k [] (d ∷ ds) i z h = absurd h
+set-holds f k (o ∷ os) (d ∷ ds) zero z h = (k o d (h .0), h .1)
+set-holds f k (o ∷ os) (d ∷ ds) (suc i) z h = (h .0, set-holds f k os ds i z (h .1))
+
+after-holds : (os : List Own) (ds : List Device) (c : Call) → FaultOrRefused ds c → Both Holds os (boundaryDevices ds) → Both Holds os (boundaryDevices (after ds c))
+unfolding after
+after-holds os ds (fresh part) r h = rw (refused-after ds (fresh part) r) h
+after-holds os ds (run ss out) r h = rw (refused-after ds (run ss out) r) h
+after-holds os ds boundary r h = rw (refused-after ds boundary r) h
+after-holds os ds (fault device kind flag) r h =
+    cond-both (λ (es : List Device). Both Holds os (boundaryDevices es)) (eqb (faultRefusal ds device kind) 0) _ _
+    (λ _. set-holds (λ d. faulted d kind (digit flag)) (faulted-holds kind (digit flag)) os ds (device - 1) blank h) (λ _. h)
+
+calls-hold : (os : List Own) (ds : List Device) (cs : List Call) → Faults ds cs → Both Holds os (boundaryDevices ds) → Both Holds os (boundaryDevices (afterCalls ds cs))
+unfolding afterCalls
+calls-hold os ds [] r h = h
+calls-hold os ds (c ∷ cs) r h = calls-hold os (after ds c) cs (r .1) (after-holds os ds c (r .0) h)
+
+boundary-after : (p : ℕ) (ds : List Device) → Whole p ds → afterCalls ds (boundary ∷ []) ≡ boundaryDevices ds
+unfolding afterCalls after refusalOf
+boundary-after p ds w = rw (own-refusal p ds boundary w)
+
 pub restored : Restored
-restored p records earlier during s gap tail last b e = held-all p records earlier during s tail b gap last e
+restored p records earlier during later s gap tail last b e r =
+    let ds : List Device = start p records earlier in
+    let now : List Device = afterCalls ds during in
+    let w = whole-calls _ ds during (whole-begun p records earlier (b .accepted)) in
+    let v = whole-calls _ now later w in
+    let h : Both Holds (owned s) (boundaryDevices now) =
+    rw (calls-append ds during (boundary ∷ []), boundary-after _ now w) at (held-all p records earlier during s tail b gap last e) in
+    rw (calls-append ds during (later ++ boundary ∷ []), calls-append now later (boundary ∷ []), boundary-after _ (afterCalls now later) v)
+    (calls-hold (owned s) now later r h)
 
 pub returns : Returned
 returns p records earlier during s gap tail last j b e = returned-all p records earlier during s tail b gap last j e
@@ -291,4 +333,4 @@ restorable p records earlier s gap tail out b l =
     let a : allBelow ss 4 ≡ true = rw (restore-states s tail (b .writable) gap) (states-below (restore.restoreStates (partOf (s .part)) (owned s) gap (λ c. tailBits (tail c)))) in
     let r = run-accepted _ now ss out w a l in
     let c : Begun p records earlier during s tail = record { accepted = b .accepted; writable = b .writable; devices = b .devices; part = b .part; runs = (tt, tt) } in
-    (r, restored p records earlier during s gap tail [] c (fed-one now ss out r))
+    (r, restored p records earlier during [] s gap tail [] c (fed-one now ss out r) tt)

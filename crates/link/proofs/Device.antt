@@ -24,7 +24,8 @@ use Rattle.device.specs.declared.phase.Sent.the-variants.{Nothing, One}
 use Rattle.device.specs.declared.registers.Registers.{Registers}
 use Rattle.device.specs.declared.device.Device.{Device}
 use Rattle.device.specs.declared.device.Stepped.{Stepped}
-use Rattle.device.proofs.Kept.{and-true, cond-both, Small, Below, below-of, Good, phase-good, kept}
+use Rattle.device.proofs.Places.{and-both, cond-both, Small}
+use Rattle.device.proofs.Kept.{Below, below-of, Good, phase-good, kept}
 use Rattle.model.specs.Lists.{All}
 use Rattle.calls.specs.Chain.{through}
 use Rattle.model.specs.Run.{run, chain}
@@ -84,16 +85,16 @@ counting-small c read bit = cond-both Small (ltb (read * 2 + bit) 1024) _ _ (λ 
 high-same : (r : Registers) (p : Phase) (s : ℕ) → 2 ≤ s → length (r .slice) ≡ 48 → Below r → Good r p → seen (stepHigh r p s) ≡ stepDevice (viewed r p) (high (eqb (s % 2) 1))
 high-same r (Hunting w) s h e b g = seen-sending r (rising w (s % 2)) Nothing (rising-small w (s % 2)) ∙ rising-same r w (s % 2) (mod-lt s (lit< tt))
 high-same r (Opening read) s h e b g =
-    let f = and-true (leb 2 read) (ltb read 64) (g .1) in
+    let f = and-both (leb 2 read) (ltb read 64) (g .1) in
     let l = leb-true 2 read (f .0) in
     seen-sending r (opening read (s % 2)) Nothing (opening-small read (s % 2))
     ∙ opening-same r read (s % 2) (omega arith) (ltb-true read 64 (f .1)) (mod-lt s (lit< tt))
 high-same r (Counting c read) s h e b g =
-    let f = and-true (leb 1 read) (ltb read 1024) (g .1) in
+    let f = and-both (leb 1 read) (ltb read 1024) (g .1) in
     seen-sending r (counting c read (s % 2)) Nothing (counting-small c read (s % 2))
     ∙ counting-same r c read (s % 2) (leb-true 1 read (f .0)) (ltb-true read 1024 (f .1)) (mod-lt s (lit< tt))
 high-same r (Slice c n t) s h e b g =
-    let f = and-true (ltb n 1024) (ltb t (sliceLength r c)) (g .1) in
+    let f = and-both (ltb n 1024) (ltb t (sliceLength r c)) (g .1) in
     slice-same r c n t (s % 2) (mod-lt s (lit< tt)) (ltb-true t (sliceLength r c) (f .1)) e b
 high-same r Passing s h e b g = seen-sending r Passing (One s) (lit< tt) ∙ rw (line-high s h) (passing-same r (eqb (s % 2) 1))
 high-same r Lost s h e b g = seen-sending r Lost Nothing (lit< tt) ∙ lost-same r (eqb (s % 2) 1)
@@ -109,7 +110,7 @@ agree d s o = go (ltb s 2) refl
     go true e = rw (line-low s (ltb-true s 2 e)) (low-same (d .registers) (phaseOf (d .place)) s (ltb-true s 2 e))
     go false e =
         let l = ltb-false s 2 e in
-        let t = and-true (placeFits (d .place) (d .registers)) _ (o .fit) in
+        let t = and-both (placeFits (d .place) (d .registers)) _ (o .fit) in
         rw (line-high s l)
         (high-same (d .registers) (phaseOf (d .place)) s l (o .slots) (below-of (d .registers) (t .1)) (phase-good (d .place) (d .registers) (t .0)))
 

@@ -17,7 +17,8 @@ use Rattle.device.specs.Held as held
 use Rattle.device.specs.Judgement.{fits, placeFits}
 use Rattle.device.specs.declared.registers.Registers.{Registers}
 use Rattle.device.specs.declared.device.Device.{Device}
-use Rattle.device.proofs.Kept.{and-true, Below, below-of}
+use Rattle.device.proofs.Places.{and-both}
+use Rattle.device.proofs.Kept.{Below, below-of}
 use Rattle.calls.specs.History.{boundary, fault, refusalOf, after, afterCalls}
 use Rattle.model.specs.Lists.{All, Both}
 use Rattle.model.specs.Run.{chain}
@@ -56,7 +57,7 @@ fault-same Global r b = flag-digit (r .overtemperature) (b .hot)
 fault-same Configuration r b = flag-digit (r .openled) (b .lit)
 
 sound-below : (d : Device) → Sound d → Below (d .registers)
-sound-below d o = below-of (d .registers) (and-true (placeFits (d .place) (d .registers)) _ (o .fit) .1)
+sound-below d o = below-of (d .registers) (and-both (placeFits (d .place) (d .registers)) _ (o .fit) .1)
 
 pub flags-same : (c : Command) (ds : List Device) → All Sound ds → faults c (registersIn (map deviceOf ds)) ≡ flags c ds
 unfolding faults flags deviceOf

@@ -18,7 +18,7 @@ use Rattle.device.specs.declared.phase.Sent.{Sent}
 use Rattle.device.specs.declared.registers.Registers.{Registers}
 use Rattle.device.specs.declared.device.Device.{Device}
 use Rattle.device.specs.declared.device.Stepped.{Stepped}
-use Rattle.device.proofs.Kept.{Small, phase-place}
+use Rattle.device.proofs.Places.{Small, phase-place}
 use Rattle.model.specs.Device.{hunting, lost, taking, passing, command, count, slice, finish, stepDevice}
 use Rattle.model.specs.Device as model
 use Rattle.link.proofs.Numbers.{rest, gotten}

@@ -22,7 +22,7 @@ use Rattle.device.specs.declared.registers.Registers.{Registers}
 use Rattle.device.specs.declared.device.Device.{Device}
 use Rattle.calls.specs.Chain.{blank}
 use Rattle.calls.specs.Calls.{freshTable, roomFor, returned}
-use Rattle.calls.specs.History.{Call, fresh, run, boundary, fault, tableOf, refusalOf, after, afterCalls, fed, answers, Runs}
+use Rattle.calls.specs.History.{Call, fresh, run, boundary, fault, tableOf, refusalOf, after, afterCalls, fed, answers, Runs, Faults}
 use Rattle.model.specs.Lists.{All, Both}
 use Rattle.model.specs.Device.{multiplexed, evens, odds}
 use Rattle.model.specs.Set.{Set, Own, owned}
@@ -65,13 +65,15 @@ pub record Begun (p : ℕ) (records : List Device) (earlier during : List Call) 
 
 -- ---- demand 3
 
--- the runs gave the set's restore, with any low clocks after it; then a boundary: every device's registers in use hold its own slices
+-- the runs gave the set's restore, with any low clocks after it; then any fault settings, and a boundary: every device's registers in use
+-- hold the values of its own slices
 abbrev pub Restored : Type 0
 Restored =
-    (p : ℕ) (records : List Device) (earlier during : List Call) (s : Set) (gap : Command → List Bool) (tail : Command → Tail) (last : List Bool)
+    (p : ℕ) (records : List Device) (earlier during later : List Call) (s : Set) (gap : Command → List Bool) (tail : Command → Tail) (last : List Bool)
     → Begun p records earlier during s tail
     → fed (start p records earlier) during ≡ restoreStates s gap tail ++ map stateOf (lows last)
-    → Both Holds (owned s) (afterCalls (start p records earlier) (during ++ boundary ∷ []))
+    → Faults (afterCalls (start p records earlier) during) later
+    → Both Holds (owned s) (afterCalls (start p records earlier) (during ++ (later ++ boundary ∷ [])))
 
 -- while the first j frames come in, the runs write the first j returns into the lent room, and nothing else
 abbrev pub Returned : Type 0

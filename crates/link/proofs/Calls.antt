@@ -34,7 +34,7 @@ use Rattle.model.specs.Run as machine
 use Rattle.model.specs.Device as model
 use Rattle.model.proofs.Lists.{All-replicate}
 use Rattle.model.proofs.Run.{chain-append, chain-nil, chain-holds}
-use Rattle.link.specs.Claims.{ownTable}
+use Rattle.link.specs.Records.{ownTable}
 use Rattle.link.proofs.View.{phaseIn, deviceOf, stepRecord, Sound}
 use Rattle.link.proofs.Device.{step-part, through-same, chain-keep}
 

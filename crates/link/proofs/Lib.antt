@@ -1,4 +1,4 @@
--- The link of records and the model, the calls, and the claims about them.
+-- The link of records and the model, and the calls on records.
 pub mod Numbers
 pub mod View
 pub mod Header
@@ -7,4 +7,3 @@ pub mod Device
 pub mod Calls
 pub mod Frames
 pub mod Records
-pub mod Claims

@@ -30,7 +30,7 @@ use Rattle.model.specs.Restore as restore
 use Rattle.model.proofs.Restore.{sendPiece, sendPieces, Ready}
 use Rattle.model.proofs.Restore as model-restore
 use Rattle.link.specs.Restore.{flags}
-use Rattle.link.specs.Claims.{Holds, CutFields}
+use Rattle.link.specs.Records.{Holds, CutFields}
 use Rattle.link.proofs.View.{registersOf, deviceOf, Sound}
 use Rattle.link.proofs.Calls.{Whole, own-refusal, boundary-same}
 use Rattle.link.proofs.Frames.{taken}

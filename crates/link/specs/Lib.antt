@@ -1,3 +1,3 @@
--- A restore as a caller makes it, and what the claims about lists of calls say.
+-- A restore as a caller makes it, and what records hold after it.
 pub mod Restore
-pub mod Claims
+pub mod Records

@@ -1,4 +1,4 @@
--- The claims of specs/Claims. The calls of a restore are one run of the records; by the link that is a run of the model's chain, and what
+-- Demand 3, and the claims about the calls. The calls of a restore are one run of the records; by the link that is a run of the model's chain, and what
 -- the model's theorems say of its devices is read back from the records' fields. Assumes nothing.
 use mathlib.Core.Path.{_≡_, refl, sym, ap, _∙_, subst}
 use mathlib.Core.Bool.{Bool, true, false, _&&_}
@@ -49,13 +49,14 @@ use Rattle.model.proofs.Restore.{sendPieces, pieces-run, pieces-sent, sent-four
 use Rattle.model.proofs.Restore as model-restore
 use Rattle.model.proofs.CutSet.{cut-restore}
 use Rattle.model.proofs.Room.{surplus}
 use Rattle.link.specs.Restore.{told, byteOf, framePart, restorePart, restoreStates, arrival, flags, returnsOf}
-use Rattle.link.specs.Claims.{Holds, CutFields, start, Begun, Restored, Returned, Counted, Cut, Restorable, Room, Judged, Kept}
+use Rattle.link.specs.Records.{Holds, CutFields, start, Begun}
+use Rattle.claims.specs.Claims.{Restored, Returned, Counted, Cut, Restorable, Room, Judged, Kept}
 use Rattle.link.proofs.View.{registersOf, deviceOf, stepRecord, Sound}
 use Rattle.link.proofs.Device.{through-same, chain-agree}
 use Rattle.link.proofs.Calls.{Whole, own-refusal, whole-calls, whole-start, partAfter, length-afterCalls, ran, calls-append, refused-after}
 use Rattle.link.proofs.Frames.{taken, writable-proper, restore-states, restore-part, arrival-same}
 use Rattle.link.proofs.Records.{to-holds, flags-same, ready-of, boundary-whole, take-sent, data-lines, registers-at, to-cut}
 
 -- ---- a chain that was made fresh, and what was called since
 

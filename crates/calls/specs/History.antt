@@ -1,0 +1,89 @@
+-- Lists of calls on one lent chain: what each leaves, the states that the accepted runs were given, joined, and those that they wrote into
+-- the room that each was lent.
+use Prim.Native.Nat.{ℕ}
+use mathlib.Core.Path.{_≡_}
+use mathlib.Core.Bool.{Bool}
+use mathlib.Core.List.{List, [], _∷_, _++_}
+use lib.ListN.{length, take}
+use Rattle.parts.specs.Refusals.{Row, content}
+use Rattle.device.specs.declared.device.Device.{Device}
+use Rattle.calls.specs.Calls.{freshTable, runTable, boundaryTable, faultTable, freshRefusal, freshAfter, runRefusal, runAfter, runRoom, returned, boundaryRefusal, boundaryAfter, faultRefusal, faultAfter}
+
+-- fresh: the part. run: states, and the lent room as it is. fault: device, kind, flag
+pub data Call : Type 0 where
+  fresh : ℕ → Call
+  run : List ℕ → List ℕ → Call
+  boundary : Call
+  fault : ℕ → ℕ → Bool → Call
+
+-- what a call is refused for, in the order of the numbers
+abbrev pub tableOf : List Device → Call → List Row
+tableOf ds (fresh part) = freshTable part (length ds)
+tableOf ds (run ss out) = runTable ds ss (length out)
+tableOf ds boundary = boundaryTable ds
+tableOf ds (fault device kind flag) = faultTable ds device kind
+
+-- the number under which a call is refused, or 0
+unfoldable pub refusalOf : List Device → Call → ℕ
+refusalOf ds (fresh part) = freshRefusal part (length ds)
+refusalOf ds (run ss out) = runRefusal ds ss (length out)
+refusalOf ds boundary = boundaryRefusal ds
+refusalOf ds (fault device kind flag) = faultRefusal ds device kind
+
+-- the records that a call leaves
+unfoldable pub after : List Device → Call → List Device
+after ds (fresh part) = freshAfter part ds
+after ds (run ss out) = runAfter ds ss (length out)
+after ds boundary = boundaryAfter ds
+after ds (fault device kind flag) = faultAfter ds device kind flag
+
+unfoldable pub afterCalls : List Device → List Call → List Device
+afterCalls ds [] = ds
+afterCalls ds (c ∷ cs) = afterCalls (after ds c) cs
+
+-- the states that an accepted run is given
+abbrev pub given : List Device → Call → List ℕ
+given ds (fresh part) = []
+given ds (run ss out) = content (runRefusal ds ss (length out)) [] ss
+given ds boundary = []
+given ds (fault device kind flag) = []
+
+-- the states that it returns: as many as it answers, from the front of the lent room
+abbrev pub answered : List Device → Call → List ℕ
+answered ds (fresh part) = []
+answered ds (run ss out) = content (runRefusal ds ss (length out)) [] (take (length (returned ds ss)) (runRoom ds ss out))
+answered ds boundary = []
+answered ds (fault device kind flag) = []
+
+-- joined up
+unfoldable pub fed : List Device → List Call → List ℕ
+fed ds [] = []
+fed ds (c ∷ cs) = given ds c ++ fed (after ds c) cs
+
+unfoldable pub answers : List Device → List Call → List ℕ
+answers ds [] = []
+answers ds (c ∷ cs) = answered ds c ++ answers (after ds c) cs
+
+-- a call is a run, or is refused where it stands
+abbrev pub RunOrRefused : List Device → Call → Type 0
+RunOrRefused ds (fresh part) = refusalOf ds (fresh part) ≡ 0 → ⊥
+RunOrRefused ds (run ss out) = Unit {0}
+RunOrRefused ds boundary = refusalOf ds boundary ≡ 0 → ⊥
+RunOrRefused ds (fault device kind flag) = refusalOf ds (fault device kind flag) ≡ 0 → ⊥
+
+-- and so is each of a list
+abbrev pub Runs : List Device → List Call → Type 0
+Runs ds [] = Unit {0}
+Runs ds (c ∷ cs) = RunOrRefused ds c × Runs (after ds c) cs
+
+-- a call sets a fault, or is refused where it stands
+abbrev pub FaultOrRefused : List Device → Call → Type 0
+FaultOrRefused ds (fresh part) = refusalOf ds (fresh part) ≡ 0 → ⊥
+FaultOrRefused ds (run ss out) = refusalOf ds (run ss out) ≡ 0 → ⊥
+FaultOrRefused ds boundary = refusalOf ds boundary ≡ 0 → ⊥
+FaultOrRefused ds (fault device kind flag) = Unit {0}
+
+-- and so does each of a list
+abbrev pub Faults : List Device → List Call → Type 0
+Faults ds [] = Unit {0}
+Faults ds (c ∷ cs) = FaultOrRefused ds c × Faults (after ds c) cs

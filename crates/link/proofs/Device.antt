@@ -1,0 +1,185 @@
+-- The law of the link, `agree`: one step of a record that fits is one step of the model's device, and `keep`: it still fits. By cases on
+-- the phase. Chains of records follow by `chain-view`. Assumes nothing.
+use mathlib.Core.Path.{_≡_, refl, _∙_}
+use mathlib.Core.Bool.{Bool, true, false, cond}
+use mathlib.Core.List.{List, [], _∷_, map}
+use Prim.Native.Nat.{ℕ, zero, suc, _+_, _-_, _*_, _/_, _%_, _≤_, _<_}
+use native.Mathlib.Nat.{mod-lt}
+use native.Mathlib.Omega.{arith}
+use lib.Dec.{eqb, ltb, leb, lit<}
+use lib.ListN.{length, length-set}
+use borrow.Author.Tests.{leb-true, ltb-true, ltb-false, le-ltb}
+use Rattle.parts.specs.Parts.{partOf, multiplex, fieldWidth, fieldLimit}
+use Rattle.parts.specs.Wire.{low, high, lineOf, header}
+use Rattle.parts.specs.declared.command.Command.{Command}
+use Rattle.parts.specs.declared.command.Command.the-variants.{Individual, Calibration, Global, Configuration}
+use Rattle.device.specs.Phases.{phaseOf, windowOf, heard, rising, opened, opening, counting}
+use Rattle.device.specs.Held.{took, stored, copies}
+use Rattle.device.specs.Step.{moved, sliceLength, step, stepHigh}
+use Rattle.device.specs.Judgement.{placeFits, fits}
+use Rattle.device.specs.Run as records
+use Rattle.device.specs.declared.phase.Phase.{Phase}
+use Rattle.device.specs.declared.phase.Phase.the-variants.{Hunting, Opening, Counting, Slice, Passing, Lost}
+use Rattle.device.specs.declared.phase.Sent.the-variants.{Nothing, One}
+use Rattle.device.specs.declared.registers.Registers.{Registers}
+use Rattle.device.specs.declared.device.Device.{Device}
+use Rattle.device.specs.declared.device.Stepped.{Stepped}
+use Rattle.device.proofs.Places.{and-both, cond-both, Small}
+use Rattle.device.proofs.Kept.{Below, below-of, Good, phase-good, kept}
+use Rattle.model.specs.Lists.{All}
+use Rattle.calls.specs.Chain.{through}
+use Rattle.model.specs.Run.{run, chain}
+use Rattle.model.specs.Device.{slice, stepDevice}
+use Rattle.model.specs.Device as model
+use Rattle.model.proofs.Run.{chain-view, chain-holds}
+use Rattle.link.proofs.Numbers.{digit-bit}
+use Rattle.link.proofs.View.{phaseIn, viewed, deviceOf, stepRecord, Sound, seen, seen-sending}
+use Rattle.link.proofs.Header.{rising-same, opening-same, counting-same}
+use Rattle.link.proofs.Slice.{slice-same}
+
+line-high : (s : ℕ) → 2 ≤ s → lineOf s ≡ high (eqb (s % 2) 1)
+line-high s h = rw (le-ltb s 2 h)
+
+line-low : (s : ℕ) → s < 2 → lineOf s ≡ low (eqb s 1)
+line-low zero h = refl
+line-low (suc zero) h = refl
+line-low (suc (suc s)) h = absurd (omega arith)
+
+window-same : (r : Registers) (p : Phase) → model.window (phaseIn r p) ≡ windowOf p
+window-same r (Hunting w) = refl
+window-same r (Opening read) = refl
+window-same r (Counting c read) = refl
+window-same r (Slice c n t) = refl
+window-same r Passing = refl
+window-same r Lost = refl
+
+low-same : (r : Registers) (p : Phase) (s : ℕ) → s < 2 → seen (moved r (heard p s)) ≡ stepDevice (viewed r p) (low (eqb s 1))
+unfolding stepDevice
+low-same r p s h = seen-sending r (heard p s) Nothing (mod-lt (windowOf p * 2 + s) (lit< tt)) ∙ rw (window-same r p, digit-bit s h)
+
+lost-same : (r : Registers) (b : Bool) → (viewed r Lost, []) ≡ stepDevice (viewed r Lost) (high b)
+unfolding stepDevice
+lost-same r b = refl
+
+passing-same : (r : Registers) (b : Bool) → (viewed r Passing, high b ∷ []) ≡ stepDevice (viewed r Passing) (high b)
+unfolding stepDevice
+passing-same r b = refl
+
+-- the phases that a high clock moves a header to are small
+rising-small : (w bit : ℕ) → Small (rising w bit)
+rising-small w bit = cond-both Small (eqb w 0xE8) _ _ (λ _. lit< tt) (λ _. lit< tt)
+
+opened-small : (n : ℕ) → Small (opened n)
+opened-small n =
+    cond-both Small (eqb n 0) _ _ (λ _. lit< tt)
+    (λ _. cond-both Small (eqb n 21) _ _ (λ _. lit< tt)
+    (λ _. cond-both Small (eqb n 42) _ _ (λ _. lit< tt)
+    (λ _. cond-both Small (eqb n 63) _ _ (λ _. lit< tt) (λ _. lit< tt))))
+
+opening-small : (read bit : ℕ) → Small (opening read bit)
+opening-small read bit = cond-both Small (ltb (read * 2 + bit) 64) _ _ (λ _. lit< tt) (λ _. opened-small (read * 2 + bit - 64))
+
+counting-small : (c : Command) (read bit : ℕ) → Small (counting c read bit)
+counting-small c read bit = cond-both Small (ltb (read * 2 + bit) 1024) _ _ (λ _. lit< tt) (λ _. lit< tt)
+
+high-same : (r : Registers) (p : Phase) (s : ℕ) → 2 ≤ s → length (r .slice) ≡ 48 → Below r → Good r p → seen (stepHigh r p s) ≡ stepDevice (viewed r p) (high (eqb (s % 2) 1))
+high-same r (Hunting w) s h e b g = seen-sending r (rising w (s % 2)) Nothing (rising-small w (s % 2)) ∙ rising-same r w (s % 2) (mod-lt s (lit< tt))
+high-same r (Opening read) s h e b g =
+    let f = and-both (leb 2 read) (ltb read 64) (g .1) in
+    let l = leb-true 2 read (f .0) in
+    seen-sending r (opening read (s % 2)) Nothing (opening-small read (s % 2))
+    ∙ opening-same r read (s % 2) (omega arith) (ltb-true read 64 (f .1)) (mod-lt s (lit< tt))
+high-same r (Counting c read) s h e b g =
+    let f = and-both (leb 1 read) (ltb read 1024) (g .1) in
+    seen-sending r (counting c read (s % 2)) Nothing (counting-small c read (s % 2))
+    ∙ counting-same r c read (s % 2) (leb-true 1 read (f .0)) (ltb-true read 1024 (f .1)) (mod-lt s (lit< tt))
+high-same r (Slice c n t) s h e b g =
+    let f = and-both (ltb n 1024) (ltb t (sliceLength r c)) (g .1) in
+    slice-same r c n t (s % 2) (mod-lt s (lit< tt)) (ltb-true t (sliceLength r c) (f .1)) e b
+high-same r Passing s h e b g = seen-sending r Passing (One s) (lit< tt) ∙ rw (line-high s h) (passing-same r (eqb (s % 2) 1))
+high-same r Lost s h e b g = seen-sending r Lost Nothing (lit< tt) ∙ lost-same r (eqb (s % 2) 1)
+
+-- The law of the link
+pub agree : (d : Device) (s : ℕ) → Sound d → (deviceOf ((stepRecord d s) .0), map lineOf ((stepRecord d s) .1)) ≡ stepDevice (deviceOf d) (lineOf s)
+unfolding deviceOf stepRecord seen
+agree d s o = go (ltb s 2) refl
+  where
+    go : (b : Bool) → ltb s 2 ≡ b
+        → seen (cond b (moved (d .registers) (heard (phaseOf (d .place)) s)) (stepHigh (d .registers) (phaseOf (d .place)) s))
+        ≡ stepDevice (viewed (d .registers) (phaseOf (d .place))) (lineOf s)
+    go true e = rw (line-low s (ltb-true s 2 e)) (low-same (d .registers) (phaseOf (d .place)) s (ltb-true s 2 e))
+    go false e =
+        let l = ltb-false s 2 e in
+        let t = and-both (placeFits (d .place) (d .registers)) _ (o .fit) in
+        rw (line-high s l)
+        (high-same (d .registers) (phaseOf (d .place)) s l (o .slots) (below-of (d .registers) (t .1)) (phase-good (d .place) (d .registers) (t .0)))
+
+-- ---- a record that fits still does
+
+stored-slots : (r : Registers) (c : Command) → (stored r c) .slice ≡ r .slice
+stored-slots r Individual = cond-both (λ (q : Registers). q .slice ≡ r .slice) (eqb (multiplex (r .configuration)) 0) _ _ (λ _. refl) (λ _. refl)
+stored-slots r Calibration = refl
+stored-slots r Global = cond-both (λ (q : Registers). q .slice ≡ r .slice) (copies (r .slice)) _ _ (λ _. refl) (λ _. refl)
+stored-slots r Configuration = cond-both (λ (q : Registers). q .slice ≡ r .slice) (copies (r .slice)) _ _ (λ _. refl) (λ _. refl)
+
+abbrev Slots : Stepped → Type 0
+Slots s = length (s .device .registers .slice) ≡ 48
+
+high-slots : (r : Registers) (p : Phase) (s : ℕ) → length (r .slice) ≡ 48 → Slots (stepHigh r p s)
+high-slots r (Hunting w) s h = h
+high-slots r (Opening read) s h = h
+high-slots r (Counting c read) s h = h
+high-slots r (Slice c n t) s h =
+    let q : Registers = took r (t / fieldWidth (partOf (r .part)) c) (s % 2) (fieldLimit (partOf (r .part)) c) in
+    let l : length (q .slice) ≡ 48 = simp length-set h in
+    cond-both Slots (ltb (t + 1) (sliceLength r c)) _ _ (λ _. l) (λ _. rw (stored-slots q c) l)
+high-slots r Passing s h = h
+high-slots r Lost s h = h
+
+pub keep : (d : Device) (s : ℕ) → Sound d → Sound ((stepRecord d s) .0)
+unfolding stepRecord
+keep d s o = record {
+  fit = kept d s (o .fit);
+  slots = cond-both Slots (ltb s 2) _ _ (λ _. o .slots) (λ _. high-slots (d .registers) (phaseOf (d .place)) s (o .slots));
+}
+
+-- no step changes a record's part
+stored-part : (r : Registers) (c : Command) → (stored r c) .part ≡ r .part
+stored-part r Individual = cond-both (λ (q : Registers). q .part ≡ r .part) (eqb (multiplex (r .configuration)) 0) _ _ (λ _. refl) (λ _. refl)
+stored-part r Calibration = refl
+stored-part r Global = cond-both (λ (q : Registers). q .part ≡ r .part) (copies (r .slice)) _ _ (λ _. refl) (λ _. refl)
+stored-part r Configuration = cond-both (λ (q : Registers). q .part ≡ r .part) (copies (r .slice)) _ _ (λ _. refl) (λ _. refl)
+
+high-part : (r : Registers) (p : Phase) (s : ℕ) → (stepHigh r p s) .device .registers .part ≡ r .part
+high-part r (Hunting w) s = refl
+high-part r (Opening read) s = refl
+high-part r (Counting c read) s = refl
+high-part r (Slice c n t) s =
+    cond-both (λ (x : Stepped). x .device .registers .part ≡ r .part) (ltb (t + 1) (sliceLength r c)) _ _ (λ _. refl)
+    (λ _. stored-part (took r (t / fieldWidth (partOf (r .part)) c) (s % 2) (fieldLimit (partOf (r .part)) c)) c)
+high-part r Passing s = refl
+high-part r Lost s = refl
+
+pub step-part : (d : Device) (s : ℕ) → (stepRecord d s) .0 .registers .part ≡ d .registers .part
+unfolding stepRecord
+step-part d s = cond-both (λ (x : Stepped). x .device .registers .part ≡ d .registers .part) (ltb s 2) _ _ (λ _. refl) (λ _. high-part (d .registers) (phaseOf (d .place)) s)
+
+-- ---- chains of records
+
+-- a run of records is the plain chain
+run-same : (d : Device) (ss : List ℕ) → records.run d ss ≡ run stepRecord d ss
+unfolding records.run run stepRecord
+run-same d [] = refl
+run-same d (s ∷ ss) = rw (run-same (step d s .device) ss)
+
+pub through-same : (ds : List Device) (ss : List ℕ) → through ds ss ≡ chain stepRecord ds ss
+unfolding through chain
+through-same [] ss = refl
+through-same (d ∷ ds) ss = rw (run-same d ss, through-same ds ((run stepRecord d ss) .1))
+
+pub chain-agree : (ds : List Device) (ss : List ℕ) → All Sound ds
+    → (map deviceOf ((chain stepRecord ds ss) .0), map lineOf ((chain stepRecord ds ss) .1)) ≡ model.runChain (map deviceOf ds) (map lineOf ss)
+chain-agree ds ss o = chain-view stepDevice stepRecord deviceOf lineOf Sound keep agree ds ss o
+
+pub chain-keep : (ds : List Device) (ss : List ℕ) → All Sound ds → All Sound ((chain stepRecord ds ss) .0)
+chain-keep ds ss o = chain-holds stepRecord Sound keep ds ss o

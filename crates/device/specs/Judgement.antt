@@ -1,6 +1,6 @@
 -- The judgement of a record: what document 01's table says of one under numbers 1 and 13, and the judged step.
 use Prim.Native.Nat.{ℕ}
-use mathlib.Core.Bool.{Bool, true, false, _&&_, not}
+use mathlib.Core.Bool.{Bool, true, _&&_, not}
 use mathlib.Core.List.{List, [], _∷_, _++_}
 use lib.Dec.{eqb, ltb, leb}
 use Rattle.parts.specs.Parts.{partOf, known, limit}

@@ -2,7 +2,7 @@
 -- header. Document 01, "One device, clock by clock". A phase's number is its place in this list: hunting, opening, counting, slice,
 -- passing, lost.
 use Prim.Native.Nat.{ℕ, _+_, _-_, _*_, _%_}
-use mathlib.Core.Bool.{Bool, true, false, cond}
+use mathlib.Core.Bool.{cond}
 use lib.Dec.{eqb, ltb}
 use Rattle.parts.specs.Parts.{code, commandAt}
 use Rattle.parts.specs.declared.command.Command.{Command}

@@ -1,7 +1,7 @@
 -- One device, clock by clock: the step by one line state, and what it sends. The same section of document 01. Every record has a step: one
 -- that does not fit (see Judgement) too. Then a frame boundary, a fault setting, and a fresh device.
-use Prim.Native.Nat.{ℕ, _+_, _*_, _/_, _%_}
-use mathlib.Core.Bool.{Bool, true, false, cond}
+use Prim.Native.Nat.{ℕ, _+_, _/_, _%_}
+use mathlib.Core.Bool.{cond}
 use mathlib.Core.List.{List, [], _∷_}
 use lib.Dec.{ltb}
 use Rattle.parts.specs.Parts.{partOf, multiplex, fieldWidth, fieldLimit, sliceBits}

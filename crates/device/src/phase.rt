@@ -1,4 +1,7 @@
 // Where a device stands in a frame, and how a data bit moves it on.
+ghost use mathlib.Core.Path.{_≡_};
+ghost use Prim.Native.Nat.{_<_, _≤_};
+ghost use Rattle.device.specs.Phases.{numbers, placeOf, phaseOf, windowOf, heard, rising, opened, opening, counting, pushed};
 use parts::Command;
 
 // A phase as numbers, as it stands in the record: 0 hunting, 1 opening, 2 counting, 3 slice, 4 passing, 5 lost. Numbers that a phase does
@@ -43,4 +46,175 @@ pub enum Sent {
     Nothing,
     One(u8),
     Header { command: Command, count: u16 },
+}
+
+// A phase as the record's numbers.
+pub fn place_of(phase: Phase) -> Place
+    ensures { λ r. ⌜ r ≡ placeOf phase ⌝ }
+{
+    match phase {
+        Phase::Hunting { window } => numbered(0, 0, 0, window as u16),
+        Phase::Opening { read } => numbered(1, 0, 0, read),
+        Phase::Counting { command, read } => numbered(2, parts::number_of(command), 0, read),
+        Phase::Slice {
+            command,
+            count,
+            taken,
+        } => numbered(3, parts::number_of(command), count, taken),
+        Phase::Passing => numbered(4, 0, 0, 0),
+        Phase::Lost => numbered(5, 0, 0, 0),
+    }
+}
+
+fn numbered(phase: u8, command: u8, count: u16, read: u16) -> Place
+    ensures { λ r. ⌜ r ≡ numbers phase command count read ⌝ }
+{
+    Place {
+        phase: phase,
+        command: command,
+        count: count,
+        read: read,
+    }
+}
+
+// The phase of the record's numbers: of a number over 5, lost.
+pub fn phase_of(place: Place) -> Phase
+    ensures { λ r. ⌜ r ≡ phaseOf place ⌝ }
+{
+    let phase = place.phase;
+    let read = place.read;
+    if phase == 0 {
+        return Phase::Hunting {
+            window: (read % 256) as u8,
+        };
+    }
+    if phase == 1 {
+        return Phase::Opening { read: read };
+    }
+    if phase == 2 {
+        return Phase::Counting {
+            command: parts::command_of(place.command),
+            read: read,
+        };
+    }
+    if phase == 3 {
+        return Phase::Slice {
+            command: parts::command_of(place.command),
+            count: place.count,
+            taken: read,
+        };
+    }
+    if phase == 4 {
+        return Phase::Passing;
+    }
+    Phase::Lost
+}
+
+// A bit goes in at the low end of a number that is kept below a limit.
+pub fn push(value: u16, bit: u8, below: u16) -> u16
+    requires { ⌜ 0 < below ⌝ }
+    ensures { λ r. ⌜ r ≡ pushed value bit below ⌝ }
+{
+    (((value as u32) * 2 + (bit as u32)) % (below as u32)) as u16
+}
+
+fn window_of(phase: Phase) -> u8
+    ensures { λ r. ⌜ r ≡ windowOf phase ⌝ }
+{
+    match phase {
+        Phase::Hunting { window } => window,
+        Phase::Opening { read: _ } => 0,
+        Phase::Counting {
+            command: _,
+            read: _,
+        } => 0,
+        Phase::Slice {
+            command: _,
+            count: _,
+            taken: _,
+        } => 0,
+        Phase::Passing => 0,
+        Phase::Lost => 0,
+    }
+}
+
+// Low load, in any phase.
+pub fn hear(phase: Phase, bit: u8) -> Phase
+    ensures { λ r. ⌜ r ≡ heard phase bit ⌝ }
+{
+    let window = push(window_of(phase) as u16, bit, 256) as u8;
+    Phase::Hunting { window: window }
+}
+
+// High load while hunting: after SYNC this is the first command bit.
+pub fn rise(window: u8, bit: u8) -> Phase
+    ensures { λ r. ⌜ r ≡ rising window bit ⌝ }
+{
+    if window == 0xE8 {
+        Phase::Opening {
+            read: 2 + (bit as u16),
+        }
+    } else {
+        Phase::Lost
+    }
+}
+
+// The sixth command bit: three equal pairs name the command.
+fn open(pairs: u32) -> Phase
+    ensures { λ r. ⌜ r ≡ opened pairs ⌝ }
+{
+    if pairs == 0 {
+        Phase::Counting {
+            command: Command::Individual,
+            read: 1,
+        }
+    } else if pairs == 21 {
+        Phase::Counting {
+            command: Command::Calibration,
+            read: 1,
+        }
+    } else if pairs == 42 {
+        Phase::Counting {
+            command: Command::Global,
+            read: 1,
+        }
+    } else if pairs == 63 {
+        Phase::Counting {
+            command: Command::Configuration,
+            read: 1,
+        }
+    } else {
+        Phase::Lost
+    }
+}
+
+// One more command bit.
+pub fn more_command(read: u16, bit: u8) -> Phase
+    ensures { λ r. ⌜ r ≡ opening read bit ⌝ }
+{
+    let next = (read as u32) * 2 + (bit as u32);
+    if next < 64 {
+        Phase::Opening { read: next as u16 }
+    } else {
+        open(next - 64)
+    }
+}
+
+// One more count bit.
+pub fn more_count(command: Command, read: u16, bit: u8) -> Phase
+    ensures { λ r. ⌜ r ≡ counting command read bit ⌝ }
+{
+    let next = (read as u32) * 2 + (bit as u32);
+    if next < 1024 {
+        Phase::Counting {
+            command: command,
+            read: next as u16,
+        }
+    } else {
+        Phase::Slice {
+            command: command,
+            count: (next % 1024) as u16,
+            taken: 0,
+        }
+    }
 }

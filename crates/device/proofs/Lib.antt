@@ -1,0 +1,3 @@
+-- Laws of the device.
+pub mod Lists
+pub mod Fields

@@ -1,0 +1,34 @@
+use mathlib.Core.Path.{sym}
+use borrow.Author.Tests.{lt-ltb, le-ltb}
+use borrow.Author.Needs.{needs}
+use Rattle.device.proofs.device.Device.advance.Statement.{statement}
+use Rattle.device.proofs.device.Device.advance.Tie as tie
+use Rattle.device.proofs.device.Device.advance.Reads as reads
+use Rattle.device.proofs.device.Device.advance.Lts as lts
+use Rattle.device.proofs.device.high.Reads as high-reads
+use Rattle.device.proofs.device.stepped_to.Reads as stepped-to-reads
+use Rattle.device.proofs.phase.hear.Reads as hear-reads
+use Rattle.device.proofs.phase.phase_of.Reads as phase-of-reads
+
+phase-of-requires : tie.Need-phase-of-requires
+phase-of-requires c κs = search needs
+
+hear-requires : tie.Need-hear-requires
+hear-requires c κs = search needs
+
+stepped-to-requires : tie.Need-stepped-to-requires
+stepped-to-requires c κs = search needs
+
+high-requires : tie.Need-high-requires
+high-requires c κs = search needs
+
+returns : tie.Need-returns
+returns c = rw (c .stepped-to .ensures, c .before .hear .ensures, c .before .before .before .phase-of .ensures, lt-ltb _ _ (c .before .before .if1 .taken))
+
+returns-2 : tie.Need-returns-2
+returns-2 c = rw (le-ltb _ _ (c .before .if1 .left), sym (c .before .before .phase-of .ensures)) (c .high .ensures)
+
+pub advance-spec : {M : Type 1} → statement M
+advance-spec =
+    tie.close
+    (tie.spec phase-of-requires hear-requires stepped-to-requires high-requires returns returns-2)

@@ -1,0 +1,15 @@
+use borrow.Author.Needs.{needs}
+use Rattle.device.proofs.device.stepped_to.Statement.{statement}
+use Rattle.device.proofs.device.stepped_to.Tie as tie
+use Rattle.device.proofs.device.stepped_to.Reads as reads
+use Rattle.device.proofs.device.stepped_to.Lts as lts
+use Rattle.device.proofs.phase.place_of.Reads as place-of-reads
+
+place-of-requires : tie.Need-place-of-requires
+place-of-requires c κs = search needs
+
+returns : tie.Need-returns
+returns c = rw (c .place-of .ensures)
+
+pub stepped-to-spec : {M : Type 1} → statement M
+stepped-to-spec = tie.close (tie.spec place-of-requires returns)

@@ -1,0 +1,14 @@
+use borrow.Author.Tests.{eq-eqb, ne-eqb}
+use Rattle.device.proofs.registers.Registers.flag.Statement.{statement}
+use Rattle.device.proofs.registers.Registers.flag.Tie as tie
+use Rattle.device.proofs.registers.Registers.flag.Reads as reads
+use Rattle.device.proofs.registers.Registers.flag.Lts as lts
+
+returns : tie.Need-returns
+returns c = rw (eq-eqb _ _ (c .if1 .taken))
+
+returns-2 : tie.Need-returns-2
+returns-2 c = rw (ne-eqb _ _ (c .if1 .left))
+
+pub flag-spec : {M : Type 1} → statement M
+flag-spec = tie.close (tie.spec returns returns-2)

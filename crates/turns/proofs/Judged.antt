@@ -14,7 +14,7 @@ use Rattle.parts.specs.Refusals.{Row, _when_, first}
 use Rattle.device.specs.Judgement.{fits, allBelow}
 use Rattle.device.specs.declared.device.Device.{Device}
 use Rattle.calls.specs.Chain.{every, allKnown, hasPart, sameParts, allFit, isCount, blank}
-use Rattle.calls.specs.Calls.{roomFor, chainRows, runRefusal, boundaryRefusal, faultRefusal}
+use Rattle.calls.specs.Calls.{roomFor, chainRows, freshTable, freshRefusal, runRefusal, boundaryRefusal, faultRefusal}
 use Rattle.turns.specs.declared.judging.Judged.{Judged}
 use Rattle.turns.specs.Judging.{unjudged, judgedWith, judgedFrom, partRows, runRows, boundaryRows, faultRows}
 
@@ -77,6 +77,10 @@ rows-found ds f =
     ap (λ (b : Bool). first (rowsWith b (judgedFrom unjudged ds .same) (length ds) (f (judgedFrom unjudged ds .fits)))) (known-found unjudged ds)
     ∙ ap (λ (b : Bool). first (rowsWith (allKnown ds) b (length ds) (f (judgedFrom unjudged ds .fits)))) (same-found ds)
     ∙ ap (λ (b : Bool). first (rowsWith (allKnown ds) (sameParts ds) (length ds) (f b))) (fits-found unjudged ds)
+
+pub fresh-refusal-found : (part n : ℕ) → first (freshTable part n) ≡ freshRefusal part n
+unfolding freshRefusal
+fresh-refusal-found part n = refl
 
 pub run-refusal-found : (ds : List Device) (ss : List ℕ) (room : ℕ) → first (runRows (judgedFrom unjudged ds) (length ds) ss room) ≡ runRefusal ds ss room
 unfolding runRefusal

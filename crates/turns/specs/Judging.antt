@@ -1,7 +1,7 @@
 -- The judgement of a lent chain in one pass over its records, and each call's refusal as that pass finds it. What a call refuses is said in
 -- calls/specs/Calls; that both are the same is in proofs/Judged.
 use Prim.Native.Nat.{ℕ, _-_}
-use mathlib.Core.Bool.{Bool, true, false, not, _&&_, cond}
+use mathlib.Core.Bool.{true, false, not, _&&_, cond}
 use mathlib.Core.List.{List, [], _∷_, _++_}
 use lib.Dec.{eqb, ltb, leb}
 use lib.ListN.{length}

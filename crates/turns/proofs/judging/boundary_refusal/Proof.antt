@@ -1,10 +1,9 @@
 use Rattle.parts.proofs.Rows.{sooner, later}
 use Rattle.parts.specs.Refusals.{_when_}
 use Rattle.turns.specs.Judging.{partRows}
-use mathlib.Core.Path.{refl, sym, _∙_}
-use mathlib.Core.Bool.{not, _&&_}
+use mathlib.Core.Path.{refl}
+use mathlib.Core.Bool.{not}
 use mathlib.Core.List.{[], _∷_}
-use lib.Dec.{leb, ltb}
 use borrow.Author.Needs.{needs}
 use Rattle.turns.proofs.judging.boundary_refusal.Statement.{statement}
 use Rattle.turns.proofs.judging.boundary_refusal.Tie as tie

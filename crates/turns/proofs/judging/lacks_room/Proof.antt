@@ -1,5 +1,4 @@
 use Rattle.turns.proofs.Judged.{room-small, room-test}
-use borrow.Author.Needs.{needs}
 use Rattle.turns.proofs.judging.lacks_room.Statement.{statement}
 use Rattle.turns.proofs.judging.lacks_room.Tie as tie
 

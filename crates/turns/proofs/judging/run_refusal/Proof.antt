@@ -4,7 +4,7 @@ use Rattle.turns.specs.Judging.{partRows}
 use mathlib.Core.Path.{refl, sym, _∙_}
 use mathlib.Core.Bool.{not, _&&_}
 use mathlib.Core.List.{[], _∷_}
-use lib.Dec.{leb, ltb}
+use lib.Dec.{ltb}
 use borrow.Author.Tests.{not-true, not-false}
 use Rattle.calls.specs.Calls.{roomFor}
 use Rattle.device.specs.Judgement.{allBelow}

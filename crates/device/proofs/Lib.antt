@@ -1,3 +1,5 @@
 -- Laws of the device.
 pub mod Lists
 pub mod Fields
+pub mod Kept
+pub mod Examples

@@ -4,6 +4,7 @@ use mathlib.Core.Bool.{Bool, true, _&&_, not}
 use mathlib.Core.List.{List, [], _∷_, _++_}
 use lib.Dec.{eqb, ltb, leb}
 use Rattle.parts.specs.Parts.{partOf, known, limit}
+use Rattle.parts.specs.Lists.{allBelow}
 use Rattle.parts.specs.Refusals.{Row, _when_, first, answer}
 use Rattle.device.specs.Phases.{placeOf, phaseOf}
 use Rattle.device.specs.Step.{step, sliceLength}
@@ -36,10 +37,6 @@ placeFits q r = samePlace (placeOf (phaseOf q)) q && phaseFits (phaseOf q) r
 -- a fault flag is 0 or 1
 abbrev pub flagsFit : Registers → Bool
 flagsFit r = ltb (r .overtemperature) 2 && ltb (r .openled) 2
-
-abbrev pub allBelow : List ℕ → ℕ → Bool
-allBelow [] m = true
-allBelow (x ∷ xs) m = ltb x m && allBelow xs m
 
 abbrev pub pairBelow : List ℕ → List ℕ → ℕ → Bool
 pairBelow xs ys m = allBelow xs m && allBelow ys m

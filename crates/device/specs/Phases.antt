@@ -2,7 +2,7 @@
 -- header. Document 01, "One device, clock by clock". A phase's number is its place in this list: hunting, opening, counting, slice,
 -- passing, lost.
 use Prim.Native.Nat.{ℕ, _+_, _-_, _*_, _%_}
-use mathlib.Core.Bool.{cond}
+use mathlib.Core.Bool.{Bool, true, false, cond}
 use lib.Dec.{eqb, ltb}
 use Rattle.parts.specs.Parts.{code, commandAt}
 use Rattle.parts.specs.declared.command.Command.{Command}
@@ -69,3 +69,21 @@ opening read bit = cond (ltb (read * 2 + bit) 64) (Opening (read * 2 + bit)) (op
 abbrev pub counting : Command → ℕ → ℕ → Phase
 counting c read bit =
     cond (ltb (read * 2 + bit) 1024) (Counting c (read * 2 + bit)) (Slice c ((read * 2 + bit) % 1024) 0)
+
+-- a device that looks for a header, or reads one
+abbrev pub inHeader : Phase → Bool
+inHeader (Hunting window) = true
+inHeader (Opening read) = true
+inHeader (Counting c read) = true
+inHeader (Slice c count taken) = false
+inHeader Passing = false
+inHeader Lost = false
+
+-- what one bit at high load makes of such a phase
+abbrev pub headed : Phase → ℕ → Phase
+headed (Hunting window) bit = rising window bit
+headed (Opening read) bit = opening read bit
+headed (Counting c read) bit = counting c read bit
+headed (Slice c count taken) bit = Slice c count taken
+headed Passing bit = Passing
+headed Lost bit = Lost

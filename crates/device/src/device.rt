@@ -113,12 +113,12 @@ fn high(registers: Registers, phase: Phase, state: u8) -> Stepped
 {
     let bit = state % 2;
     match phase {
-        Phase::Hunting { window } => stepped_to(registers, crate::phase::rise(window, bit)),
-        Phase::Opening { read } => stepped_to(registers, crate::phase::more_command(read, bit)),
-        Phase::Counting { command, read } => stepped_to(
-            registers,
-            crate::phase::more_count(command, read, bit),
-        ),
+        Phase::Hunting { window: _ } => stepped_to(registers, crate::phase::header_bit(phase, bit)),
+        Phase::Opening { read: _ } => stepped_to(registers, crate::phase::header_bit(phase, bit)),
+        Phase::Counting {
+            command: _,
+            read: _,
+        } => stepped_to(registers, crate::phase::header_bit(phase, bit)),
         Phase::Slice {
             command,
             count,

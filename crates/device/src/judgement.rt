@@ -1,8 +1,9 @@
-// The judgement of a record: 1 for its part, 13 where a number is out of range. The tests of values have no branch that ends them early.
+// The judgement of a record: 1 for its part, 13 where a number is out of range.
 ghost use mathlib.Core.Path.{_≡_};
 ghost use mathlib.Core.Bool.{Bool};
+ghost use Rattle.parts.specs.Lists.{allBelow};
 ghost use Rattle.parts.specs.Refusals.{first};
-ghost use Rattle.device.specs.Judgement.{phaseFits, samePlace, placeFits, flagsFit, allBelow, pairBelow, valuesFit, fits, judgement};
+ghost use Rattle.device.specs.Judgement.{phaseFits, samePlace, placeFits, flagsFit, pairBelow, valuesFit, fits, judgement};
 use crate::device::Device;
 use crate::phase::Phase;
 use crate::phase::Place;
@@ -132,27 +133,12 @@ fn pair_below(one: [u16; 24], other: [u16; 24], limit: u16) -> bool
 fn all24_below(values: [u16; 24], limit: u16) -> bool
     ensures { λ r. ⌜ r ≡ allBelow values limit ⌝ }
 {
-    all_below(&values, limit)
+    parts::values_below(&values, limit)
 }
 
 // Each of 48 values is below a limit.
 fn all48_below(values: [u16; 48], limit: u16) -> bool
     ensures { λ r. ⌜ r ≡ allBelow values limit ⌝ }
 {
-    all_below(&values, limit)
-}
-
-// Each value is below a limit.
-fn all_below(values: &[u16], limit: u16) -> bool
-    ensures { λ r. ⌜ r ≡ allBelow (now (values .entry)) limit ⌝ }
-{
-    let mut over: u16 = 0;
-    let mut i: usize = 0;
-    while i < values.len() {
-        if values[i] >= limit {
-            over = 1;
-        }
-        i += 1;
-    }
-    over == 0
+    parts::values_below(&values, limit)
 }

@@ -1,7 +1,7 @@
 // Where a device stands in a frame, and how a data bit moves it on.
 ghost use mathlib.Core.Path.{_≡_};
 ghost use Prim.Native.Nat.{_<_, _≤_};
-ghost use Rattle.device.specs.Phases.{numbers, placeOf, phaseOf, windowOf, heard, rising, opened, opening, counting, pushed};
+ghost use Rattle.device.specs.Phases.{numbers, placeOf, phaseOf, windowOf, heard, rising, opened, opening, counting, pushed, inHeader, headed};
 use parts::Command;
 
 // A phase as numbers, as it stands in the record: 0 hunting, 1 opening, 2 counting, 3 slice, 4 passing, 5 lost. Numbers that a phase does
@@ -118,7 +118,8 @@ pub fn push(value: u16, bit: u8, below: u16) -> u16
     (((value as u32) * 2 + (bit as u32)) % (below as u32)) as u16
 }
 
-fn window_of(phase: Phase) -> u8
+// The bits of the low clocks since the last high one: none in any other phase than hunting.
+pub fn window_of(phase: Phase) -> u8
     ensures { λ r. ⌜ r ≡ windowOf phase ⌝ }
 {
     match phase {
@@ -147,7 +148,7 @@ pub fn hear(phase: Phase, bit: u8) -> Phase
 }
 
 // High load while hunting: after SYNC this is the first command bit.
-pub fn rise(window: u8, bit: u8) -> Phase
+fn rise(window: u8, bit: u8) -> Phase
     ensures { λ r. ⌜ r ≡ rising window bit ⌝ }
 {
     if window == 0xE8 {
@@ -189,7 +190,7 @@ fn open(pairs: u32) -> Phase
 }
 
 // One more command bit.
-pub fn more_command(read: u16, bit: u8) -> Phase
+fn more_command(read: u16, bit: u8) -> Phase
     ensures { λ r. ⌜ r ≡ opening read bit ⌝ }
 {
     let next = (read as u32) * 2 + (bit as u32);
@@ -201,7 +202,7 @@ pub fn more_command(read: u16, bit: u8) -> Phase
 }
 
 // One more count bit.
-pub fn more_count(command: Command, read: u16, bit: u8) -> Phase
+fn more_count(command: Command, read: u16, bit: u8) -> Phase
     ensures { λ r. ⌜ r ≡ counting command read bit ⌝ }
 {
     let next = (read as u32) * 2 + (bit as u32);
@@ -216,5 +217,48 @@ pub fn more_count(command: Command, read: u16, bit: u8) -> Phase
             count: (next % 1024) as u16,
             taken: 0,
         }
+    }
+}
+
+// A device that looks for a header, or reads one.
+pub fn in_header(phase: Phase) -> bool
+    ensures { λ r. ⌜ r ≡ inHeader phase ⌝ }
+{
+    match phase {
+        Phase::Hunting { window: _ } => true,
+        Phase::Opening { read: _ } => true,
+        Phase::Counting {
+            command: _,
+            read: _,
+        } => true,
+        Phase::Slice {
+            command: _,
+            count: _,
+            taken: _,
+        } => false,
+        Phase::Passing => false,
+        Phase::Lost => false,
+    }
+}
+
+// One bit at high load, to such a device. Any other phase stays.
+pub fn header_bit(phase: Phase, bit: u8) -> Phase
+    ensures { λ r. ⌜ r ≡ headed phase bit ⌝ }
+{
+    match phase {
+        Phase::Hunting { window } => rise(window, bit),
+        Phase::Opening { read } => more_command(read, bit),
+        Phase::Counting { command, read } => more_count(command, read, bit),
+        Phase::Slice {
+            command,
+            count,
+            taken,
+        } => Phase::Slice {
+            command: command,
+            count: count,
+            taken: taken,
+        },
+        Phase::Passing => Phase::Passing,
+        Phase::Lost => Phase::Lost,
     }
 }

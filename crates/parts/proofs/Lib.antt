@@ -1,4 +1,5 @@
--- Laws of refusals, of tables, and of the parts and their slices.
+-- Laws of refusals, of tables, of tests of lists, and of the parts and their slices.
 pub mod Rows
 pub mod Table
+pub mod Tests
 pub mod Laws

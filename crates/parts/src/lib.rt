@@ -1,6 +1,7 @@
 // The parts, the four commands and the slices. What they mean is in specs/Parts; what is common to all refusals is in specs/Refusals,
 // and frames as bits and as line states are in specs/Wire.
 mod command;
+mod lists;
 mod part;
 mod slices;
 
@@ -8,6 +9,8 @@ pub use command::Command;
 pub use command::command_of;
 pub use command::number_of;
 pub use command::pairs_of;
+pub use lists::bytes_below;
+pub use lists::values_below;
 pub use part::Constants;
 pub use part::Max6974;
 pub use part::Max6975;

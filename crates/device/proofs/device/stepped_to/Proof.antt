@@ -1,9 +1,6 @@
 use borrow.Author.Needs.{needs}
 use Rattle.device.proofs.device.stepped_to.Statement.{statement}
 use Rattle.device.proofs.device.stepped_to.Tie as tie
-use Rattle.device.proofs.device.stepped_to.Reads as reads
-use Rattle.device.proofs.device.stepped_to.Lts as lts
-use Rattle.device.proofs.phase.place_of.Reads as place-of-reads
 
 place-of-requires : tie.Need-place-of-requires
 place-of-requires c κs = search needs

@@ -1,8 +1,6 @@
 use borrow.Author.Tests.{lt-ltb, le-ltb}
 use Rattle.device.proofs.judgement.flags_fit.Statement.{statement}
 use Rattle.device.proofs.judgement.flags_fit.Tie as tie
-use Rattle.device.proofs.judgement.flags_fit.Reads as reads
-use Rattle.device.proofs.judgement.flags_fit.Lts as lts
 
 returns : tie.Need-returns
 returns c = rw (lt-ltb _ _ (c .before .if1 .taken))

@@ -3,10 +3,6 @@ use mathlib.Core.Path.{sym, _∙_}
 use borrow.Author.Needs.{needs}
 use Rattle.device.proofs.judgement.judge.Statement.{statement}
 use Rattle.device.proofs.judgement.judge.Tie as tie
-use Rattle.device.proofs.judgement.judge.Reads as reads
-use Rattle.device.proofs.judgement.judge.Lts as lts
-use Rattle.device.proofs.device.Device.fits.Reads as fits-reads
-use Rattle.parts.proofs.is_known.Reads as is-known-reads
 
 is-known-requires : tie.Need-is-known-requires
 is-known-requires c κs = search needs

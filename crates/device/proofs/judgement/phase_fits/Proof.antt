@@ -2,9 +2,6 @@ use borrow.Author.Tests.{lt-ltb, le-ltb, le-leb, lt-leb}
 use borrow.Author.Needs.{needs}
 use Rattle.device.proofs.judgement.phase_fits.Statement.{statement}
 use Rattle.device.proofs.judgement.phase_fits.Tie as tie
-use Rattle.device.proofs.judgement.phase_fits.Reads as reads
-use Rattle.device.proofs.judgement.phase_fits.Lts as lts
-use Rattle.parts.proofs.slice_bits.Reads as slice-bits-reads
 
 enum-told : tie.Need-enum-told
 enum-told c = search needs

@@ -1,8 +1,6 @@
 use borrow.Author.Tests.{eq-eqb, ne-eqb}
 use Rattle.device.proofs.judgement.same_place.Statement.{statement}
 use Rattle.device.proofs.judgement.same_place.Tie as tie
-use Rattle.device.proofs.judgement.same_place.Reads as reads
-use Rattle.device.proofs.judgement.same_place.Lts as lts
 
 returns : tie.Need-returns
 returns c = rw (ne-eqb _ _ (c .if1 .taken))

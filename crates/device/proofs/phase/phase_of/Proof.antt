@@ -2,9 +2,6 @@ use borrow.Author.Tests.{eq-eqb, ne-eqb}
 use borrow.Author.Needs.{needs}
 use Rattle.device.proofs.phase.phase_of.Statement.{statement}
 use Rattle.device.proofs.phase.phase_of.Tie as tie
-use Rattle.device.proofs.phase.phase_of.Reads as reads
-use Rattle.device.proofs.phase.phase_of.Lts as lts
-use Rattle.parts.proofs.command_of.Reads as command-of-reads
 
 cast-t6 : tie.Need-cast-t6
 cast-t6 c = search needs

@@ -1,10 +1,6 @@
 use borrow.Author.Needs.{needs}
 use Rattle.device.proofs.phase.place_of.Statement.{statement}
 use Rattle.device.proofs.phase.place_of.Tie as tie
-use Rattle.device.proofs.phase.place_of.Reads as reads
-use Rattle.device.proofs.phase.place_of.Lts as lts
-use Rattle.device.proofs.phase.numbered.Reads as numbered-reads
-use Rattle.parts.proofs.number_of.Reads as number-of-reads
 
 enum-known-phase : tie.Need-enum-known-phase
 enum-known-phase c = search needs

@@ -2,8 +2,6 @@ use borrow.Author.Tests.{eq-eqb, ne-eqb}
 use borrow.Author.Needs.{needs}
 use Rattle.device.proofs.phase.rise.Statement.{statement}
 use Rattle.device.proofs.phase.rise.Tie as tie
-use Rattle.device.proofs.phase.rise.Reads as reads
-use Rattle.device.proofs.phase.rise.Lts as lts
 
 add-t6 : tie.Need-add-t6
 add-t6 c = search needs

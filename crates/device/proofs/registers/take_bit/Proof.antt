@@ -6,9 +6,6 @@ use native.Mathlib.Omega.{arith}
 use borrow.Author.Needs.{needs}
 use Rattle.device.proofs.registers.take_bit.Statement.{statement}
 use Rattle.device.proofs.registers.take_bit.Tie as tie
-use Rattle.device.proofs.registers.take_bit.Reads as reads
-use Rattle.device.proofs.registers.take_bit.Lts as lts
-use Rattle.device.proofs.phase.push.Reads as push-reads
 
 mul-v : tie.Need-mul-v
 mul-v c = search needs

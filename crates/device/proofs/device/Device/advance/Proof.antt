@@ -3,12 +3,6 @@ use borrow.Author.Tests.{lt-ltb, le-ltb}
 use borrow.Author.Needs.{needs}
 use Rattle.device.proofs.device.Device.advance.Statement.{statement}
 use Rattle.device.proofs.device.Device.advance.Tie as tie
-use Rattle.device.proofs.device.Device.advance.Reads as reads
-use Rattle.device.proofs.device.Device.advance.Lts as lts
-use Rattle.device.proofs.device.high.Reads as high-reads
-use Rattle.device.proofs.device.stepped_to.Reads as stepped-to-reads
-use Rattle.device.proofs.phase.hear.Reads as hear-reads
-use Rattle.device.proofs.phase.phase_of.Reads as phase-of-reads
 
 phase-of-requires : tie.Need-phase-of-requires
 phase-of-requires c κs = search needs

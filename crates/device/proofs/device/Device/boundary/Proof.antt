@@ -1,9 +1,6 @@
 use borrow.Author.Needs.{needs}
 use Rattle.device.proofs.device.Device.boundary.Statement.{statement}
 use Rattle.device.proofs.device.Device.boundary.Tie as tie
-use Rattle.device.proofs.device.Device.boundary.Reads as reads
-use Rattle.device.proofs.device.Device.boundary.Lts as lts
-use Rattle.device.proofs.registers.Registers.activate.Reads as activate-reads
 
 activate-requires : tie.Need-activate-requires
 activate-requires c κs = search needs

@@ -3,11 +3,6 @@ use mathlib.Core.Path.{sym, _∙_}
 use borrow.Author.Needs.{needs}
 use Rattle.device.proofs.device.Device.fits.Statement.{statement}
 use Rattle.device.proofs.device.Device.fits.Tie as tie
-use Rattle.device.proofs.device.Device.fits.Reads as reads
-use Rattle.device.proofs.device.Device.fits.Lts as lts
-use Rattle.device.proofs.judgement.flags_fit.Reads as flags-fit-reads
-use Rattle.device.proofs.judgement.place_fits.Reads as place-fits-reads
-use Rattle.device.proofs.judgement.values_fit.Reads as values-fit-reads
 
 place-fits-requires : tie.Need-place-fits-requires
 place-fits-requires c κs = search needs

@@ -1,10 +1,6 @@
 use borrow.Author.Needs.{needs}
 use Rattle.device.proofs.device.Device.fresh.Statement.{statement}
 use Rattle.device.proofs.device.Device.fresh.Tie as tie
-use Rattle.device.proofs.device.Device.fresh.Reads as reads
-use Rattle.device.proofs.device.Device.fresh.Lts as lts
-use Rattle.device.proofs.phase.place_of.Reads as place-of-reads
-use Rattle.device.proofs.registers.Registers.zero.Reads as zero-reads
 
 zero-requires : tie.Need-zero-requires
 zero-requires c κs = search needs

@@ -1,9 +1,6 @@
 use borrow.Author.Needs.{needs}
 use Rattle.device.proofs.device.Device.set_fault.Statement.{statement}
 use Rattle.device.proofs.device.Device.set_fault.Tie as tie
-use Rattle.device.proofs.device.Device.set_fault.Reads as reads
-use Rattle.device.proofs.device.Device.set_fault.Lts as lts
-use Rattle.device.proofs.registers.Registers.flag.Reads as flag-reads
 
 flag-requires : tie.Need-flag-requires
 flag-requires c κs = search needs

@@ -11,10 +11,6 @@ use mathlib.Core.Path.{refl}
 use borrow.Author.Needs.{needs}
 use Rattle.device.proofs.device.Device.step.Statement.{statement}
 use Rattle.device.proofs.device.Device.step.Tie as tie
-use Rattle.device.proofs.device.Device.step.Reads as reads
-use Rattle.device.proofs.device.Device.step.Lts as lts
-use Rattle.device.proofs.device.Device.advance.Reads as advance-reads
-use Rattle.device.proofs.judgement.judge.Reads as judge-reads
 
 judge-requires : tie.Need-judge-requires
 judge-requires c κs = search needs

@@ -1,8 +1,6 @@
 use borrow.Author.Tests.{eq-eqb, ne-eqb}
 use Rattle.device.proofs.registers.Registers.flag.Statement.{statement}
 use Rattle.device.proofs.registers.Registers.flag.Tie as tie
-use Rattle.device.proofs.registers.Registers.flag.Reads as reads
-use Rattle.device.proofs.registers.Registers.flag.Lts as lts
 
 returns : tie.Need-returns
 returns c = rw (eq-eqb _ _ (c .if1 .taken))

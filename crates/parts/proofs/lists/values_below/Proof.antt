@@ -1,18 +1,18 @@
-use Rattle.device.proofs.Lists.{by-way, below-from, and-false, and-true}
-use mathlib.Core.Bool.{_&&_}
-use Rattle.device.specs.Judgement.{allBelow}
+use Rattle.parts.specs.Lists.{allBelow}
+use Rattle.parts.proofs.Tests.{by-way, allBelow-drop, and-false, and-true}
 use borrow.Author.Tests.{lt-ltb, le-ltb}
 use borrow.Author.Needs.{needs}
 use lib.ListN.{length, drop, drop-of-length-le}
 use lib.Dec.{eqb}
+use mathlib.Core.Bool.{_&&_}
 use mathlib.Core.Path.{_≡_, refl}
 use Prim.Native.Nat.{_≤_, _-_}
-use Rattle.device.proofs.judgement.all_below.Statement.{statement}
-use Rattle.device.proofs.judgement.all_below.Tie as tie
+use Rattle.parts.proofs.lists.values_below.Statement.{statement}
+use Rattle.parts.proofs.lists.values_below.Tie as tie
 
 abbrev Inv-loop : tie.InvT-loop
 Inv-loop values limit over₀ i₀ over i =
-    (i ≤ length values) × (allBelow values limit ≡ eqb over 0 && allBelow (drop i values) limit)
+    (i ≤ length values) × (allBelow values limit ≡ (eqb over 0 && allBelow (drop i values) limit))
 
 abbrev μ-loop : tie.MeasureT-loop
 μ-loop values limit over₀ i₀ over i = length values - i
@@ -36,23 +36,14 @@ loop-again : tie.Need-loop-again Inv-loop μ-loop
 loop-again c = let t = c .before .before in (
   search needs,
   by-way (c .if1 .came)
-      (λ w. rw (t .before .loop .inv .1, below-from _ _ _ (t .loop-test .taken), le-ltb _ _ (w .0 .taken), and-false, w .1))
-      (λ w. rw (t .before .loop .inv .1, below-from _ _ _ (t .loop-test .taken), lt-ltb _ _ (w .0 .left), w .1)),
+      (λ w. rw (t .before .loop .inv .1, allBelow-drop _ _ _ (t .loop-test .taken), le-ltb _ _ (w .0 .taken), and-false, w .1))
+      (λ w. rw (t .before .loop .inv .1, allBelow-drop _ _ _ (t .loop-test .taken), lt-ltb _ _ (w .0 .left), w .1)),
 )
 
 returns : tie.Need-returns Inv-loop μ-loop
 returns c = rw (c .before .loop .inv .1, drop-of-length-le _ (c .loop-test .left), and-true)
 
-pub all-below-spec : {M : Type 1} → statement M
-all-below-spec =
+pub values-below-spec : {M : Type 1} → statement M
+values-below-spec =
     tie.close
-    (tie.spec
-    Inv-loop
-    μ-loop
-    loop-holds
-    mul-if1
-    shared-slice-read-if1
-    add-i
-    loop-less
-    loop-again
-    returns)
+    (tie.spec Inv-loop μ-loop loop-holds mul-if1 shared-slice-read-if1 add-i loop-less loop-again returns)

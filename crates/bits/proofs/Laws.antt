@@ -5,13 +5,14 @@ use mathlib.Core.Path.{_≡_, refl, sym, ap, ap₂, _∙_, subst}
 use mathlib.Core.Bool.{Bool, true, false}
 use mathlib.Core.List.{List, [], _∷_, _++_, append-assoc, append-nil}
 use Prim.Native.Nat.{ℕ, zero, suc, _+_, _-_, _*_, _/_, _%_, _^_, _≤_, _<_}
-use native.Mathlib.Nat.{zero-add, suc-add, add-comm, add-assoc, add-mul, mul-assoc, mod-lt, mod-eq-of-lt, suc-mul, zero-mul, pow-suc, zero-div, mul-comm, mod-one, lt-of-lt-of-le}
+use native.Mathlib.Nat.{zero-add, add-zero, mul-mod-left, suc-add, add-comm, add-assoc, add-mul, mul-assoc, mod-lt, mod-eq-of-lt, suc-mul, zero-mul, pow-suc, zero-div, mul-comm, mod-one, lt-of-lt-of-le}
 use native.Mathlib.Numerals.{one-add}
 use native.Mathlib.Omega.{arith}
 use lib.ListN.{length, getD, take, drop, replicate, length-append, length-replicate, length-take, length-drop, take-append-drop}
 use lib.Seq.{take-at, drop-at, take-add, take-append-add, drop-append-add, length-take-le, take-length, take-append-seam, drop-append-seam, drop-drop}
 use lib.Arith.{digits-lt}
-use lib.Pow.{pow-add, pow-pos, pow-mono, shr-shr, high, low, field, mod-mod-pow, mod-pow-add}
+use lib.Bits.{bitOr, or-shifted}
+use lib.Pow.{pow-add, pow-pos, pow-mono, shr-shr, shl-shr, high, low, field, mod-mod-pow, mod-pow-add}
 use Rattle.bits.specs.Bits.{isOne, digit, bits, number, fields, split, padded, bytesOf, bytesFor, over, overAt}
 
 -- ---- a number's bits
@@ -40,9 +41,12 @@ bits-mod (suc w) j v =
     (ap (λ (x : ℕ). x % 2) (field v (j + 1) w) ∙ mod-mod-pow (v / 2 ^ w) j 1)
     (bits-mod w (j + 1) v)
 
+pub bits-mod-self : (w v : ℕ) → bits w (v % 2 ^ w) ≡ bits w v
+bits-mod-self w v = ap (λ (n : ℕ). bits w (v % 2 ^ n)) (sym (zero-add w)) ∙ bits-mod w 0 v
+
 pub bits-low : (w hi : ℕ) {lo : ℕ} → lo < 2 ^ w → bits w (hi * 2 ^ w + lo) ≡ bits w lo
 bits-low w hi {lo} h =
-    sym (bits-mod w 0 (hi * 2 ^ w + lo)) ∙ ap (λ (n : ℕ). bits w ((hi * 2 ^ w + lo) % 2 ^ n)) (zero-add w) ∙ ap (bits w) (low hi w h)
+    sym (bits-mod-self w (hi * 2 ^ w + lo)) ∙ ap (bits w) (low hi w h)
 
 pub bits-append : (a b x y : ℕ) → y < 2 ^ b → bits (a + b) (x * 2 ^ b + y) ≡ bits a x ++ bits b y
 bits-append a b x y h = bits-add a b (x * 2 ^ b + y) ∙ ap₂ (λ (n : ℕ) (r : List Bool). bits a n ++ r) (high x b h) (bits-low b x h)
@@ -51,6 +55,20 @@ pub bits-zero : (w : ℕ) → bits w 0 ≡ replicate w false
 unfolding bits
 bits-zero zero = refl
 bits-zero (suc w) = ap₂ (λ (x : ℕ) (r : List Bool). isOne (x % 2) ∷ r) (zero-div (2 ^ w)) (bits-zero w)
+
+-- a push into an accumulator, `(a << k) | v`, at a word of m + h + k bits, of whose low bits h matter
+pub bits-push : (m h k a v : ℕ) → v < 2 ^ k → bits (h + k) (bitOr ((a * 2 ^ k) % 2 ^ (m + h + k)) v) ≡ bits h a ++ bits k v
+bits-push m h k a v l =
+    ap (λ (x : ℕ). bits (h + k) (bitOr x v)) shifted
+    ∙ ap (bits (h + k)) (or-shifted (a % 2 ^ (m + h)) k v l)
+    ∙ bits-append h k (a % 2 ^ (m + h)) v l
+    ∙ ap (λ (r : List Bool). r ++ bits k v) (bits-mod h m a)
+  where
+    shifted : (a * 2 ^ k) % 2 ^ (m + h + k) ≡ (a % 2 ^ (m + h)) * 2 ^ k
+    shifted =
+        mod-pow-add (a * 2 ^ k) (m + h) k
+        ∙ ap₂ (λ (x y : ℕ). (x % 2 ^ (m + h)) * 2 ^ k + y) (shl-shr a k) (mul-mod-left a (2 ^ k))
+        ∙ add-zero ((a % 2 ^ (m + h)) * 2 ^ k)
 
 -- ---- bits as a number
 

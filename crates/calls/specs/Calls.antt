@@ -9,7 +9,7 @@ use Rattle.bits.specs.Bits.{digit, over}
 use Rattle.parts.specs.Parts.{known}
 use Rattle.parts.specs.Refusals.{Row, _when_, first, content}
 use Rattle.device.specs.Step.{freshDevice, bounded, faulted}
-use Rattle.device.specs.Judgement.{allBelow}
+use Rattle.parts.specs.Lists.{allBelow}
 use Rattle.device.specs.declared.device.Device.{Device}
 use Rattle.calls.specs.Chain.{through, allKnown, sameParts, allFit, isCount, blank}
 

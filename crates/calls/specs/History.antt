@@ -1,31 +1,32 @@
--- Lists of calls on one lent chain: what each leaves, the states that the accepted runs were given, joined, and those that they returned.
+-- Lists of calls on one lent chain: what each leaves, the states that the accepted runs were given, joined, and those that they wrote into
+-- the room that each was lent.
 use Prim.Native.Nat.{ℕ}
 use mathlib.Core.Path.{_≡_}
 use mathlib.Core.Bool.{Bool}
 use mathlib.Core.List.{List, [], _∷_, _++_}
+use lib.ListN.{length, take}
 use Rattle.parts.specs.Refusals.{content}
 use Rattle.device.specs.declared.device.Device.{Device}
-use Rattle.calls.specs.Calls.{freshRefusal, freshAfter, runRefusal, runAfter, returned, boundaryRefusal, boundaryAfter, faultRefusal, faultAfter}
-use lib.ListN.{length}
+use Rattle.calls.specs.Calls.{freshRefusal, freshAfter, runRefusal, runAfter, runRoom, returned, boundaryRefusal, boundaryAfter, faultRefusal, faultAfter}
 
--- fresh: the part. run: states, and the length of the room. fault: device, kind, flag
+-- fresh: the part. run: states, and the lent room as it is. fault: device, kind, flag
 pub data Call : Type 0 where
   fresh : ℕ → Call
-  run : List ℕ → ℕ → Call
+  run : List ℕ → List ℕ → Call
   boundary : Call
   fault : ℕ → ℕ → Bool → Call
 
 -- the number under which a call is refused, or 0
 unfoldable pub refusalOf : List Device → Call → ℕ
 refusalOf ds (fresh part) = freshRefusal part (length ds)
-refusalOf ds (run ss room) = runRefusal ds ss room
+refusalOf ds (run ss out) = runRefusal ds ss (length out)
 refusalOf ds boundary = boundaryRefusal ds
 refusalOf ds (fault device kind flag) = faultRefusal ds device kind
 
 -- the records that a call leaves
 unfoldable pub after : List Device → Call → List Device
 after ds (fresh part) = freshAfter part ds
-after ds (run ss room) = runAfter ds ss room
+after ds (run ss out) = runAfter ds ss (length out)
 after ds boundary = boundaryAfter ds
 after ds (fault device kind flag) = faultAfter ds device kind flag
 
@@ -36,14 +37,14 @@ afterCalls ds (c ∷ cs) = afterCalls (after ds c) cs
 -- the states that an accepted run is given
 abbrev pub given : List Device → Call → List ℕ
 given ds (fresh part) = []
-given ds (run ss room) = content (runRefusal ds ss room) [] ss
+given ds (run ss out) = content (runRefusal ds ss (length out)) [] ss
 given ds boundary = []
 given ds (fault device kind flag) = []
 
--- the states that it returns: those that it writes into the lent room
+-- the states that it returns: as many as it answers, from the front of the lent room
 abbrev pub answered : List Device → Call → List ℕ
 answered ds (fresh part) = []
-answered ds (run ss room) = content (runRefusal ds ss room) [] (returned ds ss)
+answered ds (run ss out) = content (runRefusal ds ss (length out)) [] (take (length (returned ds ss)) (runRoom ds ss out))
 answered ds boundary = []
 answered ds (fault device kind flag) = []
 
@@ -59,7 +60,7 @@ answers ds (c ∷ cs) = answered ds c ++ answers (after ds c) cs
 -- each call of a list is a run, or is refused where it stands
 abbrev pub RunOrRefused : List Device → Call → Type 0
 RunOrRefused ds (fresh part) = refusalOf ds (fresh part) ≡ 0 → ⊥
-RunOrRefused ds (run ss room) = Unit {0}
+RunOrRefused ds (run ss out) = Unit {0}
 RunOrRefused ds boundary = refusalOf ds boundary ≡ 0 → ⊥
 RunOrRefused ds (fault device kind flag) = refusalOf ds (fault device kind flag) ≡ 0 → ⊥
 

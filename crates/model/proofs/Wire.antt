@@ -1,0 +1,76 @@
+-- Laws of headers, frames and line states: a frame's states are its header's and then the slices and the tail at high load; document 01's
+-- numbers of line states are the line states. By computing SYNC and the command bits. Assumes nothing.
+use mathlib.Core.Path.{_≡_, refl, ap, _∙_}
+use mathlib.Core.Bool.{Bool, true, false}
+use mathlib.Core.List.{List, [], _∷_, _++_, map, flatten, append-assoc, map-append}
+use Prim.Native.Nat.{ℕ, zero, suc, _<_}
+use native.Mathlib.Omega.{arith}
+use lib.ListN.{length, length-map, length-append, take, drop, take-append-drop}
+use Rattle.bits.specs.Bits.{bits}
+use Rattle.bits.proofs.Laws.{length-bits}
+use Rattle.parts.specs.Parts.{code}
+use Rattle.parts.specs.Wire.{Line, low, high, dataBit, stateOf, lineOf, lows, highs, sync, commandCount, header, frame, returnOf, clocked}
+use Rattle.parts.specs.declared.command.Command.{Command}
+use Rattle.model.specs.Device.{headerStates, frameStates}
+
+-- C1 C0 three times
+abbrev pub pairs : Command → List Bool
+pairs c = bits 2 (code c) ++ (bits 2 (code c) ++ bits 2 (code c))
+
+sync-clocked : (bs : List Bool) → clocked (sync ++ bs) ≡ lows sync ++ highs bs
+unfolding clocked bits
+sync-clocked bs = refl
+
+count-pairs : (c : Command) (n : ℕ) → commandCount c n ≡ pairs c ++ bits 10 n
+unfolding commandCount
+count-pairs c n = rw (append-assoc, append-assoc)
+
+pub header-states : (c : Command) (n : ℕ) → headerStates c n ≡ lows sync ++ highs (pairs c ++ bits 10 n)
+unfolding headerStates header
+header-states c n = rw (sync-clocked (commandCount c n), count-pairs c n)
+
+pub frame-states : (c : Command) (n : ℕ) (ss : List (List Bool)) (tail : List Bool) → frameStates c n ss tail ≡ headerStates c n ++ highs (flatten ss ++ tail)
+unfolding headerStates frameStates header frame
+frame-states c n ss tail =
+    ap clocked (append-assoc sync (commandCount c n) (flatten ss ++ tail)) ∙ sync-clocked (commandCount c n ++ (flatten ss ++ tail))
+    ∙ rw (sync-clocked (commandCount c n), map-append high (commandCount c n) (flatten ss ++ tail), append-assoc)
+
+pub length-headerStates : (c : Command) (n : ℕ) → length (headerStates c n) ≡ 24
+length-headerStates c n = rw (header-states, length-append, length-map, length-map, length-append, length-append, length-append, length-bits, length-bits, length-bits)
+
+-- ---- data bits
+
+pub bits-lows : (bs : List Bool) → map dataBit (lows bs) ≡ bs
+bits-lows [] = refl
+bits-lows (b ∷ bs) = rw (bits-lows bs)
+
+pub bits-highs : (bs : List Bool) → map dataBit (highs bs) ≡ bs
+bits-highs [] = refl
+bits-highs (b ∷ bs) = rw (bits-highs bs)
+
+pub bits-clocked : (bs : List Bool) → map dataBit (clocked bs) ≡ bs
+unfolding clocked
+bits-clocked bs = map-append dataBit (lows (take 8 bs)) (highs (drop 8 bs)) ∙ rw (bits-lows, bits-highs, take-append-drop)
+
+pub bits-return : (c : Command) (n : ℕ) (tail : List Bool) → map dataBit (frameStates c n [] tail) ≡ returnOf c n tail
+unfolding frameStates flatten
+bits-return c n tail = bits-clocked (frame c n [] tail)
+
+-- ---- document 01's numbers
+
+pub line-state : (l : Line) → lineOf (stateOf l) ≡ l
+line-state (low false) = refl
+line-state (low true) = refl
+line-state (high false) = refl
+line-state (high true) = refl
+
+pub state-line : (s : ℕ) → s < 4 → stateOf (lineOf s) ≡ s
+state-line zero h = refl
+state-line (suc zero) h = refl
+state-line (suc (suc zero)) h = refl
+state-line (suc (suc (suc zero))) h = refl
+state-line (suc (suc (suc (suc s)))) h = omega arith
+
+pub lines-states : (ls : List Line) → map lineOf (map stateOf ls) ≡ ls
+lines-states [] = refl
+lines-states (l ∷ ls) = rw (line-state l, lines-states ls)

@@ -1,0 +1,220 @@
+-- One device, clock by clock, and a chain of them. Document 01, "One device, clock by clock": registers and a phase, for any part's row.
+use Prim.Native.Nat.{ℕ, zero, suc, pred, _+_, _*_, _%_}
+use mathlib.Core.Bool.{Bool, true, false, _&&_, cond}
+use mathlib.Core.List.{List, [], _∷_, _++_, map, flatten}
+use lib.Dec.{eqb}
+use Rattle.bits.specs.Bits.{digit, number, split}
+use Rattle.parts.specs.Parts.{Part, multiplex, sliceFields, sliceBits}
+use Rattle.parts.specs.Wire.{Line, low, high, header, frame, clocked}
+use Rattle.parts.specs.declared.command.Command.{Command}
+use Rattle.parts.specs.declared.command.Command.the-variants.{Individual, Calibration, Global, Configuration}
+use Rattle.model.specs.Run.{run, chain}
+
+-- what waits for a frame boundary and becomes active there
+pub record Values : Type 0 where
+  pub global : ℕ
+  pub mux0 : List ℕ
+  pub mux1 : List ℕ
+
+-- what a device holds: its part's row, its registers, its two fault flags
+pub record Registers : Type 0 where
+  pub part : Part
+  pub configuration : ℕ
+  pub calibration : List ℕ
+  pub waiting : Values
+  pub active : Values
+  pub overtemperature : Bool
+  pub openled : Bool
+
+-- what is being collected: the six command bits, the ten count bits, or a slice of a frame whose command and count are known
+pub data Field : Type 0 where
+  command : Field
+  count : Command → Field
+  slice : Command → ℕ → Field
+
+-- hunting: the last eight bits seen at low load since the last high clock, as a number
+-- taking f n got: the bits got so far, and n more after the next
+pub data Phase : Type 0 where
+  hunting : ℕ → Phase
+  lost : Phase
+  taking : Field → ℕ → List Bool → Phase
+  passing : Phase
+
+pub record Device : Type 0 where
+  pub registers : Registers
+  pub phase : Phase
+
+abbrev pub at : Registers → Phase → Device
+at r p = record { registers = r; phase = p }
+
+-- configuration bit D0 is 1
+abbrev pub multiplexed : ℕ → Bool
+multiplexed configuration = eqb (multiplex configuration) 1
+
+-- bits in a device's slice of a frame
+unfoldable pub sliceLength : Registers → Command → ℕ
+sliceLength r c = sliceBits (r .part) c (multiplex (r .configuration))
+
+-- ---- storing
+
+-- every other one, from the first, and from the second
+abbrev pub evens : List ℕ → List ℕ
+evens [] = []
+evens (x ∷ []) = x ∷ []
+evens (x ∷ y ∷ r) = x ∷ evens r
+
+abbrev pub odds : List ℕ → List ℕ
+odds [] = []
+odds (x ∷ []) = []
+odds (x ∷ y ∷ r) = y ∷ odds r
+
+-- all bytes are one
+abbrev pub alike : ℕ → List ℕ → Bool
+alike a [] = true
+alike a (b ∷ bs) = eqb a b && alike a bs
+
+-- copies of one byte, or the old one where they differ
+abbrev pub agreed : List ℕ → ℕ → ℕ
+agreed [] old = old
+agreed (a ∷ bs) old = cond (alike a bs) a old
+
+abbrev pub withConfiguration : ℕ → Registers → Registers
+withConfiguration v r = record {
+  part = r .part;
+  configuration = v;
+  calibration = r .calibration;
+  waiting = r .waiting;
+  active = r .active;
+  overtemperature = r .overtemperature;
+  openled = r .openled;
+}
+
+abbrev pub withCalibration : List ℕ → Registers → Registers
+withCalibration v r = record {
+  part = r .part;
+  configuration = r .configuration;
+  calibration = v;
+  waiting = r .waiting;
+  active = r .active;
+  overtemperature = r .overtemperature;
+  openled = r .openled;
+}
+
+abbrev pub withWaiting : Values → Registers → Registers
+withWaiting v r = record {
+  part = r .part;
+  configuration = r .configuration;
+  calibration = r .calibration;
+  waiting = v;
+  active = r .active;
+  overtemperature = r .overtemperature;
+  openled = r .openled;
+}
+
+abbrev pub withGlobal : ℕ → Values → Values
+withGlobal g v = record { global = g; mux0 = v .mux0; mux1 = v .mux1 }
+
+-- individual values, in wire order: a nonmultiplexed load leaves MUX1 as it was
+abbrev pub withIndividual : Bool → List ℕ → Values → Values
+withIndividual true vs v = record { global = v .global; mux0 = evens vs; mux1 = odds vs }
+withIndividual false vs v = record { global = v .global; mux0 = vs; mux1 = v .mux1 }
+
+-- the bytes of a slice of bytes
+abbrev pub bytesIn : List Bool → Registers → List ℕ
+bytesIn bs r = split 8 (r .part .banks) bs
+
+-- the values of a slice of individual values
+abbrev pub valuesIn : List Bool → Registers → List ℕ
+valuesIn bs r = split (r .part .width) (sliceFields (r .part) Individual (multiplex (r .configuration))) bs
+
+-- a slice, stored
+unfoldable pub load : Command → List Bool → Registers → Registers
+load Individual bs r = withWaiting (withIndividual (multiplexed (r .configuration)) (valuesIn bs r) (r .waiting)) r
+load Calibration bs r = withCalibration (bytesIn bs r) r
+load Global bs r = withWaiting (withGlobal (agreed (bytesIn bs r) (r .waiting .global)) (r .waiting)) r
+load Configuration bs r = withConfiguration (agreed (bytesIn bs r) (r .configuration)) r
+
+-- a frame boundary
+unfoldable pub activated : Registers → Registers
+activated r = record {
+  part = r .part;
+  configuration = r .configuration;
+  calibration = r .calibration;
+  waiting = r .waiting;
+  active = r .waiting;
+  overtemperature = r .overtemperature;
+  openled = r .openled;
+}
+
+-- ---- one clock
+
+-- the fault of a frame's kind
+unfoldable pub fault : Command → Registers → Bool
+fault Individual r = r .overtemperature
+fault Calibration r = r .openled
+fault Global r = r .overtemperature
+fault Configuration r = r .openled
+
+-- the count that is sent on
+abbrev pub counted : ℕ → Bool → ℕ
+counted n f = (n + digit f) % 1024
+
+-- the window: empty after a high clock
+abbrev pub window : Phase → ℕ
+window (hunting w) = w
+window lost = 0
+window (taking f n got) = 0
+window passing = 0
+
+-- after the sixth command bit: three equal pairs name the command, and the device is lost otherwise
+abbrev pub named : ℕ → Phase
+named n =
+    cond (eqb n 0) (taking (count Individual) 9 [])
+    (cond (eqb n 21) (taking (count Calibration) 9 [])
+    (cond (eqb n 42) (taking (count Global) 9 [])
+    (cond (eqb n 63) (taking (count Configuration) 9 []) lost)))
+
+-- the states of a header, and of a frame with these slices: SYNC at low load and the rest at high
+unfoldable pub headerStates : Command → ℕ → List Line
+headerStates c n = clocked (header c n)
+
+unfoldable pub frameStates : Command → ℕ → List (List Bool) → List Bool → List Line
+frameStates c n slices tail = clocked (frame c n (flatten slices) tail)
+
+-- the last bit of a field has come
+abbrev pub finish : Registers → Field → List Bool → Device × List Line
+finish r command bs = (at r (named (number bs)), [])
+finish r (count c) bs = (at r (taking (slice c (number bs)) (pred (sliceLength r c)) []), [])
+finish r (slice c n) bs = (at (load c bs r) passing, headerStates c (counted n (fault c r)))
+
+-- one line state
+abbrev pub stepFrom : Registers → Phase → Line → Device × List Line
+stepFrom r p (low b) = (at r (hunting ((window p * 2 + digit b) % 256)), [])
+stepFrom r (hunting w) (high b) = (at r (cond (eqb w 0xE8) (taking command 4 (b ∷ [])) lost), [])
+stepFrom r lost (high b) = (at r lost, [])
+stepFrom r (taking f zero got) (high b) = finish r f (got ++ b ∷ [])
+stepFrom r (taking f (suc n) got) (high b) = (at r (taking f n (got ++ b ∷ [])), [])
+stepFrom r passing (high b) = (at r passing, high b ∷ [])
+
+unfoldable pub stepDevice : Device → Line → Device × List Line
+stepDevice d l = stepFrom (d .registers) (d .phase) l
+
+-- ---- a device and a chain
+
+abbrev pub runDevice : Device → List Line → Device × List Line
+runDevice d ls = run stepDevice d ls
+
+abbrev pub runChain : List Device → List Line → List Device × List Line
+runChain ds ls = chain stepDevice ds ls
+
+-- a frame boundary, for the whole chain
+unfoldable pub boundary : List Device → List Device
+boundary ds = map (λ d. at (activated (d .registers)) (d .phase)) ds
+
+abbrev pub registersIn : List Device → List Registers
+registersIn ds = map (λ d. d .registers) ds
+
+-- how many report the fault of a frame's kind
+unfoldable pub faults : Command → List Registers → ℕ
+faults c [] = 0
+faults c (r ∷ rs) = digit (fault c r) + faults c rs

@@ -1,0 +1,77 @@
+-- A restore: the four frames of a set, each with any tail and any clocks at low load before it; what a device then holds and the chain
+-- returns; and when a slice has fully arrived. Said over any list of what is each device's own.
+use Prim.Native.Nat.{ℕ, suc, _+_}
+use mathlib.Core.Path.{_≡_}
+use mathlib.Core.Bool.{Bool, true, false, cond}
+use mathlib.Core.List.{List, [], _∷_, _++_, map, flatten}
+use lib.ListN.{length, take}
+use Rattle.parts.specs.Parts.{Part}
+use Rattle.parts.specs.Wire.{Line, lows, returnOf}
+use Rattle.parts.specs.declared.command.Command.{Command}
+use Rattle.parts.specs.declared.command.Command.the-variants.{Individual, Calibration, Global, Configuration}
+use Rattle.model.specs.Device.{Registers, multiplexed, evens, odds, frameStates, faults}
+use Rattle.model.specs.Set.{Own, sliceOf}
+
+-- the commands in restore order
+abbrev pub restoreOrder : List Command
+restoreOrder = Configuration ∷ Calibration ∷ Global ∷ Individual ∷ []
+
+-- a frame from the host, and the clocks at low load before it
+pub record Piece : Type 0 where
+  pub gap : List Bool
+  pub kind : Command
+  pub slices : List (List Bool)
+  pub tail : List Bool
+
+unfoldable pub pieceStates : Piece → List Line
+pieceStates p = lows (p .gap) ++ frameStates (p .kind) 0 (p .slices) (p .tail)
+
+module _ (w : Part) (os : List Own) (gap tail : Command → List Bool) where
+  -- the frame of a command
+  abbrev pub pieceOf : Command → Piece
+  pieceOf c = record { gap = gap c; kind = c; slices = map (sliceOf w c) os; tail = tail c }
+
+  unfoldable pub piecesOf : List Piece
+  piecesOf = map pieceOf restoreOrder
+
+  -- all the states of a restore
+  abbrev pub restoreStates : List Line
+  restoreStates = flatten (map pieceStates piecesOf)
+
+  -- how many states come before a frame's own
+  abbrev pub before : Command → ℕ
+  before Configuration = 0
+  before Calibration = length (pieceStates (pieceOf Configuration))
+  before Global = length (pieceStates (pieceOf Configuration)) + length (pieceStates (pieceOf Calibration))
+  before Individual =
+      length (pieceStates (pieceOf Configuration)) + length (pieceStates (pieceOf Calibration)) + length (pieceStates (pieceOf Global))
+
+  -- how many states give the frame's header and the slices of the devices up to place i, from 0
+  abbrev pub arrival : Command → ℕ → ℕ
+  arrival c i = before c + (length (gap c) + (24 + length (flatten (take (suc i) (map (sliceOf w c) os)))))
+
+-- the four returns of a chain with these registers
+abbrev pub returnsOf : (Command → List Bool) → List Registers → List (List Bool)
+returnsOf tail rs = map (λ c. returnOf c (faults c rs) (tail c)) restoreOrder
+
+-- the values that are in use: MUX1 only while D0 is 1
+abbrev pub InUse : Bool → List ℕ → List ℕ → List ℕ → Type 0
+InUse true vs mux0 mux1 = (mux0 ≡ evens vs) × (mux1 ≡ odds vs)
+InUse false vs mux0 mux1 = mux0 ≡ vs
+
+-- the registers in use hold the values of the device's own slices
+pub record Holds (o : Own) (r : Registers) : Type 0 where
+  pub configuration : r .configuration ≡ o .configuration
+  pub calibration : r .calibration ≡ o .calibration
+  pub global : r .active .global ≡ o .global
+  pub individual : InUse (multiplexed (o .configuration)) (o .individual) (r .active .mux0) (r .active .mux1)
+
+-- what a cut leaves in one device, by which of its four slices had fully arrived: each group new or old
+pub record CutFields (b1 b2 b3 b4 : Bool) (o : Own) (old new : Registers) : Type 0 where
+  pub part : new .part ≡ old .part
+  pub configuration : new .configuration ≡ cond b1 (o .configuration) (old .configuration)
+  pub calibration : new .calibration ≡ cond b2 (o .calibration) (old .calibration)
+  pub global : new .waiting .global ≡ cond b3 (o .global) (old .waiting .global)
+  pub mux0 : new .waiting .mux0 ≡ cond b4 (cond (multiplexed (o .configuration)) (evens (o .individual)) (o .individual)) (old .waiting .mux0)
+  pub mux1 : new .waiting .mux1 ≡ cond b4 (cond (multiplexed (o .configuration)) (odds (o .individual)) (old .waiting .mux1)) (old .waiting .mux1)
+  pub active : new .active ≡ old .active

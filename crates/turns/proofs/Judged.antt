@@ -11,7 +11,8 @@ use lib.ListN.{length, getD, take}
 use borrow.Author.Tests.{ltb-true, ltb-false, lt-ltb, le-ltb}
 use Rattle.parts.specs.Parts.{known}
 use Rattle.parts.specs.Refusals.{Row, _when_, first}
-use Rattle.device.specs.Judgement.{fits, allBelow}
+use Rattle.parts.specs.Lists.{allBelow}
+use Rattle.device.specs.Judgement.{fits}
 use Rattle.device.specs.declared.device.Device.{Device}
 use Rattle.calls.specs.Chain.{every, allKnown, hasPart, sameParts, allFit, isCount, blank}
 use Rattle.calls.specs.Calls.{roomFor, chainRows, freshTable, freshRefusal, runRefusal, boundaryRefusal, faultRefusal}

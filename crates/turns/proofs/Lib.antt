@@ -4,6 +4,7 @@ pub mod Lines
 pub mod Header
 pub mod Taking
 pub mod Turns
+pub mod Resuming
 pub mod Same
 pub mod Room
 pub mod Whole

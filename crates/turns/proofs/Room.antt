@@ -29,7 +29,7 @@ use Rattle.device.specs.declared.registers.Registers.{Registers}
 use Rattle.device.specs.declared.device.Device.{Device}
 use Rattle.device.specs.declared.device.Stepped.{Stepped}
 use Rattle.device.proofs.Fields.{field-width-pos}
-use Rattle.device.proofs.Kept.{and-true}
+use Rattle.device.proofs.Places.{and-both}
 use Rattle.calls.specs.Chain.{through, allFit, isCount}
 use Rattle.calls.specs.Calls.{runTable, runRefusal}
 use Rattle.turns.specs.Front.{isPassing, passes}
@@ -165,14 +165,14 @@ low-through (d ∷ ds) xs h = let t : Tame xs (run d xs .1) = tame d xs h in ome
 -- a slice of which a bit is left to come
 place-credit : (d : Device) → fits d ≡ true → credit (d .registers) (phaseOf (d .place)) ≤ 23
 place-credit d h =
-    let p : placeFits (d .place) (d .registers) ≡ true = and-true (placeFits (d .place) (d .registers)) (flagsFit (d .registers) && valuesFit (d .registers)) h .0 in
-    phase-credit (d .registers) (phaseOf (d .place)) (and-true (samePlace (placeOf (phaseOf (d .place))) (d .place)) (phaseFits (phaseOf (d .place)) (d .registers)) p .1)
+    let p : placeFits (d .place) (d .registers) ≡ true = and-both (placeFits (d .place) (d .registers)) (flagsFit (d .registers) && valuesFit (d .registers)) h .0 in
+    phase-credit (d .registers) (phaseOf (d .place)) (and-both (samePlace (placeOf (phaseOf (d .place))) (d .place)) (phaseFits (phaseOf (d .place)) (d .registers)) p .1)
   where
     phase-credit : (r : Registers) (p : Phase) → phaseFits p r ≡ true → credit r p ≤ 23
     phase-credit r (Hunting w) e = omega arith
     phase-credit r (Opening a) e = omega arith
     phase-credit r (Counting c a) e = omega arith
-    phase-credit r (Slice c n t) e = omega (arith, ltb-true t (sliceLength r c) (and-true (ltb n 1024) (ltb t (sliceLength r c)) e .1))
+    phase-credit r (Slice c n t) e = omega (arith, ltb-true t (sliceLength r c) (and-both (ltb n 1024) (ltb t (sliceLength r c)) e .1))
     phase-credit r Passing e = omega arith
     phase-credit r Lost e = omega arith
 
@@ -187,11 +187,11 @@ passing-credit r Lost e = omega arith
 pub surplus : (ds : List Device) (xs : List ℕ) → allFit ds ≡ true → length (through ds xs .1) ≤ length xs + 23
 unfolding through
 surplus [] xs e = omega arith
-surplus (d ∷ ds) xs e = go (surplus ds (run d xs .1) (and-true (fits d) (allFit ds) e .1)) (passes d) refl
+surplus (d ∷ ds) xs e = go (surplus ds (run d xs .1) (and-both (fits d) (allFit ds) e .1)) (passes d) refl
   where
     go : length (through ds (run d xs .1) .1) ≤ length (run d xs .1) + 23 → (u : Bool) → passes d ≡ u → length (through ds (run d xs .1) .1) ≤ length xs + 23
     go rest true h = omega (arith, rest, run-credit d xs, passing-credit (d .registers) (phaseOf (d .place)) h)
-    go rest false h = omega (arith, low-through ds (run d xs .1) (quiet-out d xs h), run-credit d xs, place-credit d (and-true (fits d) (allFit ds) e .0))
+    go rest false h = omega (arith, low-through ds (run d xs .1) (quiet-out d xs h), run-credit d xs, place-credit d (and-both (fits d) (allFit ds) e .0))
 
 -- ---- an accepted run
 
@@ -205,9 +205,9 @@ pub accepted-run : (ds : List Device) (ss : List ℕ) (room : ℕ) → eqb (runR
 unfolding runRefusal
 accepted-run ds ss room e =
     let c = clear (runTable ds ss room) refl (eqb-true (first (runTable ds ss room)) 0 e) in
-    let n : (leb 1 (length ds) ≡ true) × (leb (length ds) 1023 ≡ true) = and-true (leb 1 (length ds)) (leb (length ds) 1023) (not-no (isCount (length ds)) (c .1 .0)) in
+    let n : (leb 1 (length ds) ≡ true) × (leb (length ds) 1023 ≡ true) = and-both (leb 1 (length ds)) (leb (length ds) 1023) (not-no (isCount (length ds)) (c .1 .0)) in
     let l : length ds ≤ 1023 = leb-true (length ds) 1023 (n .1) in
-    let f : (allBelow ss 4 ≡ true) × (allFit ds ≡ true) = and-true (allBelow ss 4) (allFit ds) (not-no (allBelow ss 4 && allFit ds) (c .1 .1 .1 .1 .0)) in
+    let f : (allBelow ss 4 ≡ true) × (allFit ds ≡ true) = and-both (allBelow ss 4) (allFit ds) (not-no (allBelow ss 4 && allFit ds) (c .1 .1 .1 .1 .0)) in
     record { some = leb-true 1 (length ds) (n .0); few = omega (arith, l); enoughRoom = ltb-false room (length ss + 23) (c .1 .1 .1 .0); fit = f .1 }
   where
     not-no : (b : Bool) → not b ≡ false → b ≡ true

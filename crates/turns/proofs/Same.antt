@@ -22,12 +22,12 @@ use Rattle.device.specs.declared.phase.Sent.{Sent}
 use Rattle.device.specs.declared.phase.Sent.the-variants.{Nothing, One, Header}
 use Rattle.device.specs.declared.registers.Registers.{Registers}
 use Rattle.device.specs.declared.device.Device.{Device}
-use Rattle.device.proofs.Kept.{place-phase}
+use Rattle.device.proofs.Places.{place-phase}
 use Rattle.intake.specs.Intake.{stopped}
 use Rattle.intake.specs.declared.states.Taken.{Taken}
 use Rattle.calls.specs.Chain.{through, allFit, blank}
 use Rattle.turns.specs.declared.cursor.Cursor.{Cursor}
-use Rattle.turns.specs.declared.turn.Turned.{Turned}
+use Rattle.turns.specs.declared.turning.Turned.{Turned}
 use Rattle.turns.specs.Front.{isPassing, passes, untilSent, frontTaken, sliceStart, deviceTaken, putAll, putEnd, highs, indexOf, cursor, facing, aimed, frontAfter, lineCursor, lineOut, deviceTurn, lineTurn, turnWithin, turned, turnedOut, Running, turning, turns, started, enough, frontRun}
 use Rattle.turns.proofs.Lines.{put-full, length-put, put-append, highs-fit, length-header-states}
 use Rattle.turns.proofs.Header.{run-then, run-header}

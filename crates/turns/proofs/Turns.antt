@@ -16,8 +16,8 @@ use Rattle.intake.specs.Intake.{stopped, unlessSent}
 use Rattle.intake.specs.declared.states.Taken.{Taken}
 use Rattle.calls.specs.Chain.{blank}
 use Rattle.turns.specs.declared.cursor.Cursor.{Cursor}
-use Rattle.turns.specs.declared.turn.Turned.{Turned}
-use Rattle.turns.specs.Front.{passes, untilSent, frontTaken, sliceStart, deviceTaken, putAll, putEnd, highs, indexOf, cursor, facing, aimed, frontAfter, halted, leaving, isFirst, lineCursor, lineOut, deviceTurn, lineTurn, turnWithin, within, turned, turnedOut, Running, turnAt, turning, turns, started, begun, enough}
+use Rattle.turns.specs.declared.turning.Turned.{Turned}
+use Rattle.turns.specs.Front.{passes, untilSent, frontTaken, sliceStart, deviceTaken, putAll, putEnd, highs, indexOf, cursor, facing, aimed, frontAfter, haltedAt, leaving, isFirst, lineCursor, lineOut, deviceTurn, lineTurn, turnWithin, within, turned, turnedOut, Running, turnAt, turning, turns, started, begun, enough}
 use Rattle.turns.proofs.Lines.{highs-within, length-put}
 use Rattle.turns.proofs.Taking.{by-test}
 
@@ -108,7 +108,7 @@ until-far first d (s ∷ ss) k =
     (record { owes = omega (arith, next .owes); ends = omega (arith, next .ends) }) (λ x. record { owes = omega (arith, owed-one x); ends = omega arith }))
 
 -- a state that does not stop the device is taken
-until-on : (first : Bool) (d : Device) (s : ℕ) (ss : List ℕ) (k : ℕ) → (ltb s 2 && not first) ≡ false → k + 1 ≤ untilSent first d (s ∷ ss) k .at
+pub until-on : (first : Bool) (d : Device) (s : ℕ) (ss : List ℕ) (k : ℕ) → (ltb s 2 && not first) ≡ false → k + 1 ≤ untilSent first d (s ∷ ss) k .at
 unfolding untilSent
 until-on first d s ss k e =
     subst (λ (u : Bool). k + 1 ≤ cond u (stopped d k Nothing) (unlessSent (step d s .sent) (untilSent first (step d s .device) ss (k + 1)) (stopped (step d s .device) (k + 1) (step d s .sent))) .at) (sym e)
@@ -187,7 +187,7 @@ within-is c ss room a b = rw (le-leb (c .at) (length ss) a, le-leb (c .written) 
 
 pub turned-is : (d : Device) (c : Cursor) (ss : List ℕ) (room : ℕ) → c .at ≤ length ss → c .written ≤ room → turned d c ss room ≡ turnWithin d c ss room
 unfolding turned
-turned-is d c ss room a b = ap (λ (t : Bool). cond t (turnWithin d c ss room) (record { device = d; cursor = halted })) (within-is c ss room a b)
+turned-is d c ss room a b = ap (λ (t : Bool). cond t (turnWithin d c ss room) (haltedAt d)) (within-is c ss room a b)
 
 pub turned-out-is : (c : Cursor) (ss os : List ℕ) → c .at ≤ length ss → c .written ≤ length os → turnedOut c ss os ≡ cond (ltb (c .front) (c .count)) os (lineOut c ss os)
 unfolding turnedOut

@@ -19,7 +19,7 @@ use Rattle.intake.specs.Intake.{stopped, unlessSent}
 use Rattle.intake.specs.declared.states.Taken.{Taken}
 use Rattle.calls.specs.Chain.{blank}
 use Rattle.turns.specs.declared.cursor.Cursor.{Cursor}
-use Rattle.turns.specs.declared.turn.Turned.{Turned}
+use Rattle.turns.specs.declared.turning.Turned.{Turned}
 
 -- ---- one device
 
@@ -149,9 +149,12 @@ turnWithin d c ss room = cond (ltb (c .front) (c .count)) (deviceTurn d c ss) (l
 abbrev pub within : Cursor → List ℕ → ℕ → Bool
 within c ss room = leb (c .at) (length ss) && leb (c .written) room
 
+abbrev pub haltedAt : Device → Turned
+haltedAt d = record { device = d; cursor = halted }
+
 -- a turn of any device with any cursor; one that is not within halts
 unfoldable pub turned : Device → Cursor → List ℕ → ℕ → Turned
-turned d c ss room = cond (within c ss room) (turnWithin d c ss room) (record { device = d; cursor = halted })
+turned d c ss room = cond (within c ss room) (turnWithin d c ss room) (haltedAt d)
 
 unfoldable pub turnedOut : Cursor → List ℕ → List ℕ → List ℕ
 turnedOut c ss os = cond (within c ss (length os)) (cond (ltb (c .front) (c .count)) os (lineOut c ss os)) os

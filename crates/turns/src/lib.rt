@@ -4,7 +4,8 @@ mod cursor;
 mod entry;
 mod judging;
 mod line;
-mod turn;
+mod states;
+mod turning;
 
 pub use cursor::Cursor;
 pub use entry::Entry;
@@ -19,4 +20,5 @@ pub use judging::fresh_span;
 pub use judging::judge_none;
 pub use judging::judge_one;
 pub use judging::with_fault;
-pub use turn::Turned;
+pub use turning::Turned;
+pub use turning::turn;

@@ -4,11 +4,12 @@ ghost use mathlib.Core.Path.{_≡_};
 ghost use mathlib.Core.Bool.{not};
 ghost use lib.Dec.{eqb};
 ghost use lib.ListN.{length};
-ghost use Rattle.calls.specs.Calls.{freshRefusal, freshAfter, boundaryRefusal, boundaryAfter, faultRefusal, faultAfter};
+ghost use Rattle.calls.specs.Calls.{freshRefusal, freshAfter, runAfter, runRoom, boundaryRefusal, boundaryAfter, faultRefusal, faultAfter};
+ghost use Rattle.turns.specs.Entry.{runAnswer};
 ghost use Rattle.turns.specs.Judging.{unjudged, judgedFrom};
 use device::Device;
 use turns::Judged;
-use turns::Span;
+use turns::Ran;
 
 // Makes a chain fresh: told the part, it takes the records whatever they hold. The refusal's number, or 0.
 #[no_mangle]
@@ -23,6 +24,24 @@ pub extern "C" fn bb_fresh(chain: &mut [Device], part: u16) -> u8
         i += 1;
     }
     span.refusal
+}
+
+// Gives the chain line states, one to a clock, and returns what its last device sends into the lent room. How many states came back, and
+// the refusal's number: one of them is 0.
+#[no_mangle]
+pub extern "C" fn bb_run(chain: &mut [Device], states: &[u8], returned: &mut [u8]) -> Ran
+    ensures { λ r. ⌜ (r ≡ runAnswer (now (chain .entry)) (now (states .entry)) (length (now (returned .entry)))) × (now (chain .exit) ≡ runAfter (now (chain .entry)) (now (states .entry)) (length (now (returned .entry)))) × (now (returned .exit) ≡ runRoom (now (chain .entry)) (now (states .entry)) (now (returned .entry))) ⌝ }
+{
+    let judged = judge(chain);
+    let entry = turns::enter(judged, chain.len(), states, returned.len());
+    let mut cursor = entry.cursor;
+    while cursor.going {
+        let i = cursor.index;
+        let turned = turns::turn(chain[i], cursor, states, returned);
+        chain[i] = turned.device;
+        cursor = turned.cursor;
+    }
+    turns::answer(entry.refusal, cursor.written)
 }
 
 // A frame boundary: waiting values become active. The refusal's number, or 0.

@@ -1,7 +1,6 @@
 -- A header leaves any device before the first bit of its slice, whatever it did before, and nothing is sent. SYNC pushes all that was there out
 -- of the window; the command bits are read as numbers, by cases; the count bits by induction, after a leading one.
-use mathlib.Core.Path.{_≡_, refl, ap, sym, _∙_}
-use mathlib.Core.Bool.{Bool, true, false, cond}
+use mathlib.Core.Path.{_≡_, refl, ap, _∙_}
 use mathlib.Core.List.{List, [], _∷_, _++_, append-assoc}
 use Prim.Native.Nat.{ℕ, zero, suc, _+_, _*_, _/_, _%_, _^_, _<_, _≤_}
 use native.Mathlib.Nat.{mod-lt, pow-succ', mul-le-mul-left, mul-assoc, add-mul}
@@ -15,15 +14,15 @@ use Rattle.parts.proofs.Laws.{command-code}
 use Rattle.parts.specs.Wire.{header, statesOf}
 use Rattle.parts.specs.declared.command.Command.{Command}
 use Rattle.parts.specs.declared.command.Command.the-variants.{Individual, Calibration, Global, Configuration}
-use Rattle.device.specs.Phases.{phaseOf, placeOf, windowOf, pushed}
-use Rattle.device.specs.Step.{step, stepHigh, moved, sentStates, at}
+use Rattle.device.specs.Phases.{phaseOf, placeOf, windowOf}
+use Rattle.device.specs.Step.{step, stepHigh, sentStates, at}
 use Rattle.device.specs.Run.{run}
 use Rattle.device.specs.declared.phase.Phase.{Phase}
 use Rattle.device.specs.declared.phase.Phase.the-variants.{Hunting, Counting, Slice}
 use Rattle.device.specs.declared.registers.Registers.{Registers}
 use Rattle.device.specs.declared.device.Device.{Device}
 use Rattle.turns.specs.Front.{sliceStart}
-use Rattle.turns.proofs.Lines.{bitStates, opening, header-parts}
+use Rattle.turns.proofs.Lines.{bitStates, header-parts}
 
 -- a run of two lists is the run of the first and then of the second
 pub run-append : (d : Device) (xs ys : List ℕ) → run d (xs ++ ys) ≡ (run (run d xs .0) ys .0, run d xs .1 ++ run (run d xs .0) ys .1)

@@ -1,9 +1,9 @@
 -- The first device takes states batch by batch, low ones and high ones in turn, until it sends: after each batch what is still to be taken is
 -- the same. And high states alone are a batch of `take`.
 use mathlib.Core.Path.{_≡_, refl, ap, sym, _∙_, subst}
-use mathlib.Core.Bool.{Bool, true, false, not, _&&_, cond, true≢false}
+use mathlib.Core.Bool.{Bool, true, false, not, _&&_, cond}
 use mathlib.Core.List.{List, [], _∷_, _++_}
-use Prim.Native.Nat.{ℕ, suc, _+_, _-_, _%_, _<_, _≤_}
+use Prim.Native.Nat.{ℕ, _+_, _-_, _%_, _<_, _≤_}
 use native.Mathlib.Omega.{arith}
 use lib.Dec.{eqb, ltb}
 use lib.ListN.{length, getD, drop, length-drop, length-append, drop-of-length-le}
@@ -11,13 +11,10 @@ use lib.Seq.{drop-drop, drop-append-seam}
 use borrow.Author.Tests.{eqb-true, lt-ltb, eq-eqb, ne-eqb}
 use Rattle.device.specs.Phases.{phaseOf, heard}
 use Rattle.device.specs.Step.{step, stepHigh, moved}
-use Rattle.device.specs.declared.phase.Place.{Place}
-use Rattle.device.specs.declared.phase.Phase.{Phase}
 use Rattle.device.specs.declared.phase.Phase.the-variants.{Hunting, Opening, Counting, Slice, Passing, Lost}
 use Rattle.device.specs.declared.phase.Sent.{Sent}
 use Rattle.device.specs.declared.phase.Sent.the-variants.{Nothing, One, Header}
 use Rattle.device.specs.declared.device.Device.{Device}
-use Rattle.device.specs.declared.device.Stepped.{Stepped}
 use Rattle.parts.specs.Parts.{commandAt}
 use Rattle.intake.specs.Intake.{stopped, unlessSent, lowTaken, highTaken, takenFrom, taken}
 use Rattle.intake.specs.declared.states.Taken.{Taken}

@@ -1,6 +1,6 @@
 -- A run of n states returns at most n + 23, so an accepted run never lacks room. A device may send more than it takes only while a slice ends
 -- within the next 23 bits; what a device that is not passing sends begins with a low state, and after a low state no device has a surplus.
-use mathlib.Core.Path.{_≡_, refl, ap, sym, _∙_, subst}
+use mathlib.Core.Path.{_≡_, refl, sym, subst}
 use mathlib.Core.Bool.{Bool, true, false, not, _&&_, cond, true≢false}
 use mathlib.Core.List.{List, [], _∷_, _++_}
 use Prim.Native.Nat.{ℕ, suc, _+_, _-_, _*_, _/_, _%_, _<_, _≤_}

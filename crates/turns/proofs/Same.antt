@@ -3,7 +3,7 @@
 use mathlib.Core.Path.{_≡_, refl, ap, sym, _∙_, subst}
 use mathlib.Core.Bool.{Bool, true, false, not, _&&_, cond, true≢false}
 use mathlib.Core.List.{List, [], _∷_, _++_, append-assoc}
-use Prim.Native.Nat.{ℕ, zero, suc, _+_, _*_, _<_, _≤_}
+use Prim.Native.Nat.{ℕ, zero, suc, _+_, _<_, _≤_}
 use native.Mathlib.Omega.{arith}
 use lib.Dec.{ltb, leb, eqb}
 use lib.ListN.{length, getD, set, take, drop, length-append, take-append-drop}
@@ -28,7 +28,7 @@ use Rattle.intake.specs.declared.states.Taken.{Taken}
 use Rattle.calls.specs.Chain.{through, allFit, blank}
 use Rattle.turns.specs.declared.cursor.Cursor.{Cursor}
 use Rattle.turns.specs.declared.turning.Turned.{Turned}
-use Rattle.turns.specs.Front.{isPassing, passes, untilSent, frontTaken, sliceStart, deviceTaken, putAll, putEnd, highs, indexOf, cursor, facing, aimed, frontAfter, lineCursor, lineOut, deviceTurn, lineTurn, turnWithin, turned, turnedOut, Running, turning, turns, started, enough, frontRun}
+use Rattle.turns.specs.Front.{isPassing, passes, untilSent, frontTaken, sliceStart, deviceTaken, putAll, putEnd, highs, indexOf, cursor, facing, aimed, frontAfter, lineCursor, lineOut, deviceTurn, lineTurn, turnWithin, turnedOut, Running, turning, turns, started, enough, frontRun}
 use Rattle.turns.proofs.Lines.{put-full, length-put, put-append, highs-fit, length-header-states}
 use Rattle.turns.proofs.Header.{run-then, run-header}
 use Rattle.turns.proofs.Taking.{by-test, through-append, High, AllPass, none, also, passer, through-high, Takes, takes-none, takes, Ending, quiet, sent, endings, ending-low}

@@ -6,7 +6,7 @@ use mathlib.Core.List.{List, [], _∷_}
 use Prim.Native.Nat.{ℕ, zero, suc, _+_, _-_, _*_, _<_, _≤_}
 use native.Mathlib.Omega.{arith}
 use lib.Dec.{eqb, ltb, leb}
-use lib.ListN.{length, getD, set, drop, length-set, length-drop}
+use lib.ListN.{length, getD, drop, length-set, length-drop}
 use borrow.Author.Tests.{ltb-true, ltb-false, leb-true, le-leb, eq-eqb}
 use Rattle.device.specs.Step.{step}
 use Rattle.device.specs.declared.phase.Sent.{Sent}
@@ -17,7 +17,7 @@ use Rattle.intake.specs.declared.states.Taken.{Taken}
 use Rattle.calls.specs.Chain.{blank}
 use Rattle.turns.specs.declared.cursor.Cursor.{Cursor}
 use Rattle.turns.specs.declared.turning.Turned.{Turned}
-use Rattle.turns.specs.Front.{passes, untilSent, frontTaken, sliceStart, deviceTaken, putAll, putEnd, highs, indexOf, cursor, facing, aimed, frontAfter, haltedAt, leaving, isFirst, lineCursor, lineOut, deviceTurn, lineTurn, turnWithin, within, turned, turnedOut, Running, turnAt, turning, turns, started, begun, enough}
+use Rattle.turns.specs.Front.{passes, untilSent, frontTaken, sliceStart, deviceTaken, putEnd, highs, indexOf, cursor, facing, aimed, frontAfter, haltedAt, leaving, isFirst, lineCursor, lineOut, deviceTurn, lineTurn, turnWithin, within, turned, turnedOut, Running, turnAt, turning, turns, started, begun, enough}
 use Rattle.turns.proofs.Lines.{highs-within, length-put}
 use Rattle.turns.proofs.Taking.{by-test}
 

@@ -1,6 +1,6 @@
 use Rattle.turns.proofs.Resuming.{front-end, front-on}
-use mathlib.Core.Path.{sym, _∙_, ap}
-use mathlib.Core.Bool.{Bool, true, false, cond}
+use mathlib.Core.Path.{sym, _∙_}
+use mathlib.Core.Bool.{true, false}
 use borrow.Author.Needs.{needs}
 use Rattle.turns.proofs.states.front_take.Statement.{statement}
 use Rattle.turns.proofs.states.front_take.Tie as tie

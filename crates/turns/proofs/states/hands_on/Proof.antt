@@ -1,5 +1,4 @@
 use Rattle.turns.proofs.Resuming.{hands-on-yes, hands-on-no}
-use borrow.Author.Needs.{needs}
 use Rattle.turns.proofs.states.hands_on.Statement.{statement}
 use Rattle.turns.proofs.states.hands_on.Tie as tie
 

@@ -1,4 +1,3 @@
-use mathlib.Core.Path.{ap}
 use borrow.Author.Needs.{needs}
 use Rattle.turns.proofs.turning.device_turn.Statement.{statement}
 use Rattle.turns.proofs.turning.device_turn.Tie as tie

@@ -1,24 +1,25 @@
 -- A run through a lent chain by its front, the first device that is not passing: only that device can change. What one turn does, and turn
 -- after turn. These definitions are what the functions inside a run answer; that the whole is the plain chain of calls/specs/Chain is in
 -- proofs/Same, and no call's contract speaks of them.
-use Prim.Native.Nat.{ℕ, zero, suc, _+_, _*_}
-use mathlib.Core.Bool.{Bool, true, false, not, _&&_, cond}
+use Prim.Native.Nat.{ℕ, zero, suc, _+_, _*_, _%_}
+use mathlib.Core.Bool.{Bool, true, false, not, _&&_, _||_, cond}
 use mathlib.Core.List.{List, [], _∷_}
 use lib.Dec.{eqb, ltb, leb}
 use lib.ListN.{length, getD, set, take, drop}
 use Rattle.parts.specs.Wire.{header, statesOf}
 use Rattle.parts.specs.declared.command.Command.{Command}
-use Rattle.device.specs.Phases.{phaseOf}
+use Rattle.device.specs.Phases.{phaseOf, heard, inHeader, headed}
 use Rattle.device.specs.Step.{step, at}
 use Rattle.device.specs.declared.phase.Phase.{Phase}
 use Rattle.device.specs.declared.phase.Phase.the-variants.{Hunting, Opening, Counting, Slice, Passing, Lost}
 use Rattle.device.specs.declared.phase.Sent.{Sent}
 use Rattle.device.specs.declared.phase.Sent.the-variants.{Nothing, One, Header}
 use Rattle.device.specs.declared.device.Device.{Device}
-use Rattle.intake.specs.Intake.{stopped, unlessSent}
+use Rattle.intake.specs.Intake.{stopped, unlessSent, takenFrom}
 use Rattle.intake.specs.declared.states.Taken.{Taken}
 use Rattle.calls.specs.Chain.{blank}
 use Rattle.turns.specs.declared.cursor.Cursor.{Cursor}
+use Rattle.turns.specs.declared.states.Roamed.{Roamed}
 use Rattle.turns.specs.declared.turning.Turned.{Turned}
 
 -- ---- one device
@@ -31,6 +32,14 @@ isPassing (Slice c count taken) = false
 isPassing Passing = true
 isPassing Lost = false
 
+abbrev pub isLost : Phase → Bool
+isLost (Hunting window) = false
+isLost (Opening read) = false
+isLost (Counting c read) = false
+isLost (Slice c count taken) = false
+isLost Passing = false
+isLost Lost = true
+
 abbrev pub passes : Device → Bool
 passes d = isPassing (phaseOf (d .place))
 
@@ -40,6 +49,26 @@ untilSent first d [] i = stopped d i Nothing
 untilSent first d (s ∷ ss) i =
     cond (ltb s 2 && not first) (stopped d i Nothing)
     (unlessSent (step d s .sent) (untilSent first (step d s .device) ss (i + 1)) (stopped (step d s .device) (i + 1) (step d s .sent)))
+
+-- a phase goes on at a state without a register being touched: at any low one, and at a high one unless it is of the device's slice or passed on
+abbrev pub roams : Phase → ℕ → Bool
+roams p s = ltb s 2 || (inHeader p || isLost p)
+
+abbrev pub roamStep : Phase → ℕ → Phase
+roamStep p s = cond (ltb s 2) (heard p s) (headed p (s % 2))
+
+-- as long as it does; i counts along
+unfoldable pub roamed : Phase → List ℕ → ℕ → Roamed
+roamed p [] i = record { phase = p; at = i }
+roamed p (s ∷ ss) i = cond (roams p s) (roamed (roamStep p s) ss (i + 1)) (record { phase = p; at = i })
+
+abbrev pub roamTaken : Device → Roamed → Taken
+roamTaken d q = stopped (at (d .registers) (q .phase)) (q .at) Nothing
+
+-- a batch of the first device's states: from a low one on as long as its phase alone goes on, or as `take` takes them
+abbrev pub batchTaken : Device → List ℕ → ℕ → Taken
+batchTaken d [] i = stopped d i Nothing
+batchTaken d (s ∷ ss) i = cond (ltb s 2) (roamTaken d (roamed (phaseOf (d .place)) (s ∷ ss) i)) (takenFrom d (s ∷ ss) i)
 
 -- the front device, no header being under way. A passing one takes no high state: `One 0` says that the front moves on
 abbrev pub frontTaken : Bool → Device → List ℕ → ℕ → Taken

@@ -20,7 +20,6 @@ use Rattle.intake.specs.declared.states.Taken.{Taken}
 use Rattle.calls.specs.Chain.{blank}
 use Rattle.turns.specs.declared.cursor.Cursor.{Cursor}
 use Rattle.turns.specs.declared.states.Roamed.{Roamed}
-use Rattle.turns.specs.declared.turning.Turned.{Turned}
 
 -- ---- one device
 
@@ -139,19 +138,27 @@ leaving (One s) ss = take (highs ss) ss
 
 -- ---- a turn
 
+-- what one turn makes of its device and of the cursor
+pub record Turned : Type 0 where
+  pub device : Device
+  pub cursor : Cursor
+
 abbrev pub isFirst : Cursor → Bool
 isFirst c = eqb (c .front) 0
 
-abbrev pub afterTaken : Cursor → Taken → List ℕ → Turned
-afterTaken c t ss =
-    record {
-      device = t .device;
-      cursor = aimed (c .count) (frontAfter (c .front) (t .sent)) (t .at) (c .written) (t .sent) (drop (t .at) ss);
-    }
+-- what the device of a turn takes: the front device what is its own, and none takes anything where all pass
+abbrev pub turnTaken : Device → Cursor → List ℕ → Taken
+turnTaken d c ss =
+    cond (ltb (c .front) (c .count)) (deviceTaken (isFirst c) d (c .pending) (drop (c .at) ss) (c .at)) (stopped d (c .at) Nothing)
 
--- the front device takes what is its own
+-- the cursor after the front device took the states before a place and sent
+abbrev pub cursorTo : Cursor → ℕ → Sent → List ℕ → Cursor
+cursorTo c at s ss = aimed (c .count) (frontAfter (c .front) s) at (c .written) s (drop at ss)
+
 abbrev pub deviceTurn : Device → Cursor → List ℕ → Turned
-deviceTurn d c ss = afterTaken c (deviceTaken (isFirst c) d (c .pending) (drop (c .at) ss) (c .at)) ss
+deviceTurn d c ss =
+    let t : Taken = deviceTaken (isFirst c) d (c .pending) (drop (c .at) ss) (c .at) in
+    record { device = t .device; cursor = cursorTo c (t .at) (t .sent) ss }
 
 -- the cursor after k states left the chain, the next state being at a place
 abbrev pub lineTo : Cursor → ℕ → ℕ → List ℕ → ℕ → Cursor
@@ -165,28 +172,30 @@ lineCursor (Header k n) c ss room = lineTo c (c .at) 24 ss room
 lineCursor Nothing c ss room = passedTo c ss room
 lineCursor (One s) c ss room = passedTo c ss room
 
-abbrev pub lineTurn : Device → Cursor → List ℕ → ℕ → Turned
-lineTurn d c ss room = record { device = d; cursor = lineCursor (c .pending) c ss room }
-
 abbrev pub lineOut : Cursor → List ℕ → List ℕ → List ℕ
 lineOut c ss os = putAll os (c .written) (leaving (c .pending) (drop (c .at) ss))
 
-abbrev pub turnWithin : Device → Cursor → List ℕ → ℕ → Turned
-turnWithin d c ss room = cond (ltb (c .front) (c .count)) (deviceTurn d c ss) (lineTurn d c ss room)
-
--- the cursor is within the states and the room
+-- the cursor is within the states and the room; one that is not halts
 abbrev pub within : Cursor → List ℕ → ℕ → Bool
 within c ss room = leb (c .at) (length ss) && leb (c .written) room
 
-abbrev pub haltedAt : Device → Turned
-haltedAt d = record { device = d; cursor = halted }
+abbrev pub lineAfter : Cursor → List ℕ → ℕ → Cursor
+lineAfter c ss room = cond (within c ss room) (lineCursor (c .pending) c ss room) halted
 
--- a turn of any device with any cursor; one that is not within halts
+abbrev pub lineRoom : Cursor → List ℕ → List ℕ → List ℕ
+lineRoom c ss os = cond (within c ss (length os)) (lineOut c ss os) os
+
+-- the cursor after a turn whose device took the states before a place and sent
+abbrev pub cursorAfter : Cursor → ℕ → Sent → List ℕ → ℕ → Cursor
+cursorAfter c at s ss room = cond (ltb (c .front) (c .count)) (cursorTo c at s ss) (lineAfter c ss room)
+
+-- a turn of any device with any cursor
 unfoldable pub turned : Device → Cursor → List ℕ → ℕ → Turned
-turned d c ss room = cond (within c ss room) (turnWithin d c ss room) (haltedAt d)
+turned d c ss room =
+    cond (ltb (c .front) (c .count)) (deviceTurn d c ss) (record { device = d; cursor = lineAfter c ss room })
 
 unfoldable pub turnedOut : Cursor → List ℕ → List ℕ → List ℕ
-turnedOut c ss os = cond (within c ss (length os)) (cond (ltb (c .front) (c .count)) os (lineOut c ss os)) os
+turnedOut c ss os = cond (ltb (c .front) (c .count)) os (lineRoom c ss os)
 
 -- ---- turn after turn
 

@@ -20,5 +20,5 @@ pub use judging::fresh_span;
 pub use judging::judge_none;
 pub use judging::judge_one;
 pub use judging::with_fault;
-pub use turning::Turned;
-pub use turning::turn;
+pub use turning::take_turn;
+pub use turning::turn_after;

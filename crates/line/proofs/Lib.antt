@@ -1,0 +1,2 @@
+-- Laws of single bits and states, by their places.
+pub mod Laws

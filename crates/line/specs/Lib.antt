@@ -1,0 +1,2 @@
+-- What the two operations between bytes and line states answer.
+pub mod States

@@ -1,0 +1,257 @@
+-- Calls on records: a chain that was made fresh stays one that no call is refused for, whatever is called (`whole-calls`); a boundary of the
+-- records is a boundary of the model; calls that are runs or are refused are one run of what they were given (`ran`). By induction on the
+-- calls. Assumes nothing.
+use mathlib.Core.Path.{_≡_, refl, sym, ap, _∙_, subst}
+use mathlib.Core.Bool.{Bool, true, false, cond, _&&_}
+use mathlib.Core.List.{List, [], _∷_, _++_, map}
+use Prim.Native.Nat.{ℕ, zero, suc, _-_, _≤_, _<_}
+use native.Mathlib.Omega.{arith}
+use lib.Dec.{eqb, ltb, leb}
+use lib.ListN.{length, length-map, getD, set, length-set, length-replicate, take}
+use borrow.Author.Tests.{leb-true, le-leb, eq-eqb, eqb-true, eqb-false, ne-eqb, not-false}
+use Rattle.bits.specs.Bits.{digit, over}
+use Rattle.bits.proofs.Laws.{take-over}
+use Rattle.parts.specs.Lists.{allBelow}
+use Rattle.parts.specs.Parts.{known}
+use Rattle.parts.specs.Refusals.{first, content}
+use Rattle.parts.proofs.Rows.{clear}
+use Rattle.device.specs.Held.{activated}
+use Rattle.device.specs.Phases.{phaseOf}
+use Rattle.device.specs.Step.{freshDevice, bounded, faulted}
+use Rattle.device.specs.Judgement.{fits}
+use Rattle.device.specs.declared.phase.Phase.{Phase}
+use Rattle.device.specs.declared.phase.Phase.the-variants.{Hunting, Opening, Counting, Slice, Passing, Lost}
+use Rattle.device.specs.declared.registers.Registers.{Registers}
+use Rattle.device.specs.declared.device.Device.{Device}
+use Rattle.device.proofs.Kept.{and-true, cond-both, kept-bounded, kept-faulted, kept-fresh}
+use Rattle.calls.specs.Chain.{every, hasPart, allKnown, sameParts, allFit, isCount, blank}
+use Rattle.calls.specs.Calls.{freshTable, freshRefusal, freshDevices, runRefusal, runDevices, returned, boundaryRefusal, boundaryDevices, faultRefusal, faultDevices}
+use Rattle.calls.specs.History.{Call, fresh, run, boundary, fault, refusalOf, after, afterCalls, given, answered, fed, answers, RunOrRefused, Runs}
+use Rattle.model.specs.Lists.{All}
+use Rattle.model.specs.Run.{chain}
+use Rattle.model.specs.Run as machine
+use Rattle.model.specs.Device as model
+use Rattle.model.proofs.Lists.{All-replicate}
+use Rattle.model.proofs.Run.{chain-append, chain-nil, chain-holds}
+use Rattle.link.specs.Claims.{ownTable}
+use Rattle.link.proofs.Device.{phaseIn, deviceOf, stepRecord, Sound, step-part, through-same, chain-keep}
+
+-- ---- what an accepted call leaves
+
+abbrev pub effect : List Device → Call → List Device
+effect ds (fresh part) = freshDevices part ds
+effect ds (run ss out) = runDevices ds ss
+effect ds boundary = boundaryDevices ds
+effect ds (fault device kind flag) = faultDevices ds device kind flag
+
+after-effect : (ds : List Device) (c : Call) → after ds c ≡ content (refusalOf ds c) ds (effect ds c)
+unfolding after refusalOf
+after-effect ds (fresh part) = refl
+after-effect ds (run ss out) = refl
+after-effect ds boundary = refl
+after-effect ds (fault device kind flag) = refl
+
+-- ---- a chain that no call is refused for
+
+pub record Whole (p : ℕ) (ds : List Device) : Type 0 where
+  pub someDevice : 1 ≤ length ds
+  pub fewDevices : length ds ≤ 1023
+  pub knownPart : known p ≡ true
+  pub onePart : All (λ d. d .registers .part ≡ p) ds
+  pub sound : All Sound ds
+
+every-all : (P : Device → Type 0) (f : Device → Bool) → ((d : Device) → P d → f d ≡ true) → (ds : List Device) → All P ds → every f ds ≡ true
+every-all P f k [] h = refl
+every-all P f k (d ∷ ds) h = rw (k d (h .0), every-all P f k ds (h .1))
+
+whole-known : (p : ℕ) (ds : List Device) → Whole p ds → allKnown ds ≡ true
+whole-known p ds w = every-all (λ d. d .registers .part ≡ p) (λ d. known (d .registers .part)) (λ d e. ap known e ∙ w .knownPart) ds (w .onePart)
+
+same-all : (p : ℕ) (ds : List Device) → All (λ d. d .registers .part ≡ p) ds → sameParts ds ≡ true
+same-all p [] h = refl
+same-all p (d ∷ ds) h = every-all (λ e. e .registers .part ≡ p) (hasPart (d .registers .part)) (λ e q. eq-eqb (e .registers .part) (d .registers .part) (q ∙ sym (h .0))) ds (h .1)
+
+whole-fit : (ds : List Device) → All Sound ds → allFit ds ≡ true
+whole-fit ds h = every-all Sound fits (λ d o. o .fit) ds h
+
+whole-count : (p : ℕ) (ds : List Device) → Whole p ds → isCount (length ds) ≡ true
+whole-count p ds w = rw (le-leb 1 (length ds) (w .someDevice), le-leb (length ds) 1023 (w .fewDevices))
+
+and-right : (a b : Bool) → b ≡ true → (a && b) ≡ a
+and-right true b e = e
+and-right false b e = refl
+
+-- its calls are refused for what they say, never for the records
+pub own-refusal : (p : ℕ) (ds : List Device) (c : Call) → Whole p ds → refusalOf ds c ≡ first (ownTable (length ds) c)
+unfolding refusalOf freshRefusal runRefusal boundaryRefusal faultRefusal
+own-refusal p ds (fresh q) w = refl
+own-refusal p ds (run ss out) w =
+    rw (whole-known p ds w, whole-count p ds w, same-all p ds (w .onePart), and-right (allBelow ss 4) (allFit ds) (whole-fit ds (w .sound)))
+own-refusal p ds boundary w = rw (whole-known p ds w, whole-count p ds w, same-all p ds (w .onePart), whole-fit ds (w .sound))
+own-refusal p ds (fault device kind flag) w =
+    rw (whole-known p ds w, whole-count p ds w, same-all p ds (w .onePart), and-right (ltb kind 2) (allFit ds) (whole-fit ds (w .sound)))
+
+-- ---- a boundary of the records is a boundary of the model
+
+-- a change of registers that leaves part, configuration and slice leaves the phase
+activated-phase : (r : Registers) (p : Phase) → phaseIn (activated r) p ≡ phaseIn r p
+activated-phase r (Hunting w) = refl
+activated-phase r (Opening read) = refl
+activated-phase r (Counting c read) = refl
+activated-phase r (Slice c n t) = refl
+activated-phase r Passing = refl
+activated-phase r Lost = refl
+
+pub boundary-same : (ds : List Device) → map deviceOf (boundaryDevices ds) ≡ model.boundary (map deviceOf ds)
+unfolding model.boundary deviceOf model.activated
+boundary-same [] = refl
+boundary-same (d ∷ ds) = rw (activated-phase (d .registers) (phaseOf (d .place)), boundary-same ds)
+
+-- ---- a whole chain stays whole
+
+bounded-sound : (d : Device) → Sound d → Sound (bounded d)
+bounded-sound d o = record { fit = kept-bounded d (o .fit); slots = o .slots }
+
+digit-lt : (b : Bool) → digit b < 2
+digit-lt true = omega arith
+digit-lt false = omega arith
+
+faulted-slots : (d : Device) (kind flag : ℕ) → (faulted d kind flag) .registers .slice ≡ d .registers .slice
+faulted-slots d kind flag = cond-both (λ (r : Registers). r .slice ≡ d .registers .slice) (eqb kind 0) _ _ (λ _. refl) (λ _. refl)
+
+faulted-part : (d : Device) (kind flag : ℕ) → (faulted d kind flag) .registers .part ≡ d .registers .part
+faulted-part d kind flag = cond-both (λ (r : Registers). r .part ≡ d .registers .part) (eqb kind 0) _ _ (λ _. refl) (λ _. refl)
+
+faulted-sound : (kind : ℕ) (flag : Bool) (d : Device) → Sound d → Sound (faulted d kind (digit flag))
+faulted-sound kind flag d o =
+    record { fit = kept-faulted d kind (digit flag) (digit-lt flag) (o .fit); slots = rw (faulted-slots d kind (digit flag)) (o .slots) }
+
+fresh-sound : (p : ℕ) → Sound (freshDevice p)
+fresh-sound p = record { fit = kept-fresh p; slots = refl }
+
+-- every record, of a list made by a change of each, or of one
+map-All : (P : Device → Type 0) (f : Device → Device) → ((d : Device) → P d → P (f d)) → (ds : List Device) → All P ds → All P (map f ds)
+map-All P f k [] h = tt
+map-All P f k (d ∷ ds) h = (k d (h .0), map-All P f k ds (h .1))
+
+set-All : (P : Device → Type 0) (f : Device → Device) → ((d : Device) → P d → P (f d)) → (ds : List Device) (i : ℕ) (z : Device) → All P ds → All P (set ds i (f (getD ds i z)))
+set-All P f k [] i z h = tt
+set-All P f k (d ∷ ds) zero z h = (k d (h .0), h .1)
+set-All P f k (d ∷ ds) (suc i) z h = (h .0, set-All P f k ds i z (h .1))
+
+pub length-chain : (ds : List Device) (ss : List ℕ) → length ((chain stepRecord ds ss) .0) ≡ length ds
+unfolding chain
+length-chain [] ss = refl
+length-chain (d ∷ ds) ss = ap suc (length-chain ds ((machine.run stepRecord d ss) .1))
+
+run-devices : (ds : List Device) (ss : List ℕ) → runDevices ds ss ≡ (chain stepRecord ds ss) .0
+run-devices ds ss = ap (λ (x : List Device × List ℕ). x .0) (through-same ds ss)
+
+-- the part that stands after a call
+abbrev pub partBy : List Device → ℕ → Call → ℕ
+partBy ds p (fresh q) = cond (eqb (refusalOf ds (fresh q)) 0) q p
+partBy ds p (run ss out) = p
+partBy ds p boundary = p
+partBy ds p (fault device kind flag) = p
+
+pub whole-fresh : (q : ℕ) (ds : List Device) → refusalOf ds (fresh q) ≡ 0 → Whole q (freshDevices q ds)
+unfolding refusalOf freshRefusal
+whole-fresh q ds a =
+    let t = clear (freshTable q (length ds)) refl a in
+    let k = not-false (known q) (t .0) in
+    let n = and-true (leb 1 (length ds)) (leb (length ds) 1023) (not-false (isCount (length ds)) (t .1 .0)) in
+    let l = length-replicate (length ds) (freshDevice q) in
+    record {
+      someDevice = rw l (leb-true 1 (length ds) (n .0));
+      fewDevices = rw l (leb-true (length ds) 1023 (n .1));
+      knownPart = k;
+      onePart = All-replicate (λ d. d .registers .part ≡ q) (length ds) (freshDevice q) refl;
+      sound = All-replicate Sound (length ds) (freshDevice q) (fresh-sound q);
+    }
+
+whole-from : (p : ℕ) (ds es : List Device) → Whole p ds → length es ≡ length ds → All (λ d. d .registers .part ≡ p) es → All Sound es → Whole p es
+whole-from p ds es w l a o = record { someDevice = rw l (w .someDevice); fewDevices = rw l (w .fewDevices); knownPart = w .knownPart; onePart = a; sound = o }
+
+whole-effect : (p : ℕ) (ds : List Device) (c : Call) → Whole p ds → refusalOf ds c ≡ 0 → Whole (partBy ds p c) (effect ds c)
+whole-effect p ds (fresh q) w a = rw (eq-eqb (refusalOf ds (fresh q)) 0 a) (whole-fresh q ds a)
+whole-effect p ds (run ss out) w a =
+    subst (λ (es : List Device). Whole p es) (sym (run-devices ds ss))
+    (whole-from p ds ((chain stepRecord ds ss) .0) w (length-chain ds ss)
+    (chain-holds stepRecord (λ d. d .registers .part ≡ p) (λ d s h. step-part d s ∙ h) ds ss (w .onePart)) (chain-keep ds ss (w .sound)))
+whole-effect p ds boundary w a =
+    whole-from p ds (boundaryDevices ds) w (length-map ds bounded) (map-All (λ d. d .registers .part ≡ p) bounded (λ d h. h) ds (w .onePart))
+    (map-All Sound bounded bounded-sound ds (w .sound))
+whole-effect p ds (fault device kind flag) w a =
+    whole-from p ds (faultDevices ds device kind flag) w (length-set ds (device - 1) _)
+    (set-All (λ d. d .registers .part ≡ p) (λ d. faulted d kind (digit flag)) (λ d h. faulted-part d kind (digit flag) ∙ h) ds (device - 1) blank (w .onePart))
+    (set-All Sound (λ d. faulted d kind (digit flag)) (faulted-sound kind flag) ds (device - 1) blank (w .sound))
+
+refused-part : (ds : List Device) (p : ℕ) (c : Call) → (refusalOf ds c ≡ 0 → ⊥) → partBy ds p c ≡ p
+refused-part ds p (fresh q) e = rw (ne-eqb (refusalOf ds (fresh q)) 0 e)
+refused-part ds p (run ss out) e = refl
+refused-part ds p boundary e = refl
+refused-part ds p (fault device kind flag) e = refl
+
+-- whatever is called, the chain stays one that no call is refused for
+whole-after : (p : ℕ) (ds : List Device) (c : Call) → Whole p ds → Whole (partBy ds p c) (after ds c)
+whole-after p ds c w = rw (after-effect ds c) (go (eqb (refusalOf ds c) 0) refl)
+  where
+    go : (b : Bool) → eqb (refusalOf ds c) 0 ≡ b → Whole (partBy ds p c) (cond b (effect ds c) ds)
+    go true e = whole-effect p ds c w (eqb-true (refusalOf ds c) 0 e)
+    go false e = rw (refused-part ds p c (eqb-false (refusalOf ds c) 0 e)) w
+
+unfoldable pub partAfter : List Device → ℕ → List Call → ℕ
+partAfter ds p [] = p
+partAfter ds p (c ∷ cs) = partAfter (after ds c) (partBy ds p c) cs
+
+pub whole-calls : (p : ℕ) (ds : List Device) (cs : List Call) → Whole p ds → Whole (partAfter ds p cs) (afterCalls ds cs)
+unfolding afterCalls partAfter
+whole-calls p ds [] w = w
+whole-calls p ds (c ∷ cs) w = whole-calls (partBy ds p c) (after ds c) cs (whole-after p ds c w)
+
+pub whole-start : (p : ℕ) (ds : List Device) → refusalOf ds (fresh p) ≡ 0 → Whole p (after ds (fresh p))
+whole-start p ds e = rw (after-effect ds (fresh p), eq-eqb (refusalOf ds (fresh p)) 0 e) (whole-fresh p ds e)
+
+-- no call changes the number of records
+length-effect : (ds : List Device) (c : Call) → length (effect ds c) ≡ length ds
+length-effect ds (fresh q) = length-replicate (length ds) (freshDevice q)
+length-effect ds (run ss out) = ap (λ (es : List Device). length es) (run-devices ds ss) ∙ length-chain ds ss
+length-effect ds boundary = length-map ds bounded
+length-effect ds (fault device kind flag) = length-set ds (device - 1) _
+
+length-after : (ds : List Device) (c : Call) → length (after ds c) ≡ length ds
+length-after ds c = rw (after-effect ds c) (cond-both (λ (es : List Device). length es ≡ length ds) (eqb (refusalOf ds c) 0) _ _ (λ _. length-effect ds c) (λ _. refl))
+
+pub length-afterCalls : (ds : List Device) (cs : List Call) → length (afterCalls ds cs) ≡ length ds
+unfolding afterCalls
+length-afterCalls ds [] = refl
+length-afterCalls ds (c ∷ cs) = length-afterCalls (after ds c) cs ∙ length-after ds c
+
+-- ---- runs, and calls that are refused
+
+refused-after : (ds : List Device) (c : Call) → (refusalOf ds c ≡ 0 → ⊥) → after ds c ≡ ds
+refused-after ds c h = rw (after-effect ds c, ne-eqb (refusalOf ds c) 0 h)
+
+run-one : (ds : List Device) (c : Call) → RunOrRefused ds c → _≡_ {A = List Device × List ℕ} (after ds c, answered ds c) (chain stepRecord ds (given ds c))
+unfolding after
+run-one ds (fresh p) h = rw (refused-after ds (fresh p) h, chain-nil stepRecord ds)
+run-one ds (run ss out) h = go (eqb (runRefusal ds ss (length out)) 0) refl
+  where
+    go : (b : Bool) → eqb (runRefusal ds ss (length out)) 0 ≡ b
+        → _≡_ {A = List Device × List ℕ} (cond b (runDevices ds ss) ds, cond b (take (length (returned ds ss)) (cond b (over (returned ds ss) out) out)) [])
+        (chain stepRecord ds (cond b ss []))
+    go true e = rw (take-over (returned ds ss) out, through-same ds ss)
+    go false e = rw (chain-nil stepRecord ds)
+run-one ds boundary h = rw (refused-after ds boundary h, chain-nil stepRecord ds)
+run-one ds (fault device kind flag) h = rw (refused-after ds (fault device kind flag) h, chain-nil stepRecord ds)
+
+-- the calls of a restore are one run of what they were given
+pub ran : (ds : List Device) (cs : List Call) → Runs ds cs → _≡_ {A = List Device × List ℕ} (afterCalls ds cs, answers ds cs) (chain stepRecord ds (fed ds cs))
+unfolding afterCalls answers fed
+ran ds [] r = rw (chain-nil stepRecord ds)
+ran ds (c ∷ cs) r = rw (chain-append stepRecord ds (given ds c) (fed (after ds c) cs), ← run-one ds c (r .0), ← ran (after ds c) cs (r .1))
+
+pub calls-append : (ds : List Device) (cs es : List Call) → afterCalls ds (cs ++ es) ≡ afterCalls (afterCalls ds cs) es
+unfolding afterCalls
+calls-append ds [] es = refl
+calls-append ds (c ∷ cs) es = calls-append (after ds c) cs es

@@ -1,0 +1,4 @@
+-- x
+pub mod Numbers
+pub mod Device
+pub mod Calls

@@ -1,0 +1,2 @@
+-- What the claims about lists of calls say.
+pub mod Claims

@@ -1,0 +1,2 @@
+-- Laws under the calls on a lent chain.
+pub mod Judged

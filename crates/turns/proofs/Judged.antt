@@ -11,7 +11,8 @@ use lib.ListN.{length, getD, take}
 use borrow.Author.Tests.{ltb-true, ltb-false, lt-ltb, le-ltb}
 use Rattle.parts.specs.Parts.{known}
 use Rattle.parts.specs.Refusals.{Row, _when_, first}
-use Rattle.device.specs.Judgement.{fits, allBelow}
+use Rattle.parts.specs.Lists.{allBelow}
+use Rattle.device.specs.Judgement.{fits}
 use Rattle.device.specs.declared.device.Device.{Device}
 use Rattle.calls.specs.Chain.{every, allKnown, hasPart, sameParts, allFit, isCount, blank}
 use Rattle.calls.specs.Calls.{roomFor, chainRows, freshTable, freshRefusal, runRefusal, boundaryRefusal, faultRefusal}
@@ -22,7 +23,7 @@ and-assoc : (a b c : Bool) → ((a && b) && c) ≡ (a && (b && c))
 and-assoc true b c = refl
 and-assoc false b c = refl
 
-and-true : (a : Bool) → a ≡ (a && true)
+pub and-true : (a : Bool) → a ≡ (a && true)
 and-true true = refl
 and-true false = refl
 
@@ -41,18 +42,18 @@ judged-none j = refl
 
 -- ---- what the pass finds
 
-known-found : (j : Judged) (ds : List Device) → judgedFrom j ds .known ≡ (j .known && allKnown ds)
+pub known-found : (j : Judged) (ds : List Device) → judgedFrom j ds .known ≡ (j .known && allKnown ds)
 unfolding judgedFrom
 known-found j [] = and-true (j .known)
 known-found j (d ∷ ds) = known-found (judgedWith j d) ds ∙ and-assoc (j .known) (known (d .registers .part)) (allKnown ds)
 
-fits-found : (j : Judged) (ds : List Device) → judgedFrom j ds .fits ≡ (j .fits && allFit ds)
+pub fits-found : (j : Judged) (ds : List Device) → judgedFrom j ds .fits ≡ (j .fits && allFit ds)
 unfolding judgedFrom
 fits-found j [] = and-true (j .fits)
 fits-found j (d ∷ ds) = fits-found (judgedWith j d) ds ∙ and-assoc (j .fits) (fits d) (allFit ds)
 
 -- after a first record: the rest are of its part
-same-after : (j : Judged) (ds : List Device) → j .some ≡ true → judgedFrom j ds .same ≡ (j .same && every (hasPart (j .part)) ds)
+pub same-after : (j : Judged) (ds : List Device) → j .some ≡ true → judgedFrom j ds .same ≡ (j .same && every (hasPart (j .part)) ds)
 unfolding judgedFrom
 same-after j [] e = and-true (j .same)
 same-after j (d ∷ ds) e =
@@ -60,7 +61,7 @@ same-after j (d ∷ ds) e =
     ∙ ap (λ (b : Bool). (j .same && cond b (hasPart (j .part) d) true) && every (hasPart (cond b (j .part) (d .registers .part))) ds) e
     ∙ and-assoc (j .same) (hasPart (j .part) d) (every (hasPart (j .part)) ds)
 
-same-found : (ds : List Device) → judgedFrom unjudged ds .same ≡ sameParts ds
+pub same-found : (ds : List Device) → judgedFrom unjudged ds .same ≡ sameParts ds
 unfolding judgedFrom
 same-found [] = refl
 same-found (d ∷ ds) = same-after (judgedWith unjudged d) ds refl

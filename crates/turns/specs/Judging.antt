@@ -7,7 +7,8 @@ use lib.Dec.{eqb, ltb, leb}
 use lib.ListN.{length}
 use Rattle.parts.specs.Parts.{known}
 use Rattle.parts.specs.Refusals.{Row, _when_, first}
-use Rattle.device.specs.Judgement.{fits, allBelow}
+use Rattle.parts.specs.Lists.{allBelow}
+use Rattle.device.specs.Judgement.{fits}
 use Rattle.device.specs.declared.device.Device.{Device}
 use Rattle.calls.specs.Chain.{isCount, hasPart}
 use Rattle.calls.specs.Calls.{roomFor, freshTable}

@@ -5,7 +5,6 @@ ghost use Prim.Native.Nat.{_-_};
 ghost use lib.Dec.{ltb, eqb};
 ghost use Rattle.parts.specs.Refusals.{first};
 ghost use Rattle.device.specs.Step.{faulted};
-ghost use Rattle.device.specs.Judgement.{allBelow};
 ghost use Rattle.bits.specs.Bits.{digit};
 ghost use Rattle.calls.specs.Chain.{isCount};
 ghost use Rattle.calls.specs.Calls.{freshTable, roomFor};
@@ -107,7 +106,7 @@ pub fn run_refusal(judged: Judged, n: usize, states: &[u8], room: usize) -> u8
     if lacks_room(states.len(), room) {
         return 5;
     }
-    if !both(all_states(states), judged.fits) {
+    if !both(parts::bytes_below(states, 4), judged.fits) {
         return 13;
     }
     0
@@ -198,7 +197,7 @@ fn first_part(judged: Judged, part: u16) -> u16
 }
 
 // The number of devices is 1 to 1023.
-fn is_count(n: usize) -> bool
+pub fn is_count(n: usize) -> bool
     ensures { λ r. ⌜ r ≡ isCount n ⌝ }
 {
     if 1 <= n { n <= 1023 } else { false }
@@ -216,21 +215,6 @@ fn one_less(n: usize) -> usize
     ensures { λ r. ⌜ r ≡ n - 1 ⌝ }
 {
     if n == 0 { 0 } else { n - 1 }
-}
-
-// Each state is 0 to 3. No branch ends the loop early.
-fn all_states(states: &[u8]) -> bool
-    ensures { λ r. ⌜ r ≡ allBelow (now (states .entry)) 4 ⌝ }
-{
-    let mut over: u8 = 0;
-    let mut i: usize = 0;
-    while i < states.len() {
-        if states[i] >= 4 {
-            over = 1;
-        }
-        i += 1;
-    }
-    over == 0
 }
 
 fn both(a: bool, b: bool) -> bool

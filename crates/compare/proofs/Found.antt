@@ -202,7 +202,7 @@ module _ (g : Given) (bytes values : List ℕ) (ds : List Device) where
   abbrev p₀ : Part
   p₀ = partOf (g .part)
 
-  begin-live : compareRefusal g bytes values ds ≡ 0 → (0 < g .devices) × Live p₀ bytes values ds (g .devices) (begunUnder (compareRefusal g bytes values ds) g)
+  pub begin-live : compareRefusal g bytes values ds ≡ 0 → (0 < g .devices) × Live p₀ bytes values ds (g .devices) (begunUnder (compareRefusal g bytes values ds) g)
   unfolding compareRefusal
   begin-live e =
       let c = clear (compareTable g bytes values ds) refl e in

@@ -70,29 +70,29 @@ bytesFor-eights n w =
 
 pub packed-fits : (widest w n at room : ℕ) → fits widest w n at room ≡ true → packed widest w n at room ≡ P.Bytes (bytesFor (n * w))
 unfolding packed
-packed-fits widest w n at room e = ap (λ (b : Bool). cond b (P.Bytes (bytesFor (n * w))) P.Refused) e
+packed-fits widest w n at room e = rw e
 
 pub packed-refused : (widest w n at room : ℕ) → fits widest w n at room ≡ false → packed widest w n at room ≡ P.Refused
 unfolding packed
-packed-refused widest w n at room e = ap (λ (b : Bool). cond b (P.Bytes (bytesFor (n * w))) P.Refused) e
+packed-refused widest w n at room e = rw e
 
 pub packedOut-fits : (widest w : ℕ) (vs : List ℕ) (at : ℕ) (out : List ℕ) → fits widest w (length vs) at (length out) ≡ true
     → packedOut widest w vs at out ≡ overAt at (bytesOf (fields w vs)) out
 unfolding packedOut
-packedOut-fits widest w vs at out e = ap (λ (b : Bool). cond b (overAt at (bytesOf (fields w vs)) out) out) e
+packedOut-fits widest w vs at out e = rw e
 
 pub packedOut-refused : (widest w : ℕ) (vs : List ℕ) (at : ℕ) (out : List ℕ) → fits widest w (length vs) at (length out) ≡ false → packedOut widest w vs at out ≡ out
 unfolding packedOut
-packedOut-refused widest w vs at out e = ap (λ (b : Bool). cond b (overAt at (bytesOf (fields w vs)) out) out) e
+packedOut-refused widest w vs at out e = rw e
 
 pub unpackedOut-fits : (w : ℕ) (src : List ℕ) (at : ℕ) (values : List ℕ) → unpacked w (length values) at (length src) ≡ true
     → unpackedOut w src at values ≡ split w (length values) (fields 8 (drop at src))
 unfolding unpackedOut
-unpackedOut-fits w src at values e = ap (λ (b : Bool). cond b (split w (length values) (fields 8 (drop at src))) values) e
+unpackedOut-fits w src at values e = rw e
 
 pub unpackedOut-refused : (w : ℕ) (src : List ℕ) (at : ℕ) (values : List ℕ) → unpacked w (length values) at (length src) ≡ false → unpackedOut w src at values ≡ values
 unfolding unpackedOut
-unpackedOut-refused w src at values e = ap (λ (b : Bool). cond b (split w (length values) (fields 8 (drop at src))) values) e
+unpackedOut-refused w src at values e = rw e
 
 module _ (at w : ℕ) (src : List ℕ) where
   pub numberAt-within : w ≤ 64 → at + w ≤ 8 * length src → numberAt at w src ≡ N.Value (number (take w (drop at (fields 8 src))))

@@ -20,7 +20,7 @@ use Rattle.bits.specs.Bits.{isOne, digit, bits, number, fields, split, p
 pub length-bits : (w v : ℕ) → length (bits w v) ≡ w
 unfolding bits
 length-bits zero v = refl
-length-bits (suc w) v = ap suc (length-bits w v)
+length-bits (suc w) v = ap suc (length-bits w _)
 
 -- the high part, then the low part: a shift right
 pub bits-add : (a b v : ℕ) → bits (a + b) v ≡ bits a (v / 2 ^ b) ++ bits b v

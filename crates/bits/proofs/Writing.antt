@@ -1,7 +1,7 @@
 -- The laws of specs/Writing. Bits that are pushed stand behind those that were written; bytes that are stored leave what is written as it
 -- was; runs compose; and a run that ends with zeros up to a byte's end stored the bytes of its bits. Assumes nothing.
 use mathlib.Core.Path.{_≡_, refl, sym, ap, ap₂, _∙_, subst, subst₂}
-use mathlib.Core.Bool.{Bool, false}
+use mathlib.Core.Bool.{Bool, true, false}
 use mathlib.Core.List.{List, [], _∷_, _++_, append-assoc, append-nil}
 use Prim.Native.Nat.{ℕ, suc, _+_, _-_, _*_, _/_, _%_, _^_, _≤_, _<_}
 use native.Mathlib.Nat.{add-zero, mod-lt, suc-mul, zero-mul, one-mul, mul-le-mul-right}
@@ -12,8 +12,11 @@ use lib.Seq.{length-take-le, take-all, take-suc, take-suc-set, drop-drop, drop-s
 use lib.Pow.{pow-pos, shr-shr}
 use lib.Bits.{bitOr, bitAnd, and-mask}
 use Rattle.bits.specs.Bits.{bits, fields, bytesOf, bytesFor, over, overAt}
+use Rattle.bits.specs.Packing.{fits, packed, packedOut}
+use Rattle.bits.specs.declared.packing.Packed.the-variants as P
 use Rattle.bits.specs.Writing.{written, Pushed, Stored}
 use Rattle.bits.specs.declared.writer.Writer.{Writer}
+use Rattle.bits.proofs.Answers.{fits-room, packed-fits, packed-refused, packedOut-fits, packedOut-refused}
 use Rattle.bits.proofs.Laws.{length-fields, bits-add, bits-mod-self, bits-zero, bits-push, fields-append, fields-one, bytes-unique, bytes-of-bits, bytesOf-append, below-take}
 
 -- ---- one push
@@ -175,8 +178,11 @@ room w {i} {n} l = subst (λ (k : ℕ). k ≤ n * w) (suc-mul i w) (mul-le-mul-r
 
 -- ---- a whole run
 
+abbrev start : ℕ → Writer
+start at = record { at = at; acc = 0; have = 0 }
+
 -- a writer from the byte `at` on, that ends with zeros up to a byte's end: it stored the bytes of its bits there, and nothing else
-module _ {before mid after : List ℕ} {q r : Writer} {n k : ℕ} {bs : List Bool} (at : ℕ) (inside : at ≤ length before) (d : Pushed before mid (record { at = at; acc = 0; have = 0 }) q n bs)
+module _ {before mid after : List ℕ} {q r : Writer} {n k : ℕ} {bs : List Bool} (at : ℕ) (inside : at ≤ length before) (d : Pushed before mid (start at) q n bs)
     (e : Pushed mid after q r k (bits k 0)) (fewer : k < 8) (none : r .have ≡ 0) where
   pub closed-count : r .at ≡ at + bytesFor n
   closed-count = omega (arith, d .count, e .count)
@@ -198,3 +204,22 @@ module _ {before mid after : List ℕ} {q r : Writer} {n k : ℕ} {bs : List Boo
       = sym (length-take-le (r .at) after room) ∙ ap length e ∙ length-append old (bytesOf bs) ∙ ap (λ (z : ℕ). z + length (bytesOf bs)) (length-take-le at before inside) in
       sym (take-append-drop (r .at) after) ∙ ap₂ (λ (x y : List ℕ). x ++ y) e (f .rest ∙ ap (λ (z : ℕ). drop z before) m ∙ sym (drop-drop (length (bytesOf bs)) at before))
       ∙ append-assoc old (bytesOf bs) (drop (length (bytesOf bs)) (drop at before))
+
+-- it is what packing answers and leaves where the fields fit; where they do not, nothing is done
+module _ (widest w : ℕ) (vs : List ℕ) (at : ℕ) where
+  pub packed-run : {before mid after : List ℕ} {q r : Writer} {k : ℕ} → fits widest w (length vs) at (length before) ≡ true
+      → Pushed before mid (start at) q (length vs * w) (fields w vs) → Pushed mid after q r k (bits k 0) → k < 8 → r .have ≡ 0 → length after ≡ length before
+      → ((i : ℕ) → getD before i 0 < 256) → ((i : ℕ) → getD after i 0 < 256)
+      → (P.Bytes (r .at - at) ≡ packed widest w (length vs) at (length before)) × (after ≡ packedOut widest w vs at before)
+  packed-run {before} {mid} {after} {q} {r} {k} e d f fewer none same b b′ =
+      let room = fits-room widest w (length vs) at (length before) e in
+      let inside : at ≤ length before = omega arith in
+      let n : r .at ≡ at + bytesFor (length vs * w) = closed-count at inside d f fewer none in
+      let m : r .at - at ≡ bytesFor (length vs * w) = omega arith in (
+        ap P.Bytes m ∙ sym (packed-fits widest w (length vs) at (length before) e),
+        closed at inside d f fewer none (omega arith) b b′ ∙ sym (packedOut-fits widest w vs at before e),
+      )
+
+  pub packed-none : (before : List ℕ) → fits widest w (length vs) at (length before) ≡ false
+      → (P.Refused ≡ packed widest w (length vs) at (length before)) × (before ≡ packedOut widest w vs at before)
+  packed-none before e = (sym (packed-refused widest w (length vs) at (length before) e), sym (packedOut-refused widest w vs at before e))

@@ -5,6 +5,8 @@ ghost use mathlib.Core.List.{_∷_, []};
 ghost use Prim.Native.Nat.{_*_, _/_, _^_, _<_, _≤_};
 ghost use lib.ListN.{length};
 ghost use Rattle.bits.specs.Packing.{fits, packed, packedOut, unpacked, unpackedOut, numberAt};
+use super::reader;
+use super::writer;
 
 // What packing answers.
 pub enum Packed {
@@ -29,13 +31,13 @@ pub fn pack(values: &[u16], width: u32, out: &mut [u8], at: usize) -> Packed
     if !has_room(16, width, values.len(), at, out.len()) {
         return Packed::Refused;
     }
-    let start = super::writer::Writer {
+    let start = writer::Writer {
         at,
         acc: 0,
         have: 0,
     };
-    let last = super::writer::push_each(out, start, width, values);
-    let end = super::writer::finish(out, last);
+    let last = writer::push_each(out, start, width, values);
+    let end = writer::finish(out, last);
     Packed::Bytes(end.at - at)
 }
 
@@ -47,13 +49,13 @@ pub fn pack_number(value: u64, width: u32, out: &mut [u8], at: usize) -> Packed
     if !has_room(64, width, 1, at, out.len()) {
         return Packed::Refused;
     }
-    let start = super::writer::Writer {
+    let start = writer::Writer {
         at,
         acc: 0,
         have: 0,
     };
-    let last = super::writer::push_wide(out, start, width, value);
-    let end = super::writer::finish(out, last);
+    let last = writer::push_wide(out, start, width, value);
+    let end = writer::finish(out, last);
     Packed::Bytes(end.at - at)
 }
 
@@ -65,12 +67,12 @@ pub fn unpack(src: &[u8], at: usize, width: u32, values: &mut [u16]) -> bool
     if !has_room(16, width, values.len(), at, src.len()) {
         return false;
     }
-    let start = super::reader::Reader {
+    let start = reader::Reader {
         at,
         acc: 0,
         have: 0,
     };
-    super::reader::pull_each(src, start, width, values);
+    reader::pull_each(src, start, width, values);
     true
 }
 
@@ -86,14 +88,14 @@ pub fn number_at(src: &[u8], at: usize, width: u32) -> Number
     if src.len() < first + ((skipped + width + 7) / 8) as usize {
         return Number::Refused;
     }
-    let start = super::reader::Reader {
+    let start = reader::Reader {
         at: first,
         acc: 0,
         have: 0,
     };
-    let before = super::reader::pull(src, start, skipped);
+    let before = reader::pull(src, start, skipped);
     let here = before.reader;
-    let found = super::reader::pull_wide(src, here, width);
+    let found = reader::pull_wide(src, here, width);
     Number::Value(found.value)
 }
 

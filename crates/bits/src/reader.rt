@@ -82,18 +82,20 @@ fn fill(src: &[u8], reader: Reader, width: u32) -> Reader
     requires { ⌜ 8 * reader .at + width ≤ 8 * length (now src) + reader .have ⌝ }
     ensures { λ r. ⌜ Filled (now (src .entry)) reader r width ⌝ }
 {
-    if width <= reader.have {
-        return reader;
-    }
     let at = reader.at;
+    let acc = reader.acc;
+    let have = reader.have;
+    if width <= have {
+        return Reader { at, acc, have };
+    }
     if src.len() - at < 4 {
         return fill_bytes(src, reader, width);
     }
     let word = load_word(src, at) as u64;
     Reader {
         at: at + 4,
-        acc: (reader.acc << 32) | word,
-        have: reader.have + 32,
+        acc: (acc << 32) | word,
+        have: have + 32,
     }
 }
 

@@ -1,64 +1,33 @@
 -- What is claimed of any list of calls on a lent chain: demand 3 of document 01, whole. Each claim is a type; its proof is in
--- proofs/Claims. Nothing here speaks of the model's devices: only of the lent records and the lent room, by the definitions that the
--- contracts of the calls cite, and of a set's frames as bits.
-use Prim.Native.Nat.{ℕ, _+_, _-_, _*_, _≤_}
+-- proofs/Claims. The claims speak of the lent records and the lent room by the definitions that the contracts of the calls cite, and of
+-- the bytes that the writer writes and the return reader reads; the devices of the model are nowhere in them.
+use Prim.Native.Nat.{ℕ, _-_, _<_, _≤_}
 use mathlib.Core.Path.{_≡_}
 use mathlib.Core.Bool.{Bool, true, not, cond, _&&_}
 use mathlib.Core.List.{List, [], _∷_, _++_, map, flatten}
 use lib.Dec.{leb, ltb}
 use lib.ListN.{length, take, getD}
-use Rattle.bits.specs.Bits.{fields}
+use Rattle.bits.specs.Bits.{bytesOf}
 use Rattle.parts.specs.Lists.{allBelow}
-use Rattle.parts.specs.Parts.{partOf, multiplex, fieldWidth, sliceBits}
-use Rattle.parts.specs.Refusals.{Row, _when_, first}
-use Rattle.parts.specs.Wire.{lineOf, stateOf, dataBit, lows, frame, returnOf, statesOf}
+use Rattle.parts.specs.Refusals.{Row, _when_, first, Applies, Lowest}
+use Rattle.parts.specs.Wire.{stateOf, lows}
 use Rattle.parts.specs.declared.command.Command.{Command}
 use Rattle.parts.specs.declared.command.Command.the-variants.{Individual, Calibration, Global, Configuration}
-use Rattle.device.specs.Held as held
+use Rattle.line.specs.States.{dataBits}
+use Rattle.frames.specs.Returns as returns
+use Rattle.frames.specs.declared.told.Tail.{Tail}
+use Rattle.frames.specs.declared.told.Returned.the-variants as R
 use Rattle.device.specs.Judgement.{fits}
 use Rattle.device.specs.declared.registers.Registers.{Registers}
 use Rattle.device.specs.declared.device.Device.{Device}
 use Rattle.calls.specs.Chain.{blank}
 use Rattle.calls.specs.Calls.{freshTable, roomFor, returned}
-use Rattle.calls.specs.History.{Call, fresh, run, boundary, fault, refusalOf, after, afterCalls, fed, answers, Runs}
+use Rattle.calls.specs.History.{Call, fresh, run, boundary, fault, tableOf, refusalOf, after, afterCalls, fed, answers, Runs, Faults}
 use Rattle.model.specs.Lists.{All, Both}
 use Rattle.model.specs.Device.{multiplexed, evens, odds}
-use Rattle.model.specs.Set.{Set, Own, Proper, owned, frameFields}
+use Rattle.model.specs.Set.{Set, Own, owned}
 use Rattle.model.specs.Restore.{restoreOrder, InUse}
-
--- ---- a restore, as line states
-
--- the bits of a slice of a set's frame
-abbrev pub sliceLength : Set → Command → ℕ
-sliceLength s c = sliceBits (s .part) c (multiplex (s .configuration))
-
--- the frame of a set for a command
-unfoldable pub setFrame : Set → Command → List Bool → List Bool
-setFrame s c tail = frame c 0 (fields (fieldWidth (s .part) c) (frameFields s c)) tail
-
-module _ (s : Set) (gap tail : Command → List Bool) where
-  -- clocks at low load with any data, and then the frame: SYNC at low load and the rest at high
-  unfoldable pub framePart : Command → List ℕ
-  framePart c = map stateOf (lows (gap c)) ++ statesOf (setFrame s c (tail c))
-
-  -- the first j frames of a restore
-  abbrev pub restorePart : ℕ → List ℕ
-  restorePart j = flatten (take j (map framePart restoreOrder))
-
-  -- all four
-  abbrev pub restoreStates : List ℕ
-  restoreStates = flatten (map framePart restoreOrder)
-
-  -- how many states come before a frame's low clocks
-  abbrev pub before : Command → ℕ
-  before Configuration = 0
-  before Calibration = length (framePart Configuration)
-  before Global = length (framePart Configuration) + length (framePart Calibration)
-  before Individual = length (framePart Configuration) + length (framePart Calibration) + length (framePart Global)
-
-  -- how many states give a frame's header and the slices of the devices 1 to `device`: its slice has then fully arrived
-  abbrev pub arrival : Command → ℕ → ℕ
-  arrival c device = before c + (length (gap c) + (24 + device * sliceLength s c))
+use Rattle.link.specs.Restore.{Writable, framePart, restorePart, restoreStates, arrival, flags, returnsOf}
 
 -- ---- what records hold
 
@@ -80,55 +49,57 @@ pub record CutFields (arrived : Command → Bool) (o : Own) (old new : Registers
   pub active0 : new .active0 ≡ old .active0
   pub active1 : new .active1 ≡ old .active1
 
--- how many devices have a flag of the kind of a command's frame: flags are 0 or 1
-unfoldable pub flags : Command → List Device → ℕ
-flags c [] = 0
-flags c (d ∷ ds) = held.fault (d .registers) c + flags c ds
-
--- the data bits of states
-abbrev pub dataBits : List ℕ → List Bool
-dataBits ss = map (λ s. dataBit (lineOf s)) ss
-
--- the four returns
-abbrev pub returnsOf : List Device → (Command → List Bool) → List (List Bool)
-returnsOf ds tail = map (λ c. returnOf c (flags c ds) (tail c)) restoreOrder
-
--- ---- the claims
+-- ---- the list of calls
 
 -- any records, told to be a part's and made fresh, and any calls after that
 abbrev pub start : ℕ → List Device → List Call → List Device
 start p records earlier = afterCalls records (fresh p ∷ earlier)
 
--- the fresh was accepted; then a set for the chain, and calls that are runs or are refused
-pub record Begun (p : ℕ) (records : List Device) (earlier during : List Call) (s : Set) : Type 0 where
+-- the fresh was accepted; then a set for the chain that the writer accepts, and calls that are runs or are refused
+pub record Begun (p : ℕ) (records : List Device) (earlier during : List Call) (s : Set) (tail : Command → Tail) : Type 0 where
   pub accepted : refusalOf records (fresh p) ≡ 0
-  pub proper : Proper s
+  pub writable : Writable s tail
   pub devices : s .devices ≡ length (start p records earlier)
-  pub part : All (λ d. partOf (d .registers .part) ≡ s .part) (start p records earlier)
+  pub part : All (λ d. d .registers .part ≡ s .part) (start p records earlier)
   pub runs : Runs (start p records earlier) during
 
--- the runs gave the set's restore, with any tails, and any low clocks before the frames and after the last; then a boundary:
--- every device's registers in use hold the values of its own slices
+-- ---- demand 3
+
+-- the runs gave the set's restore, with any low clocks after it; then any fault settings, and a boundary: every device's registers in use
+-- hold the values of its own slices
 abbrev pub Restored : Type 0
 Restored =
-    (p : ℕ) (records : List Device) (earlier during : List Call) (s : Set) (gap tail : Command → List Bool) (last : List Bool)
-    → Begun p records earlier during s
+    (p : ℕ) (records : List Device) (earlier during later : List Call) (s : Set) (gap : Command → List Bool) (tail : Command → Tail) (last : List Bool)
+    → Begun p records earlier during s tail
     → fed (start p records earlier) during ≡ restoreStates s gap tail ++ map stateOf (lows last)
-    → Both Holds (owned s) (afterCalls (start p records earlier) (during ++ boundary ∷ []))
+    → Faults (afterCalls (start p records earlier) during) later
+    → Both Holds (owned s) (afterCalls (start p records earlier) (during ++ (later ++ boundary ∷ [])))
 
 -- while the first j frames come in, the runs write the first j returns into the lent room, and nothing else
 abbrev pub Returned : Type 0
 Returned =
-    (p : ℕ) (records : List Device) (earlier during : List Call) (s : Set) (gap tail : Command → List Bool) (last : List Bool) (j : ℕ)
-    → Begun p records earlier during s
+    (p : ℕ) (records : List Device) (earlier during : List Call) (s : Set) (gap : Command → List Bool) (tail : Command → Tail) (last : List Bool) (j : ℕ)
+    → Begun p records earlier during s tail
     → fed (start p records earlier) during ≡ restorePart s gap tail j ++ map stateOf (lows last)
     → dataBits (answers (start p records earlier) during) ≡ flatten (take j (returnsOf (start p records earlier) tail))
+
+-- what the runs write while the frame after the first j comes in, packed, is what the return reader accepts: it gives the flags' number
+abbrev pub Counted : Type 0
+Counted =
+    (p : ℕ) (records : List Device) (earlier former during : List Call) (s : Set) (gap : Command → List Bool) (tail : Command → Tail) (last : List Bool) (j : ℕ)
+    → Begun p records earlier (former ++ during) s tail
+    → j < 4
+    → let c : Command = getD restoreOrder j Individual in
+    let now : List Device = afterCalls (start p records earlier) former in
+    fed (start p records earlier) former ≡ restorePart s gap tail j
+    → fed now during ≡ framePart s gap tail c ++ map stateOf (lows last)
+    → returns.returned (s .part) (s .devices) c (tail c) (bytesOf (dataBits (answers now during))) ≡ R.Count (flags c (start p records earlier))
 
 -- the runs gave the first k states of the restore: in each device, 1 to N, each group is new exactly where its slice had fully arrived
 abbrev pub Cut : Type 0
 Cut =
-    (p : ℕ) (records : List Device) (earlier during : List Call) (s : Set) (gap tail : Command → List Bool) (k device : ℕ) (o : Own)
-    → Begun p records earlier during s
+    (p : ℕ) (records : List Device) (earlier during : List Call) (s : Set) (gap : Command → List Bool) (tail : Command → Tail) (k device : ℕ) (o : Own)
+    → Begun p records earlier during s tail
     → fed (start p records earlier) during ≡ take k (restoreStates s gap tail)
     → 1 ≤ device
     → device ≤ s .devices
@@ -136,14 +107,31 @@ Cut =
     (getD (start p records earlier) (device - 1) blank .registers)
     (getD (afterCalls (start p records earlier) during) (device - 1) blank .registers)
 
--- an accepted run of n states returns at most n + 23: it never lacks room
+-- nothing above is empty: whatever was called since an accepted fresh, one run and a boundary restore any set for the chain
+abbrev pub Restorable : Type 0
+Restorable =
+    (p : ℕ) (records : List Device) (earlier : List Call) (s : Set) (gap : Command → List Bool) (tail : Command → Tail) (out : List ℕ)
+    → Begun p records earlier [] s tail
+    → roomFor (length (restoreStates s gap tail)) ≤ length out
+    → let now : List Device = start p records earlier in
+    (refusalOf now (run (restoreStates s gap tail) out) ≡ 0) × Both Holds (owned s) (afterCalls now (run (restoreStates s gap tail) out ∷ boundary ∷ []))
+
+-- ---- the calls themselves
+
+-- of any lent records, whose arrays have the length of their type: an accepted run of n states returns at most n + 23, and has that room
 abbrev pub Room : Type 0
 Room =
-    (p : ℕ) (records : List Device) (earlier : List Call) (ss out : List ℕ)
-    → refusalOf records (fresh p) ≡ 0
-    → let now : List Device = start p records earlier in
-    refusalOf now (run ss out) ≡ 0
-    → (length (returned now ss) ≤ roomFor (length ss)) × (length (returned now ss) ≤ length out)
+    (ds : List Device) (ss out : List ℕ)
+    → All (λ d. length (d .registers .slice) ≡ 48) ds
+    → refusalOf ds (run ss out) ≡ 0
+    → (length (returned ds ss) ≤ roomFor (length ss)) × (roomFor (length ss) ≤ length out)
+
+-- of any lent records: a call is refused with the lowest number that applies and then changes no record; it is accepted where none applies
+abbrev pub Judged : Type 0
+Judged =
+    (ds : List Device) (c : Call)
+    → ((refusalOf ds c ≡ 0 → ⊥) → Lowest (refusalOf ds c) (tableOf ds c) × (after ds c ≡ ds))
+    × (refusalOf ds c ≡ 0 → (n : ℕ) → Applies n (tableOf ds c) → ⊥)
 
 -- what a call is refused for beside the records
 abbrev pub ownTable : ℕ → Call → List Row
@@ -159,12 +147,3 @@ Kept =
     → refusalOf records (fresh p) ≡ 0
     → let now : List Device = start p records earlier in
     (length now ≡ length records) × All (λ d. fits d ≡ true) now × (refusalOf now c ≡ first (ownTable (length now) c))
-
--- nothing above is empty: whatever was called since an accepted fresh, one run and a boundary restore any set for the chain
-abbrev pub Restorable : Type 0
-Restorable =
-    (p : ℕ) (records : List Device) (earlier : List Call) (s : Set) (gap tail : Command → List Bool) (out : List ℕ)
-    → Begun p records earlier [] s
-    → roomFor (length (restoreStates s gap tail)) ≤ length out
-    → let now : List Device = start p records earlier in
-    (refusalOf now (run (restoreStates s gap tail) out) ≡ 0) × Both Holds (owned s) (afterCalls now (run (restoreStates s gap tail) out ∷ boundary ∷ []))

@@ -1,2 +1,3 @@
--- What the claims about lists of calls say.
+-- A restore as a caller makes it, and what the claims about lists of calls say.
+pub mod Restore
 pub mod Claims

@@ -23,14 +23,14 @@ load-word-requires c κs = search needs
 cast-word : tie.Need-cast-word
 cast-word c = search needs
 
-add-t7 : tie.Need-add-t7
-add-t7 c = search needs
-
 add-t9 : tie.Need-add-t9
 add-t9 c = search needs
 
+add-t11 : tie.Need-add-t11
+add-t11 c = search needs
+
 returns-3 : tie.Need-returns-3
-returns-3 c = reading.filled-word _ (omega arith) (omega arith) (omega arith) (omega arith) (c .before .before .load-word .ensures)
+returns-3 c = reading.filled-word _ (omega arith) (omega arith) (omega arith) (omega arith) (c .load-word .ensures)
 
 pub fill-spec : {M : Type 1} → statement M
 fill-spec =
@@ -42,6 +42,6 @@ fill-spec =
     returns-2
     load-word-requires
     cast-word
-    add-t7
     add-t9
+    add-t11
     returns-3)

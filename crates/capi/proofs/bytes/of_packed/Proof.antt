@@ -1,0 +1,26 @@
+use borrow.Author.Needs.{needs}
+use Rattle.capi.proofs.bytes.of_packed.Statement.{statement}
+use Rattle.capi.proofs.bytes.of_packed.Tie as tie
+
+enum-known-packed : tie.Need-enum-known-packed
+enum-known-packed c = search needs
+
+enum-told : tie.Need-enum-told
+enum-told c = search needs
+
+refuse-requires : tie.Need-refuse-requires
+refuse-requires c κs = search needs
+
+returns : tie.Need-returns
+returns c = rw (c .before .enum-told .given .1) (c .refuse .ensures)
+
+accept-requires : tie.Need-accept-requires
+accept-requires c κs = search needs
+
+returns-2 : tie.Need-returns-2
+returns-2 c = rw (c .before .before .packed .given .1) (c .accept .ensures)
+
+pub of-packed-spec : {M : Type 1} → statement M
+of-packed-spec =
+    tie.close
+    (tie.spec enum-known-packed enum-told refuse-requires returns accept-requires returns-2)

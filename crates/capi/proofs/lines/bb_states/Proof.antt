@@ -1,0 +1,20 @@
+use mathlib.Core.Path.{ap, _∙_}
+use Rattle.capi.specs.Answers.{ofLine}
+use borrow.Author.Needs.{needs}
+use Rattle.capi.proofs.lines.bb_states.Statement.{statement}
+use Rattle.capi.proofs.lines.bb_states.Tie as tie
+
+frame-states-requires : tie.Need-frame-states-requires
+frame-states-requires c κs = search needs
+
+of-line-requires : tie.Need-of-line-requires
+of-line-requires c κs = search needs
+
+same-length : tie.Need-same-length
+same-length c = search needs
+
+returns : tie.Need-returns
+returns c = (c .of-line .ensures ∙ ap ofLine (c .before .before .before .frame-states .ensures .0), c .before .before .before .frame-states .ensures .1)
+
+pub bb-states-spec : {M : Type 1} → statement M
+bb-states-spec = tie.close (tie.spec frame-states-requires of-line-requires same-length returns)

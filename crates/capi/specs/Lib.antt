@@ -1,0 +1,2 @@
+-- What an exported operation's numbers are.
+pub mod Answers

@@ -1,0 +1,27 @@
+-- Row by row.
+use mathlib.Core.Path.{refl, sym, _∙_}
+use Rattle.parts.proofs.Rows as rows
+use borrow.Author.Needs.{needs}
+use Rattle.frames.proofs.reader.judge_slices.Statement.{statement}
+use Rattle.frames.proofs.reader.judge_slices.Tie as tie
+
+field-at-requires : tie.Need-field-at-requires
+field-at-requires c κs = search needs
+
+returns : tie.Need-returns
+returns c = rows.yes 9 _ (rows.differs (c .before .field-at .ensures) refl (c .if1 .taken))
+
+do-copies-differ-requires : tie.Need-do-copies-differ-requires
+do-copies-differ-requires c κs = search needs
+
+returns-2 : tie.Need-returns-2
+returns-2 c = let p = c .before .before in
+    rows.no 9 (rows.agrees (p .before .field-at .ensures) refl (p .if1 .left)) (rows.yes 10 _ (sym (c .before .do-copies-differ .ensures) ∙ c .if2 .taken))
+
+returns-3 : tie.Need-returns-3
+returns-3 c = let p = c .before .before in
+    rows.no 9 (rows.agrees (p .before .field-at .ensures) refl (p .if1 .left)) (rows.no 10 (sym (c .before .do-copies-differ .ensures) ∙ c .if2 .left) refl)
+
+pub judge-slices-spec : {M : Type 1} → statement M
+judge-slices-spec =
+    tie.close (tie.spec field-at-requires returns do-copies-differ-requires returns-2 returns-3)

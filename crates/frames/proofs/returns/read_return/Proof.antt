@@ -1,0 +1,38 @@
+-- Accepted, there are 24 bits, and ten of them are a count.
+use Rattle.frames.proofs.Accepted as accepted
+use Rattle.frames.specs.declared.told.Returned.the-variants.{Count, Refused}
+use Rattle.frames.specs.Frames.{field}
+use Rattle.frames.specs.Returns.{returned}
+use Rattle.bits.proofs.Laws as wire
+use Rattle.bits.specs.Bits.{fields}
+use lib.ListN.{drop}
+use native.Mathlib.Omega.{arith}
+use mathlib.Core.Path.{sym, ap, _∙_}
+use Rattle.parts.proofs.Rows as rows
+use borrow.Author.Needs.{needs}
+use Rattle.frames.proofs.returns.read_return.Statement.{statement}
+use Rattle.frames.proofs.returns.read_return.Tie as tie
+
+judge-return-requires : tie.Need-judge-return-requires
+judge-return-requires c κs = search needs
+
+returns : tie.Need-returns
+unfolding returned
+returns c = let a = c .before .before .before .args in
+    rows.refused Refused (Count (field 14 10 (fields 8 (a .frame .now)))) (c .before .judge-return .ensures) (c .if1 .taken)
+
+field-at-requires : tie.Need-field-at-requires
+field-at-requires c κs = let a = c .before .before .before .args in
+    (omega arith, accepted.return-long (a .part) (a .devices) (a .command) (a .tail) (a .frame .now) (sym (c .before .judge-return .ensures) ∙ c .if1 .left))
+
+cast-t9 : tie.Need-cast-t9
+cast-t9 c = let a = c .before .before .before .before .args in
+    rw (c .field-at .ensures) (record { fits = omega (arith, wire.number-take-lt 10 (drop 14 (fields 8 (a .frame .now)))) })
+
+returns-2 : tie.Need-returns-2
+unfolding returned
+returns-2 c = rows.accepted Refused (c .before .before .judge-return .ensures) (c .before .if1 .left) (ap Count (c .field-at .ensures))
+
+pub read-return-spec : {M : Type 1} → statement M
+read-return-spec =
+    tie.close (tie.spec judge-return-requires returns field-at-requires cast-t9 returns-2)

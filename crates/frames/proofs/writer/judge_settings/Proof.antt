@@ -1,0 +1,66 @@
+-- Row by row; the last has two tests.
+use borrow.Author.Tests.{lt-ltb, le-ltb}
+use mathlib.Core.Path.{refl, sym, _∙_}
+use Rattle.parts.proofs.Rows as rows
+use borrow.Author.Needs.{needs}
+use Rattle.frames.proofs.writer.judge_settings.Statement.{statement}
+use Rattle.frames.proofs.writer.judge_settings.Tie as tie
+
+field-count-requires : tie.Need-field-count-requires
+field-count-requires c κs = search needs
+
+is-list-wrong-requires : tie.Need-is-list-wrong-requires
+is-list-wrong-requires c κs = search needs
+
+returns : tie.Need-returns
+returns c = let q = c .before in
+    rows.yes 4 _ (rw (q .before .field-count .ensures) at (sym (q .is-list-wrong .ensures) ∙ c .if1 .taken))
+
+frame-length-requires : tie.Need-frame-length-requires
+frame-length-requires c κs = search needs
+
+returns-2 : tie.Need-returns-2
+returns-2 c = let q = c .before .before in
+    rows.no 4 (rw (q .before .before .field-count .ensures) at (sym (q .before .is-list-wrong .ensures) ∙ q .if1 .left))
+    (rows.yes 5 _ (rw (c .before .frame-length .ensures) at (lt-ltb _ _ (c .if2 .taken))))
+
+is-value-high-requires : tie.Need-is-value-high-requires
+is-value-high-requires c κs = search needs
+
+returns-3 : tie.Need-returns-3
+returns-3 c = let q = c .before .before .before .before in
+    rows.no 4 (rw (q .before .before .field-count .ensures) at (sym (q .before .is-list-wrong .ensures) ∙ q .if1 .left))
+    (rows.no 5 (rw (c .before .before .before .frame-length .ensures) at (le-ltb _ _ (c .before .before .if2 .left)))
+    (rows.yes 6 _ (rows.or-first _ (sym (c .before .is-value-high .ensures) ∙ c .if3 .taken))))
+
+is-tail-high-requires : tie.Need-is-tail-high-requires
+is-tail-high-requires c κs = search needs
+
+returns-4 : tie.Need-returns-4
+returns-4 c = let q = c .before .before .before .before .before .before in
+    let p = c .before .before in
+    rows.no 4 (rw (q .before .before .field-count .ensures) at (sym (q .before .is-list-wrong .ensures) ∙ q .if1 .left))
+    (rows.no 5 (rw (p .before .before .before .frame-length .ensures) at (le-ltb _ _ (p .before .before .if2 .left)))
+    (rows.yes 6 _ (rows.or-second (sym (p .before .is-value-high .ensures) ∙ p .if3 .left) (sym (c .before .is-tail-high .ensures) ∙ c .if4 .taken))))
+
+returns-5 : tie.Need-returns-5
+returns-5 c = let q = c .before .before .before .before .before .before in
+    let p = c .before .before in
+    rows.no 4 (rw (q .before .before .field-count .ensures) at (sym (q .before .is-list-wrong .ensures) ∙ q .if1 .left))
+    (rows.no 5 (rw (p .before .before .before .frame-length .ensures) at (le-ltb _ _ (p .before .before .if2 .left)))
+    (rows.no 6 (rows.or-second (sym (p .before .is-value-high .ensures) ∙ p .if3 .left) (sym (c .before .is-tail-high .ensures) ∙ c .if4 .left)) refl))
+
+pub judge-settings-spec : {M : Type 1} → statement M
+judge-settings-spec =
+    tie.close
+    (tie.spec
+    field-count-requires
+    is-list-wrong-requires
+    returns
+    frame-length-requires
+    returns-2
+    is-value-high-requires
+    returns-3
+    is-tail-high-requires
+    returns-4
+    returns-5)

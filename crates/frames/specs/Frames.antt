@@ -1,0 +1,81 @@
+-- A frame by what is told of it: one list of bits for all four commands, header, slices, tail. Every command's slices are fields of
+-- one width with no gap: values, or bytes. Then the tests and the rows of refusals that more than one operation has.
+-- What each operation answers is in Writing, Reading and Returns. Document 01, "The set and the wire" and "Refusal numbers".
+use Prim.Native.Nat.{ℕ, _+_, _*_, _^_}
+use mathlib.Core.Bool.{Bool, true, not, _&&_}
+use mathlib.Core.List.{List, [], _∷_}
+use lib.Dec.{eqb, ltb}
+use lib.ListN.{take, drop}
+use Rattle.bits.specs.Bits.{bits, number, fields, bytesOf, bytesFor}
+use Rattle.parts.specs.Refusals.{Row, _when_}
+use Rattle.parts.specs.Parts.{known, partOf, multiplex, code, fieldWidth, sliceFields}
+use Rattle.parts.specs.Wire.{frame}
+use Rattle.parts.specs.declared.command.Command.{Command}
+use Rattle.frames.specs.declared.told.Told.{Told}
+use Rattle.frames.specs.declared.told.Tail.{Tail}
+
+-- ---- the frame
+
+-- the fields of all slices, device 1 first
+abbrev pub fieldCount : Told → ℕ
+fieldCount t = t .devices * sliceFields (partOf (t .part)) (t .command) (multiplex (t .configuration))
+
+-- bits of one field
+abbrev pub fieldBits : Told → ℕ
+fieldBits t = fieldWidth (partOf (t .part)) (t .command)
+
+-- bits of all slices
+abbrev pub slicesBits : Told → ℕ
+slicesBits t = fieldCount t * fieldBits t
+
+-- the tail as bits
+abbrev pub tailBits : Tail → List Bool
+tailBits tail = bits (tail .length) (tail .number)
+
+-- the frame whose slices have the fields vs: the host sends count 0
+unfoldable pub frameBits : Told → Tail → List ℕ → List Bool
+frameBits t tail vs = frame (t .command) 0 (fields (fieldBits t) vs) (tailBits tail)
+
+-- the same as bytes
+unfoldable pub frameOf : Told → Tail → List ℕ → List ℕ
+frameOf t tail vs = bytesOf (frameBits t tail vs)
+
+-- the bytes that a frame has
+abbrev pub frameLength : Told → Tail → ℕ
+frameLength t tail = bytesFor (24 + slicesBits t + tail .length)
+
+-- ---- tests
+
+-- each byte is b
+abbrev pub allSame : List ℕ → ℕ → Bool
+allSame [] b = true
+allSame (x ∷ xs) b = eqb x b && allSame xs b
+
+-- tail bits stand above its length
+abbrev pub tailHigh : Tail → Bool
+tailHigh tail = not (ltb (tail .number) (2 ^ tail .length))
+
+-- n bits from the bit `at` on, as a number
+abbrev pub field : ℕ → ℕ → List Bool → ℕ
+field at n bs = number (take n (drop at bs))
+
+-- ---- rows that more than one operation has
+
+-- 1 to 3: the part, N, the tail's length
+abbrev pub toldRows : ℕ → ℕ → Tail → List Row
+toldRows part devices tail =
+    (1 when not (known part))
+    ∷ (2 when not (ltb 0 devices && ltb devices 1024))
+    ∷ (3 when ltb 64 (tail .length))
+    ∷ []
+
+-- 7 and 8: SYNC, and the six command bits
+abbrev pub headRows : Command → List Bool → List Row
+headRows c bs = (7 when not (eqb (field 0 8 bs) 0xE8)) ∷ (8 when not (eqb (field 8 6 bs) (21 * code c))) ∷ []
+
+-- 11 and 12: the tail from the bit `at` on, and zeros behind it
+abbrev pub endRows : ℕ → Tail → List Bool → List Row
+endRows at tail bs =
+    (11 when not (eqb (number (drop (at + tail .length) bs)) 0))
+    ∷ (12 when not (eqb (field at (tail .length) bs) (tail .number)))
+    ∷ []

@@ -1,0 +1,5 @@
+-- What a frame is, and what the writer, the reader and the return reader answer, for any input.
+pub mod Frames
+pub mod Writing
+pub mod Reading
+pub mod Returns

@@ -1,0 +1,62 @@
+// The return reader.
+ghost use mathlib.Core.Path.{_≡_};
+ghost use Prim.Native.Nat.{_≤_};
+ghost use Rattle.parts.specs.Refusals.{first};
+ghost use Rattle.frames.specs.Returns.{returnRows, returnRefusal, returned};
+use crate::judge::is_tail_high;
+use crate::judge::judge_end;
+use crate::judge::judge_head;
+use crate::judge::judge_told;
+use crate::take::field_at;
+use crate::told::Returned;
+use crate::told::Tail;
+use parts::Command;
+
+// The count of a return.
+pub fn read_return(
+    part: u16,
+    devices: usize,
+    command: Command,
+    tail: Tail,
+    frame: &[u8],
+) -> Returned
+    ensures { λ r. ⌜ r ≡ returned part devices command tail (now (frame .entry)) ⌝ }
+{
+    let refusal = judge_return(part, devices, command, tail, frame);
+    if refusal != 0 {
+        return Returned::Refused(refusal);
+    }
+    Returned::Count(field_at(frame, 14, 10) as u16)
+}
+
+// The lowest number that applies, or 0.
+fn judge_return(part: u16, devices: usize, command: Command, tail: Tail, frame: &[u8]) -> u8
+    ensures { λ r. ⌜ r ≡ returnRefusal part devices command tail (now (frame .entry)) ⌝ }
+{
+    let early = judge_told(part, devices, tail);
+    if early != 0 {
+        return early;
+    }
+    judge_back(devices, command, tail, frame)
+}
+
+// Numbers 4 to 12 of a return, or 0.
+fn judge_back(devices: usize, command: Command, tail: Tail, frame: &[u8]) -> u8
+    requires { ⌜ tail .length ≤ 64 ⌝ }
+    ensures { λ r. ⌜ r ≡ first (returnRows devices command tail (now (frame .entry))) ⌝ }
+{
+    if frame.len() != (24 + (tail.length as usize) + 7) / 8 {
+        return 4;
+    }
+    if is_tail_high(tail) {
+        return 6;
+    }
+    let head = judge_head(frame, command);
+    if head != 0 {
+        return head;
+    }
+    if (devices as u64) < field_at(frame, 14, 10) {
+        return 9;
+    }
+    judge_end(frame, 24, tail)
+}

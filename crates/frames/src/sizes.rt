@@ -1,0 +1,32 @@
+// How many fields, bits and bytes a told frame has.
+ghost use mathlib.Core.Path.{_≡_};
+ghost use Prim.Native.Nat.{_<_, _≤_};
+ghost use Rattle.frames.specs.Frames.{fieldCount, slicesBits, frameLength};
+use crate::told::Tail;
+use crate::told::Told;
+
+// The fields of all slices.
+pub fn field_count(told: Told) -> usize
+    requires { ⌜ told .devices < 1024 ⌝ }
+    ensures { λ r. ⌜ r ≡ fieldCount told ⌝ }
+{
+    let command = told.command;
+    told.devices * (parts::slice_fields(command, told.part, told.configuration) as usize)
+}
+
+// The bits of all slices.
+pub fn slices_bits(told: Told) -> usize
+    requires { ⌜ told .devices < 1024 ⌝ }
+    ensures { λ r. ⌜ r ≡ slicesBits told ⌝ }
+{
+    let command = told.command;
+    told.devices * (parts::slice_bits(command, told.part, told.configuration) as usize)
+}
+
+// The bytes of the frame.
+pub fn frame_length(told: Told, tail: Tail) -> usize
+    requires { ⌜ (told .devices < 1024) × (tail .length ≤ 64) ⌝ }
+    ensures { λ r. ⌜ r ≡ frameLength told tail ⌝ }
+{
+    (24 + slices_bits(told) + (tail.length as usize) + 7) / 8
+}

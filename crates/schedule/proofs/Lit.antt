@@ -1,0 +1,167 @@
+-- The clocks at which an output is lit in an ON subframe, for any row and any value: one run of clocks. An even output's begins where the
+-- edge zone ends and stops at the value or the other edge zone; an odd one's is its mirror image. Both have the same number of clocks.
+-- A test of a run is two tests of its ends, by cases on each; the number of clocks of a run by induction on the clocks. Assumes nothing.
+use mathlib.Core.Path.{_≡_, refl, sym, ap, ap₂, _∙_}
+use mathlib.Core.Bool.{Bool, true, false, true≢false, _&&_, _||_, cond}
+use Prim.Native.Nat.{ℕ, zero, suc, _+_, _-_, _*_, _%_, _<_, _≤_, min, max}
+use native.Mathlib.Nat.{add-zero, zero-add, zero-mul, one-mul, add-mul}
+use native.Mathlib.Omega.{arith}
+use lib.Dec.{ltb, leb, eqb, lit≤}
+use borrow.Author.Tests.{eqb-true, eqb-false, eq-eqb, ne-eqb, ltb-true, ltb-false, leb-true, leb-false, lt-ltb, le-ltb, le-leb, lt-leb}
+use Rattle.bits.specs.Bits.{digit}
+use Rattle.parts.specs.Parts.{Part, partOf, subframes, multiplex}
+use Rattle.parts.proofs.Laws.{each-row}
+use Rattle.schedule.specs.Answers.{positionOver}
+use Rattle.schedule.specs.Light.{count, total, nameNumber, litAt, litBy, isEven, isOn, isLit}
+
+-- c lies in the run of clocks from `from` up to `to`, `to` not among them
+abbrev pub inRun : ℕ → ℕ → ℕ → Bool
+inRun from to c = leb from c && ltb c to
+
+-- the first lit clock of an even or an odd output, and the clock after the last
+abbrev pub litFrom : Part → ℕ → Bool → ℕ
+litFrom p v even = cond even (p .edge) (max (p .edge) (p .clocks - v))
+
+abbrev pub litTo : Part → ℕ → Bool → ℕ
+litTo p v even = cond even (min v (p .clocks - p .edge)) (p .clocks - p .edge)
+
+-- how many clocks are lit
+abbrev pub litClocks : Part → ℕ → ℕ
+litClocks p v = min v (p .clocks - p .edge) - p .edge
+
+ltb-min : (c m n : ℕ) → ltb c (min m n) ≡ ltb c n && ltb c m
+ltb-min c m n = at (ltb c n) refl (ltb c m) refl where
+  at : (s : Bool) → ltb c n ≡ s → (t : Bool) → ltb c m ≡ t → ltb c (min m n) ≡ s && t
+  at false e t f = le-ltb c (min m n) (omega (arith, ltb-false c n e))
+  at true e false f = le-ltb c (min m n) (omega (arith, ltb-false c m f))
+  at true e true f = lt-ltb c (min m n) (omega (arith, ltb-true c n e, ltb-true c m f))
+
+leb-max : (c m n : ℕ) → leb (max m n) c ≡ leb m c && leb n c
+leb-max c m n = at (leb m c) refl (leb n c) refl where
+  at : (s : Bool) → leb m c ≡ s → (t : Bool) → leb n c ≡ t → leb (max m n) c ≡ s && t
+  at false e t f = lt-leb (max m n) c (omega (arith, leb-false m c e))
+  at true e false f = lt-leb (max m n) c (omega (arith, leb-false n c f))
+  at true e true f = le-leb (max m n) c (omega (arith, leb-true m c e, leb-true n c f))
+
+and-turn : (a b c : Bool) → a && (b && c) ≡ (a && c) && b
+and-turn false b c = refl
+and-turn true false false = refl
+and-turn true false true = refl
+and-turn true true false = refl
+and-turn true true true = refl
+
+-- clock by clock, an output is lit in one run
+pub lit-run : (p : Part) (v output c : ℕ) → litAt p v output c ≡ inRun (litFrom p v (isEven output)) (litTo p v (isEven output)) c
+lit-run p v output c = at (isEven output) where
+  at : (t : Bool) → leb (p .edge) c && (ltb c (p .clocks - p .edge) && cond t (ltb c v) (leb (p .clocks - v) c)) ≡ inRun (cond t (p .edge) (max (p .edge) (p .clocks - v))) (cond t (min v (p .clocks - p .edge)) (p .clocks - p .edge)) c
+  at true = ap (λ (t : Bool). leb (p .edge) c && t) (sym (ltb-min c v (p .clocks - p .edge)))
+  at false = and-turn (leb (p .edge) c) (ltb c (p .clocks - p .edge)) (leb (p .clocks - v) c) ∙ ap (λ (t : Bool). t && ltb c (p .clocks - p .edge)) (sym (leb-max c (p .edge) (p .clocks - v)))
+
+-- a run that stops where it begins has no clock
+pub run-empty : (from to c : ℕ) → to ≤ from → inRun from to c ≡ false
+run-empty from to c h = at (leb from c) refl where
+  at : (t : Bool) → leb from c ≡ t → (t && ltb c to) ≡ false
+  at true e = le-ltb c to (omega (arith, leb-true from c e))
+  at false e = refl
+
+-- ---- how many
+
+count-same : (f g : ℕ → Bool) → ((c : ℕ) → f c ≡ g c) → (from n : ℕ) → count f from n ≡ count g from n
+unfolding count
+count-same f g e from zero = refl
+count-same f g e from (suc n) = ap₂ (λ (k : ℕ) (t : Bool). k + digit t) (count-same f g e from n) (e (from + n))
+
+-- a run that begins after 0 has as many of the first n clocks as lie in it
+pub count-run : (from to n : ℕ) → count (inRun from to) 0 n ≡ min to n - from
+unfolding count
+count-run from to zero = omega arith
+count-run from to (suc n) = at (count-run from to n) (leb from (0 + n)) refl (ltb (0 + n) to) refl where
+  at : count (inRun from to) 0 n ≡ min to n - from → (s : Bool) → leb from (0 + n) ≡ s → (t : Bool) → ltb (0 + n) to ≡ t → count (inRun from to) 0 n + digit (s && t) ≡ min to (suc n) - from
+  at h false e t f = omega (arith, leb-false from (0 + n) e)
+  at h true e false f = omega (arith, leb-true from (0 + n) e, ltb-false (0 + n) to f)
+  at h true e true f = omega (arith, leb-true from (0 + n) e, ltb-true (0 + n) to f)
+
+mirror : (e n v : ℕ) → n - e - max e (n - v) ≡ min v (n - e) - e
+mirror e n v = omega arith
+
+-- an output is lit for as many clocks of a subframe, even or odd
+pub count-lit : (p : Part) (v output : ℕ) → count (litAt p v output) 0 (p .clocks) ≡ litClocks p v
+count-lit p v output =
+    count-same (litAt p v output) (inRun (litFrom p v (isEven output)) (litTo p v (isEven output))) (lit-run p v output) 0 (p .clocks)
+    ∙ count-run (litFrom p v (isEven output)) (litTo p v (isEven output)) (p .clocks)
+    ∙ at (isEven output) where
+      at : (t : Bool) → min (cond t (min v (p .clocks - p .edge)) (p .clocks - p .edge)) (p .clocks) - cond t (p .edge) (max (p .edge) (p .clocks - v)) ≡ litClocks p v
+      at true =
+          let k : min (min v (p .clocks - p .edge)) (p .clocks) ≡ min v (p .clocks - p .edge) = omega arith in
+          ap (λ (n : ℕ). n - p .edge) k
+      at false =
+          let k : min (p .clocks - p .edge) (p .clocks) ≡ p .clocks - p .edge = omega arith in
+          ap (λ (n : ℕ). n - max (p .edge) (p .clocks - v)) k ∙ mirror (p .edge) (p .clocks) v
+
+-- ---- in a frame
+
+pub lit-on : (p : Part) (configuration global v output s c : ℕ) → isOn p configuration global s ≡ true → isLit p configuration global v output s c ≡ litAt p v output c
+lit-on p configuration global v output s c e = ap (λ (t : Bool). t && litAt p v output c) e
+
+pub lit-off : (p : Part) (configuration global v output s c : ℕ) → isOn p configuration global s ≡ false → isLit p configuration global v output s c ≡ false
+lit-off p configuration global v output s c e = ap (λ (t : Bool). t && litAt p v output c) e
+
+count-none : (from n : ℕ) → count (λ c. false) from n ≡ 0
+unfolding count
+count-none from zero = refl
+count-none from (suc n) = add-zero _ ∙ count-none from n
+
+-- the lit clocks of the first n subframes
+pub total-lit :
+    (p : Part) (configuration global v output n : ℕ)
+    → total (λ s. count (isLit p configuration global v output s) 0 (p .clocks)) n ≡ count (isOn p configuration global) 0 n * litClocks p v
+unfolding count total
+total-lit p configuration global v output zero = sym (zero-mul (litClocks p v))
+total-lit p configuration global v output (suc n) =
+    ap₂ (λ (j k : ℕ). j + k) (total-lit p configuration global v output n)
+    (at (isOn p configuration global n) ∙ ap (λ (k : ℕ). digit (isOn p configuration global k) * litClocks p v) (sym (zero-add n)))
+    ∙ sym (add-mul (count (isOn p configuration global) 0 n) (digit (isOn p configuration global (0 + n))) (litClocks p v)) where
+      at : (t : Bool) → count (λ c. t && litAt p v output c) 0 (p .clocks) ≡ digit t * litClocks p v
+      at true = count-lit p v output ∙ sym (one-mul (litClocks p v))
+      at false = count-none 0 (p .clocks) ∙ sym (zero-mul (litClocks p v))
+
+-- ---- by the tests of the code
+
+and-false : (a : Bool) → false ≡ (a && false)
+and-false true = refl
+and-false false = refl
+
+pub dark-first : (p : Part) (v output c : ℕ) → c < p .edge → false ≡ litAt p v output c
+dark-first p v output c h = rw (lt-leb (p .edge) c h)
+
+pub dark-last : (p : Part) (v output c : ℕ) → p .clocks - p .edge ≤ c → false ≡ litAt p v output c
+dark-last p v output c h = rw (le-ltb c (p .clocks - p .edge) h) (and-false (leb (p .edge) c))
+
+pub lit-inside : (p : Part) (v output c : ℕ) → p .edge ≤ c → c < p .clocks - p .edge → litBy p v output c ≡ litAt p v output c
+lit-inside p v output c h k = rw (le-leb (p .edge) c h, lt-ltb c (p .clocks - p .edge) k)
+
+-- B7, output 0, is odd
+pub even-bit : (output : ℕ) → eqb (output % 2) 1 ≡ isEven output
+even-bit output = at (eqb (output % 2) 1) refl where
+  at : (t : Bool) → eqb (output % 2) 1 ≡ t → t ≡ isEven output
+  at true e = let h = eqb-true (output % 2) 1 e in sym (eq-eqb (nameNumber output % 2) 0 (omega arith))
+  at false e = let h = eqb-false (output % 2) 1 e in sym (ne-eqb (nameNumber output % 2) 0 (λ z. h (omega arith)))
+
+pub edge-le : (part : ℕ) → partOf part .edge ≤ partOf part .clocks
+edge-le part = each-row (λ p. p .edge ≤ p .clocks) (lit≤ tt) (lit≤ tt) part
+
+pub or-none : (a b : Bool) → (a || b) ≡ false → (a ≡ false) × (b ≡ false)
+or-none true b e = absurd (true≢false e)
+or-none false b e = (refl, e)
+
+-- a position that is not over is one of the part's
+pub position-within :
+    (p : Part) (configuration output subframe clock phase : ℕ)
+    → positionOver p configuration output subframe clock phase ≡ false
+    → (output < 8 * p .banks) × (subframe < subframes p configuration) × (clock < p .clocks) × (phase ≤ multiplex configuration)
+unfolding positionOver
+position-within p configuration output subframe clock phase e =
+    let f = or-none (leb (8 * p .banks) output) (leb (subframes p configuration) subframe || (leb (p .clocks) clock || ltb (multiplex configuration) phase)) e in
+    let g = or-none (leb (subframes p configuration) subframe) (leb (p .clocks) clock || ltb (multiplex configuration) phase) (f .1) in
+    let h = or-none (leb (p .clocks) clock) (ltb (multiplex configuration) phase) (g .1) in
+    (leb-false (8 * p .banks) output (f .0), leb-false (subframes p configuration) subframe (g .0), leb-false (p .clocks) clock (h .0), ltb-false (multiplex configuration) phase (h .1))

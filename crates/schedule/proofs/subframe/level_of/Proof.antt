@@ -1,0 +1,21 @@
+use mathlib.Core.Path.{sym, ap, subst}
+use Prim.Native.Nat.{ℕ, _%_, _<_}
+use Rattle.schedule.proofs.Subframes.{subframes-within}
+use borrow.Author.Needs.{needs}
+use Rattle.schedule.proofs.subframe.level_of.Statement.{statement}
+use Rattle.schedule.proofs.subframe.level_of.Tie as tie
+
+subframes-of-requires : tie.Need-subframes-of-requires
+subframes-of-requires c κs = search needs
+
+cast-result : tie.Need-cast-result
+cast-result c = search needs
+
+rem-result : tie.Need-rem-result
+rem-result c = subst (λ (n : ℕ). 0 < n) (sym (c .subframes-of .ensures)) (subframes-within (c .before .args .part) (c .before .args .configuration) .0)
+
+returns : tie.Need-returns
+returns c = ap (λ (n : ℕ). c .before .args .global % n) (c .subframes-of .ensures)
+
+pub level-of-spec : {M : Type 1} → statement M
+level-of-spec = tie.close (tie.spec subframes-of-requires cast-result rem-result returns)

@@ -1,0 +1,4 @@
+-- Light: ON subframes, leads and lit clocks, and what the questions about them answer.
+pub mod Light
+pub mod Answers
+pub mod OfDevice

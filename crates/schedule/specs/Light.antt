@@ -1,0 +1,70 @@
+-- Document 01, "Light": which subframes of a frame are ON, the lead of a window of subframes, and the clocks at which an output is lit.
+-- A frame has S subframes and a level g below S; a subframe has P clocks, of which the first and last e are the edge zones.
+-- All is said for any S and g, any row and any configuration. Closed forms are laws (proofs/), not definitions.
+use Prim.Native.Nat.{ℕ, zero, suc, _+_, _-_, _*_, _/_, _%_}
+use mathlib.Core.Bool.{Bool, _&&_, cond}
+use lib.Dec.{eqb, ltb, leb}
+use lib.IntN.{ℤ, pos, _-ℤ_}
+use Rattle.bits.specs.Bits.{digit}
+use Rattle.parts.specs.Parts.{Part, subframes}
+
+-- how many of the n numbers from `from` on pass a test
+unfoldable pub count : (ℕ → Bool) → ℕ → ℕ → ℕ
+count f from zero = 0
+count f from (suc n) = count f from n + digit (f (from + n))
+
+-- the sum of f over the n numbers from 0 on
+unfoldable pub total : (ℕ → ℕ) → ℕ → ℕ
+total f zero = 0
+total f (suc n) = total f n + f n
+
+-- ---- subframes
+
+-- s(g + 1) div S
+abbrev pub onFirst : ℕ → ℕ → ℕ → ℕ
+onFirst S g s = s * (g + 1) / S
+
+-- subframe s is ON
+abbrev pub on : ℕ → ℕ → ℕ → Bool
+on S g s = ltb (onFirst S g s) (onFirst S g (s + 1))
+
+-- the ON subframes of a window
+abbrev pub onCount : ℕ → ℕ → ℕ → ℕ → ℕ
+onCount S g start length = count (on S g) start length
+
+-- the lead of a window: S times its ON count less w(g + 1)
+abbrev pub lead : ℕ → ℕ → ℕ → ℕ → ℤ
+lead S g start length = pos (S * onCount S g start length) -ℤ pos (length * (g + 1))
+
+-- ---- clocks of an ON subframe
+
+-- the number in an output's name: in wire order B7 to B0, G7 to G0, R7 to R0
+abbrev pub nameNumber : ℕ → ℕ
+nameNumber output = 7 - output % 8
+
+abbrev pub isEven : ℕ → Bool
+isEven output = eqb (nameNumber output % 2) 0
+
+-- an even output is lit before clock v, an odd one from clock P - v on
+abbrev pub litBy : Part → ℕ → ℕ → ℕ → Bool
+litBy p v output c = cond (isEven output) (ltb c v) (leb (p .clocks - v) c)
+
+-- both only outside the edge zones
+abbrev pub litAt : Part → ℕ → ℕ → ℕ → Bool
+litAt p v output c = leb (p .edge) c && (ltb c (p .clocks - p .edge) && litBy p v output c)
+
+-- ---- by part, configuration and global byte
+
+-- g: any byte, modulo S
+abbrev pub level : Part → ℕ → ℕ → ℕ
+level p configuration global = global % subframes p configuration
+
+abbrev pub isOn : Part → ℕ → ℕ → ℕ → Bool
+isOn p configuration global s = on (subframes p configuration) (level p configuration global) s
+
+abbrev pub leadOf : Part → ℕ → ℕ → ℕ → ℕ → ℤ
+leadOf p configuration global start length = lead (subframes p configuration) (level p configuration global) start length
+
+-- an output with value v is lit at clock c of subframe s
+abbrev pub isLit : Part → ℕ → ℕ → ℕ → ℕ → ℕ → ℕ → Bool
+isLit p configuration global v output s c = isOn p configuration global s && litAt p v output c

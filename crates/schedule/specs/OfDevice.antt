@@ -1,0 +1,34 @@
+-- Is an output of a device record lit, by its active global byte and active values: the answer for any record and position.
+use Prim.Native.Nat.{ℕ}
+use mathlib.Core.Bool.{Bool, not, _||_, cond}
+use mathlib.Core.List.{List, [], _∷_}
+use lib.Dec.{eqb}
+use lib.ListN.{getD}
+use Rattle.parts.specs.Refusals.{Row, _when_, first, answer}
+use Rattle.parts.specs.Parts.{known, partOf}
+use Rattle.device.specs.declared.device.Device.{Device}
+use Rattle.device.specs.declared.registers.Registers.{Registers}
+use Rattle.device.specs.Judgement.{fits}
+use Rattle.schedule.specs.Light.{isLit}
+use Rattle.schedule.specs.Answers.{positionOver}
+use Rattle.schedule.specs.declared.answer.Asked.{Asked}
+use Rattle.schedule.specs.declared.answer.Asked.the-variants.{Is, Refused}
+
+-- the active value of an output in a phase
+abbrev pub activeValue : Registers → ℕ → ℕ → ℕ
+activeValue r output phase = cond (eqb phase 0) (getD (r .active0) output 0) (getD (r .active1) output 0)
+
+-- an output of a device with these registers is lit
+abbrev pub isShown : Registers → ℕ → ℕ → ℕ → ℕ → Bool
+isShown r output subframe clock phase =
+    isLit (partOf (r .part)) (r .configuration) (r .active) (activeValue r output phase) output subframe clock
+
+abbrev pub deviceRows : Device → ℕ → ℕ → ℕ → ℕ → List Row
+deviceRows d output subframe clock phase =
+    (1 when not (known (d .registers .part)))
+    ∷ (13 when not (fits d) || positionOver (partOf (d .registers .part)) (d .registers .configuration) output subframe clock phase)
+    ∷ []
+
+unfoldable pub deviceAnswer : Device → ℕ → ℕ → ℕ → ℕ → Asked
+deviceAnswer d output subframe clock phase =
+    answer (first (deviceRows d output subframe clock phase)) Refused (Is (isShown (d .registers) output subframe clock phase))

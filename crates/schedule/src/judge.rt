@@ -1,0 +1,85 @@
+// The refusals: each gives the first number of its table, or 0.
+ghost use mathlib.Core.Path.{_≡_};
+ghost use Rattle.parts.specs.Refusals.{first};
+ghost use Rattle.parts.specs.Parts.{partOf};
+ghost use Rattle.schedule.specs.Answers.{onRows, leadRows, litRows, positionOver};
+use parts::constants_of;
+use parts::is_known;
+use parts::subframes_of;
+use parts::value_limit;
+
+pub fn judge_subframe(part: u16, configuration: u8, subframe: u32) -> u8
+    ensures { λ r. ⌜ r ≡ first (onRows part configuration subframe) ⌝ }
+{
+    if !is_known(part) {
+        return 1;
+    }
+    if subframe >= subframes_of(part, configuration) as u32 {
+        return 13;
+    }
+    0
+}
+
+// A window of no subframes may stand at the frame's end.
+pub fn judge_window(part: u16, configuration: u8, start: u32, length: u32) -> u8
+    ensures { λ r. ⌜ r ≡ first (leadRows part configuration start length) ⌝ }
+{
+    if !is_known(part) {
+        return 1;
+    }
+    let subframes = subframes_of(part, configuration) as u32;
+    if length > subframes {
+        return 13;
+    }
+    if start > subframes - length {
+        return 13;
+    }
+    0
+}
+
+pub fn judge_lit(
+    part: u16,
+    configuration: u8,
+    value: u16,
+    output: u32,
+    subframe: u32,
+    clock: u32,
+    phase: u32,
+) -> u8
+    ensures { λ r. ⌜ r ≡ first (litRows part configuration value output subframe clock phase) ⌝ }
+{
+    if !is_known(part) {
+        return 1;
+    }
+    if value >= value_limit(part) {
+        return 6;
+    }
+    if is_position_over(part, configuration, output, subframe, clock, phase) {
+        return 13;
+    }
+    0
+}
+
+// The part and its configuration do not have the position.
+pub fn is_position_over(
+    part: u16,
+    configuration: u8,
+    output: u32,
+    subframe: u32,
+    clock: u32,
+    phase: u32,
+) -> bool
+    ensures { λ r. ⌜ r ≡ positionOver (partOf part) configuration output subframe clock phase ⌝ }
+{
+    let constants = constants_of(part);
+    if output >= 8 * (constants.banks as u32) {
+        return true;
+    }
+    if subframe >= subframes_of(part, configuration) as u32 {
+        return true;
+    }
+    if clock >= constants.clocks as u32 {
+        return true;
+    }
+    phase > (configuration % 2) as u32
+}

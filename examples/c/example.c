@@ -1,0 +1,175 @@
+/*
+ * From a set to a running sign, through include/bractbeacon.h: frames, line states, a run on three devices, what comes
+ * back, the light, the comparison. Prints what came out and exits with 1 where it is not what paper 01 says.
+ *
+ *   tools/library
+ *   gcc -std=c11 -Wall -Wextra -Iinclude examples/c/example.c -Ltarget/staticlib -lbractbeacon -o target/example
+ */
+#include <stdio.h>
+#include <string.h>
+
+#include "bractbeacon.h"
+
+enum { DEVICES = 3, PART = 6974, CONFIGURATION = 0x00, GLOBAL = 96, VALUE = 2560 };
+
+static const uint64_t TAIL = 0xA5;
+static const uint32_t TAIL_LENGTH = 8;
+
+/* The order of a restore: configuration first, since it says how long individual slices are. */
+static const uint8_t RESTORE[4] = {BB_CONFIGURATION, BB_CALIBRATION, BB_GLOBAL, BB_INDIVIDUAL};
+static const char *const NAMES[4] = {"individual", "calibration", "global", "configuration"};
+
+static int mismatches = 0;
+
+static void expect(const char *what, int holds)
+{
+    if (!holds) {
+        printf("MISMATCH: %s\n", what);
+        mismatches++;
+    }
+}
+
+static void print_bytes(const char *what, const uint8_t *bytes, size_t length)
+{
+    printf("%s:", what);
+    for (size_t i = 0; i < length && i < 12; i++)
+        printf(" %02X", bytes[i]);
+    printf(length > 12 ? " ... (%zu bytes)\n" : "\n", length);
+}
+
+/* The values of a sign. */
+struct set {
+    uint8_t calibration[3 * DEVICES];
+    uint16_t individual[24 * DEVICES];
+};
+
+static uint8_t byte_of(uint8_t command)
+{
+    return command == BB_GLOBAL ? GLOBAL : CONFIGURATION;
+}
+
+/* Writes the set's frame of a command; its number of bytes. */
+static size_t write_frame(const struct set *set, uint8_t command, size_t devices, uint64_t tail, uint32_t tail_length,
+                          uint8_t *out, size_t room)
+{
+    struct bb_answer written =
+        bb_write(PART, devices, command, CONFIGURATION, tail, tail_length, byte_of(command), set->calibration,
+                 3 * devices, set->individual, 24 * devices, out, room);
+    expect("the frame is accepted", written.refusal == 0);
+    return written.value;
+}
+
+/* 01's frames of one device: a, c, d, e and h. */
+static void frames_of_one(const struct set *set)
+{
+    static const uint8_t a[] = {0xE8, 0xFC, 0x00, 0x00, 0x00, 0x00};
+    static const uint8_t c[] = {0xE8, 0x54, 0x00, 0xA9, 0x10, 0x01};
+    static const uint8_t d[] = {0xE8, 0xA8, 0x00, 0x60, 0x60, 0x60};
+    static const uint8_t e[] = {0xE8, 0x00, 0x00, 0xA0, 0x0A, 0x00};
+    static const uint8_t h[] = {0xE8, 0xFC, 0x00, 0x00, 0x00, 0x00, 0xA0};
+    static const uint8_t *const expected[4] = {e, c, d, a};
+    uint8_t frame[64];
+
+    for (int i = 0; i < 4; i++) {
+        uint8_t command = RESTORE[i];
+        size_t length = write_frame(set, command, 1, 0, 0, frame, sizeof frame);
+        print_bytes(NAMES[command], frame, length);
+        expect(NAMES[command], length >= 6 && memcmp(frame, expected[command], 6) == 0);
+    }
+    size_t length = write_frame(set, BB_CONFIGURATION, 1, 5, 3, frame, sizeof frame);
+    expect("frame h", length == sizeof h && memcmp(frame, h, sizeof h) == 0);
+    frame[6] = 0xA1;
+    uint8_t bytes[3];
+    uint16_t values[24];
+    struct bb_answer read =
+        bb_read(PART, 1, BB_CONFIGURATION, CONFIGURATION, 5, 3, frame, length, bytes, 3, values, 24);
+    printf("last byte A1: refused %u\n", read.refusal);
+    expect("an unused bit is refused with 11", read.refusal == 11);
+}
+
+/* Sends one frame down the chain and reads what comes back; the count. */
+static uint64_t send(const struct set *set, struct bb_device *chain, uint8_t command)
+{
+    uint8_t frame[512], states[4096], returned[4096], back[16];
+    size_t length = write_frame(set, command, DEVICES, TAIL, TAIL_LENGTH, frame, sizeof frame);
+    size_t bits = 24 + DEVICES * bb_slice_bits(command, PART, CONFIGURATION).value + TAIL_LENGTH;
+    struct bb_answer on_line = bb_states(frame, length, bits, states, sizeof states);
+    expect("the frame has states", on_line.refusal == 0 && on_line.value == bits);
+    struct bb_answer sent = bb_run(chain, DEVICES, states, on_line.value, returned, sizeof returned);
+    expect("the run is accepted", sent.refusal == 0);
+    struct bb_answer packed = bb_data_bytes(returned, sent.value, back, sizeof back);
+    expect("what came back is packed", packed.refusal == 0);
+    struct bb_answer count = bb_read_return(PART, DEVICES, command, TAIL, TAIL_LENGTH, back, packed.value);
+    expect("the return is accepted", count.refusal == 0);
+    print_bytes("returned", back, packed.value);
+    return count.value;
+}
+
+/* Example g and demand 3: two open LEDs, a whole restore, a boundary, and then the chain runs the set. */
+static void restore(const struct set *set, struct bb_device *chain)
+{
+    expect("fresh", bb_fresh(chain, DEVICES, PART) == 0);
+    expect("open LED", bb_set_fault(chain, DEVICES, 1, BB_OPEN_LED, 1) == 0);
+    expect("open LED", bb_set_fault(chain, DEVICES, 3, BB_OPEN_LED, 1) == 0);
+    expect("no device 4", bb_set_fault(chain, DEVICES, 4, BB_OPEN_LED, 1) == 13);
+    for (int i = 0; i < 4; i++) {
+        uint8_t command = RESTORE[i];
+        uint64_t count = send(set, chain, command);
+        printf("%s: %u faults\n", NAMES[command], (unsigned)count);
+        expect("C0 = 1 counts open LEDs", count == (command & 1 ? 2u : 0u));
+    }
+    struct bb_compared before = bb_compare(PART, DEVICES, CONFIGURATION, set->calibration, 3 * DEVICES, GLOBAL,
+                                           set->individual, 24 * DEVICES, chain, DEVICES);
+    printf("before the boundary: device %u, group %u, place %u\n", (unsigned)before.device, before.group, before.place);
+    expect("the global byte still waits", before.device == 1 && before.group == BB_IN_ACTIVE_GLOBAL);
+    expect("boundary", bb_boundary(chain, DEVICES) == 0);
+    struct bb_compared after = bb_compare(PART, DEVICES, CONFIGURATION, set->calibration, 3 * DEVICES, GLOBAL,
+                                          set->individual, 24 * DEVICES, chain, DEVICES);
+    expect("same", after.refusal == 0 && after.group == BB_SAME);
+    expect("the last value", chain[2].registers.active0[23] == VALUE);
+}
+
+/* Examples i, j and k. */
+static void light(const struct bb_device *chain)
+{
+    static const uint64_t on[5] = {0, 1, 1, 1, 0};
+    for (uint32_t s = 0; s < 5; s++)
+        expect("subframes 0 and 4 are off, 1 to 3 ON", bb_on(PART, CONFIGURATION, GLOBAL, s).value == on[s]);
+    struct bb_signed one = bb_lead(PART, CONFIGURATION, GLOBAL, 0, 1);
+    struct bb_signed three = bb_lead(PART, CONFIGURATION, GLOBAL, 1, 3);
+    printf("leads: %d, %d\n", (int)one.value, (int)three.value);
+    expect("leads", one.value == -97 && three.value == 93);
+
+    unsigned even = 0, odd = 0;
+    for (uint32_t clock = 0; clock < 4096; clock++) {
+        uint64_t r0 = bb_device_lit(chain[0], 23, 1, clock, 0).value;
+        uint64_t b7 = bb_device_lit(chain[0], 0, 1, clock, 0).value;
+        expect("R0 is lit at 16 to 2559", r0 == (clock >= 16 && clock <= 2559));
+        expect("B7 is lit at 1536 to 4079", b7 == (clock >= 1536 && clock <= 4079));
+        even += (unsigned)r0;
+        odd += (unsigned)b7;
+    }
+    printf("lit clocks in subframe 1: R0 %u, B7 %u\n", even, odd);
+    expect("a 6975 with value 33: R0 at 32", bb_lit(6975, 0, 31, 33, 23, 0, 32, 0).value == 1);
+    expect("nonmultiplexed, phase MUX1 is 13", bb_lit(6975, 0, 31, 33, 23, 0, 32, 1).refusal == 13);
+}
+
+int main(void)
+{
+    struct set set;
+    struct bb_device chain[DEVICES];
+
+    memset(chain, 0xFF, sizeof chain);
+    for (int i = 0; i < DEVICES; i++) {
+        static const uint8_t bgr[3] = {0xA9, 0x10, 0x01};
+        memcpy(set.calibration + 3 * i, bgr, 3);
+    }
+    for (int i = 0; i < 24 * DEVICES; i++)
+        set.individual[i] = VALUE;
+
+    frames_of_one(&set);
+    restore(&set, chain);
+    light(chain);
+    printf("%s\n", mismatches == 0 ? "all as 01 says" : "not as 01 says");
+    return mismatches != 0;
+}

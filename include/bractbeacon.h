@@ -1,0 +1,344 @@
+/*
+ * Bractbeacon: frames, chains and light of MAX6974 and MAX6975 LED drivers.
+ *
+ * The functions are those of the static library target/staticlib/libbractbeacon.a (`tools/library`, x86-64 Linux).
+ * Each has one result and one content of every lent list, for any numbers; the library's contracts say which.
+ * "01" below is the customer's paper, "Sign restore: build definition and exact rules".
+ *
+ * Refusals
+ *   A refusal is a number of 01's table, 0 where the call is accepted. The lowest number that applies is given.
+ *   A refused call changes nothing: every lent byte, value, state and record stays as it came in, and every other
+ *   number of its answer is 0.
+ *
+ *   1  the part is neither 6974 nor 6975
+ *   2  the number of devices is not 1 to 1023
+ *   3  the tail length is over 64
+ *   4  a settings list, a frame or a return has another length than its rule says; a compared chain has another
+ *      number of devices or another part; records of one chain differ in part
+ *   5  the output is too short
+ *   6  an individual value or a global byte is out of range, or tail bits stand above the tail's length
+ *   7  SYNC is not 0xE8
+ *   8  the six command bits are not those expected
+ *   9  a host frame's count is not 0; a return's count is over the number of devices
+ *  10  copies within a slice, or global or configuration bytes of two devices, differ
+ *  11  an unused bit of the last byte is 1
+ *  12  the tail is not the one sent
+ *  13  a device number, position, line state or fault kind is out of range, or a device record does not fit (below)
+ *
+ * Lists
+ *   A list is lent as two arguments, a pointer to its first element and the number of its elements. The caller owns it
+ *   before, during and after the call; the library keeps no pointer, allocates nothing and holds no state, so calls on
+ *   separate memory may run at the same time. A pointer is aligned for its element and never null, not even with length
+ *   0, and a list that a call may write overlaps no other list of that call. Elements past what an accepted call writes
+ *   stay the same. Lists of settings are in wire order, device 1 (nearest the host) first. Devices are numbered 1 to N.
+ *
+ * Commands
+ *   A command is given as its bits C1 C0, one of the numbers below. Higher bits of the argument are ignored.
+ */
+#ifndef BRACTBEACON_H
+#define BRACTBEACON_H
+
+#include <stddef.h>
+#include <stdint.h>
+
+#ifdef __cplusplus
+extern "C" {
+#endif
+
+/* Commands, C1 C0. */
+enum {
+    BB_INDIVIDUAL = 0,
+    BB_CALIBRATION = 1,
+    BB_GLOBAL = 2,
+    BB_CONFIGURATION = 3
+};
+
+/* Fault kinds. */
+enum {
+    BB_OVERTEMPERATURE = 0,
+    BB_OPEN_LED = 1
+};
+
+/* Phases of a device. */
+enum {
+    BB_HUNTING = 0,
+    BB_OPENING = 1,
+    BB_COUNTING = 2,
+    BB_SLICE = 3,
+    BB_PASSING = 4,
+    BB_LOST = 5
+};
+
+/* Groups of a comparison, in the order in which they are compared. */
+enum {
+    BB_SAME = 0,
+    BB_IN_CONFIGURATION = 1,
+    BB_IN_CALIBRATION = 2,
+    BB_IN_ACTIVE_GLOBAL = 3,
+    BB_IN_ACTIVE_INDIVIDUAL = 4
+};
+
+/* A number, or a refusal. */
+struct bb_answer {
+    uint64_t value;  /* what was asked for; 0 where refused */
+    uint8_t refusal; /* 0 where accepted */
+};
+
+/*
+ * What a device holds. Any numbers may stand in a record that a caller lends: each call judges them.
+ * A record fits when both flags are 0 or 1, every value and every slot of `slice` is below 2^12 (6974) or 2^14 (6975),
+ * and its place fits its phase.
+ */
+struct bb_registers {
+    uint16_t part;           /* 6974 or 6975 */
+    uint8_t overtemperature; /* fault flag: 0 or 1 */
+    uint8_t openled;         /* fault flag: 0 or 1 */
+    uint8_t configuration;   /* D0 multiplex, D4 GLB4 */
+    uint8_t calibration[3];  /* B, G, R */
+    uint8_t waiting;         /* global byte, until the frame boundary */
+    uint8_t active;          /* global byte in use */
+    uint16_t waiting0[24];   /* MUX0 values, until the frame boundary; B7 to B0, G7 to G0, R7 to R0 */
+    uint16_t waiting1[24];   /* MUX1 values likewise */
+    uint16_t active0[24];    /* MUX0 values in use */
+    uint16_t active1[24];    /* MUX1 values in use while D0 is 1 */
+    /* The slice coming in, a slot for each field, in wire order. A slot is a shift register: the bit at position t of
+     * the slice goes to slot k = t / (bits of a field), slot = (slot * 2 + bit) modulo 2^(value width) in an individual
+     * slice and modulo 256 in any other. Slots are not cleared. */
+    uint16_t slice[48];
+};
+
+/*
+ * Where a device is in the frame. Numbers that a phase does not use are 0.
+ *   BB_HUNTING   read: the last eight low bits since the last high clock, as a byte
+ *   BB_OPENING   read: a leading one and then the command bits so far, 2 to 63
+ *   BB_COUNTING  command; read: a leading one and then the count bits so far, 1 to 1023
+ *   BB_SLICE     command; count, below 1024; read: bits taken, below the slice's bits by command, part and own D0
+ *   BB_PASSING, BB_LOST
+ */
+struct bb_place {
+    uint8_t phase;
+    uint8_t command;
+    uint16_t count;
+    uint16_t read;
+};
+
+/* One device: a record of plain numbers without padding. */
+struct bb_device {
+    struct bb_registers registers;
+    struct bb_place place;
+};
+
+/* One step of a device. */
+struct bb_stepped {
+    struct bb_device device; /* the next device; the one that came in where refused */
+    uint16_t count;          /* where 24 states are sent: the count in the header */
+    uint8_t command;         /* where 24 states are sent: the command in the header */
+    uint8_t state;           /* where one state is sent: that state */
+    uint8_t sent;            /* how many states are sent on: 0, 1 or 24 */
+    uint8_t refusal;
+};
+
+/* A signed number, or a refusal. */
+struct bb_signed {
+    int32_t value; /* a lead: strictly between -S and S; 0 where refused */
+    uint8_t refusal;
+};
+
+/* The first difference between a set and a chain, or a refusal. All numbers are 0 where they are the same. */
+struct bb_compared {
+    uint64_t device; /* 1 to N */
+    uint16_t place;  /* in that device's slice, from 0; 0 for a repeated byte */
+    uint8_t group;   /* BB_SAME, BB_IN_CONFIGURATION, ... */
+    uint8_t refusal;
+};
+
+/* ---- Bits ---- */
+
+/*
+ * Packs the `width` low bits of each value, most significant first and without a gap, into `out` from the byte `at` on;
+ * unused bits of the last byte become 0. Answers the number of bytes written, (count * width + 7) / 8.
+ * Refused with 5 where the width is over 16 or `at` plus that number is over `room`.
+ */
+struct bb_answer bb_pack(const uint16_t *values, size_t count, uint32_t width, uint8_t *out, size_t room, size_t at);
+
+/*
+ * Fills `values` with numbers of `width` bits from `bytes`, from the byte `at` on: bb_pack undone. Returns the refusal:
+ * 5 where the width is over 16 or `at` plus (count * width + 7) / 8 is over `length`.
+ */
+uint8_t bb_unpack(const uint8_t *bytes, size_t length, size_t at, uint32_t width, uint16_t *values, size_t count);
+
+/* ---- Parts ---- */
+
+/* Subframes per frame, S, by part and the configuration's D0 and D4. Refused with 1. */
+struct bb_answer bb_subframes(uint16_t part, uint8_t configuration);
+
+/*
+ * Bits of one device's slice by command, part and the configuration's D0. A frame has 24 bits, N slices and its tail;
+ * packed, (bits + 7) / 8 bytes. Refused with 1.
+ */
+struct bb_answer bb_slice_bits(uint8_t command, uint16_t part, uint8_t configuration);
+
+/* ---- Frames ---- */
+
+/*
+ * Writes a frame into `out` and answers the number of bytes written. It is told part, number of devices, command,
+ * configuration and tail (a number and its length in bits), and given its own command's values:
+ *   individual     `values`, 24 for each device, 48 where the configuration's D0 is 1; `byte` and `bytes` are ignored
+ *   calibration    `bytes`, B, G, R for each device; `byte` and `values` are ignored
+ *   global         `byte`; both lists are ignored
+ *   configuration  `byte`; both lists and the told configuration are ignored
+ * Refusals:
+ *   1, 2, 3  part, devices, tail length
+ *   4        the command's list is not 3 bytes, or 24 or 48 values, for each device
+ *   5        `room` is below the frame's bytes
+ *   6        an individual value is not below 2^width, a global byte is not below S, or tail bits stand above the
+ *            tail's length
+ */
+struct bb_answer bb_write(uint16_t part, size_t devices, uint8_t command, uint8_t configuration, uint64_t tail,
+                          uint32_t tail_length, uint8_t byte, const uint8_t *bytes, size_t bytes_length,
+                          const uint16_t *values, size_t values_length, uint8_t *out, size_t room);
+
+/*
+ * Reads a host frame, told the same. Answers:
+ *   individual     the number of values, which it writes to `values`; `bytes` is not touched
+ *   calibration    the number of bytes, which it writes to `bytes`; `values` is not touched
+ *   global         the byte; neither list is touched
+ *   configuration  the byte; neither list is touched, and the told configuration is ignored
+ * Refusals:
+ *   1, 2, 3  part, devices, tail length
+ *   4        `frame_length` is not the frame's number of bytes
+ *   5        the command's lent list is too short (individual and calibration)
+ *   6        a copy of a global byte is not below S, or bits of the told tail stand above its length
+ *   7 to 9   SYNC, command bits, count not 0
+ *   10       global or configuration: two of the bytes differ, in one slice or in two
+ *   11, 12   an unused bit of the last byte is 1; the tail is not the told one
+ */
+struct bb_answer bb_read(uint16_t part, size_t devices, uint8_t command, uint8_t configuration, uint64_t tail,
+                         uint32_t tail_length, const uint8_t *frame, size_t frame_length, uint8_t *bytes,
+                         size_t bytes_length, uint16_t *values, size_t values_length);
+
+/*
+ * Reads what came back from the last device, packed as a frame is, and answers its count of faults.
+ * Refusals:
+ *   1, 2, 3  part, devices, tail length
+ *   4        `length` is not (24 + tail_length + 7) / 8
+ *   6        bits of the told tail stand above its length
+ *   7 to 9   SYNC, command bits, count over the number of devices
+ *   11, 12   an unused bit of the last byte is 1; the tail is not the told one
+ */
+struct bb_answer bb_read_return(uint16_t part, size_t devices, uint8_t command, uint64_t tail, uint32_t tail_length,
+                                const uint8_t *bytes, size_t length);
+
+/* ---- From bytes to the line and back ---- */
+
+/*
+ * Gives the line states of a packed frame of `bits` bits: the first 8 at low load, the rest at high. Answers the number
+ * of states written, `bits`. Unused bits of the last byte are not looked at.
+ * Refused with 4 where `frame_length` is not (bits + 7) / 8, and with 5 where `room` is below `bits`.
+ */
+struct bb_answer bb_states(const uint8_t *frame, size_t frame_length, size_t bits, uint8_t *states, size_t room);
+
+/*
+ * Packs the data bits of line states as bb_read_return takes them, and answers the number of bytes written,
+ * (count + 7) / 8. Refused with 5 where `room` is below that, and with 13 where a state is over 3.
+ */
+struct bb_answer bb_data_bytes(const uint8_t *states, size_t count, uint8_t *out, size_t room);
+
+/* ---- One device, by value ---- */
+
+/* The refusal of a record: 1 for its part, 13 where it does not fit, else 0. */
+uint8_t bb_judge(struct bb_device device);
+
+/*
+ * One clock with the line state `state`, 0 to 3: data bit plus twice the load bit. Gives the next device and what it
+ * sends on: nothing (`sent` 0), the state itself (1), or the 24 states of a header (24): SYNC 0xE8 at low load, then
+ * C1 C0 three times and the ten bits of the count at high load, each most significant bit first.
+ * Refused with 1 for the record's part, with 13 where the record does not fit or the state is over 3.
+ */
+struct bb_stepped bb_step(struct bb_device device, uint8_t state);
+
+/*
+ * The same without a judgement, for records that are known to fit: never refused. What it gives for other records and
+ * states is defined, and is the library's own affair.
+ */
+struct bb_stepped bb_step_bare(struct bb_device device, uint8_t state);
+
+/* ---- A chain: a lent list of records, changed in place ---- */
+
+/*
+ * Every call below that is lent a chain judges it: 1 for a record whose part is unknown, 2 for a number of records that
+ * is not 1 to 1023, 4 where records differ in part, 13 where a record does not fit. bb_fresh alone takes the records
+ * whatever they hold. Those that return a number return the refusal, 0 where accepted.
+ */
+
+/* Makes a chain fresh: zeros, no faults, hunting, all of the told part. Refused with 1 and 2. */
+uint8_t bb_fresh(struct bb_device *devices, size_t count, uint16_t part);
+
+/*
+ * Gives the chain line states, one to a clock, and answers how many states the last device sent; they stand in
+ * `returned`. Refused as above, with 5 where `room` is below states_count + 23 (also for no states), and with 13 where
+ * one state is over 3.
+ */
+struct bb_answer bb_run(struct bb_device *devices, size_t count, const uint8_t *states, size_t states_count,
+                        uint8_t *returned, size_t room);
+
+/* A frame boundary: waiting global and individual values become active. Refused as above. */
+uint8_t bb_boundary(struct bb_device *devices, size_t count);
+
+/*
+ * Sets the fault flag of one device, 1 to `count`: 0 takes it away, any other `flag` raises it.
+ * Refused as above, and with 13 for a device number or a kind out of range.
+ */
+uint8_t bb_set_fault(struct bb_device *devices, size_t count, size_t device, uint8_t kind, uint8_t flag);
+
+/* ---- Light ---- */
+
+/*
+ * Whether a subframe, from 0, is ON (1) or not (0), for any global byte, which is taken modulo S.
+ * Refused with 1, and with 13 for a subframe not below S.
+ */
+struct bb_answer bb_on(uint16_t part, uint8_t configuration, uint8_t global, uint32_t subframe);
+
+/*
+ * The lead of the window of `length` subframes from `start` on: S times its ON subframes less length * (g + 1).
+ * Refused with 1, and with 13 where start plus length is over S.
+ */
+struct bb_signed bb_lead(uint16_t part, uint8_t configuration, uint8_t global, uint32_t start, uint32_t length);
+
+/*
+ * Whether an output is lit (1) or not (0) at a clock of a subframe, from numbers. The output is 0 (B7) to 23 (R0), in
+ * wire order; the phase is 0 (MUX0) or, multiplexed, 1 (MUX1).
+ * Refused with 1, with 6 where the value is not below 2^width, and with 13 for an output over 23, a subframe not below
+ * S, a clock not below 4096 (6974) or 16,384 (6975), a phase over 1, or phase 1 where D0 is 0.
+ */
+struct bb_answer bb_lit(uint16_t part, uint8_t configuration, uint8_t global, uint16_t value, uint32_t output,
+                        uint32_t subframe, uint32_t clock, uint32_t phase);
+
+/*
+ * The same of a device, by its configuration and active values. Refused with 1 for its part, and with 13 where it does
+ * not fit or a position is out of range.
+ */
+struct bb_answer bb_device_lit(struct bb_device device, uint32_t output, uint32_t subframe, uint32_t clock,
+                               uint32_t phase);
+
+/* ---- Is it running? ---- */
+
+/*
+ * Compares a set with a chain: BB_SAME, or the first difference, by device, then group, then place. Nothing is written.
+ * Global bytes are compared as stored; MUX1 values only where the set's D0 is 1.
+ * Refusals:
+ *   1, 2  the set's part or a record's; the set's devices or the chain's
+ *   4     `calibration` is not 3 bytes, or `individual` not 24 (48 where D0 is 1) values, for each device of the set;
+ *         the chain has another number of devices or another part; records differ in part
+ *   6     the set's global byte is not below S, or an individual value is not below 2^width
+ *   13    a record does not fit
+ */
+struct bb_compared bb_compare(uint16_t part, size_t devices, uint8_t configuration, const uint8_t *calibration,
+                              size_t calibration_length, uint8_t global, const uint16_t *individual,
+                              size_t individual_length, const struct bb_device *chain, size_t chain_length);
+
+#ifdef __cplusplus
+}
+#endif
+
+#endif

@@ -1,0 +1,110 @@
+//! A set against a chain: judged, then compared device by device.
+
+use crate::chain::judge_parts;
+use crate::device::fits;
+use crate::part::{is_known, subframes, values, width};
+use crate::Refusal;
+use record::{Device, Registers};
+
+/// A set, borrowed.
+#[derive(Clone, Copy, Debug)]
+pub struct Set<'a> {
+    /// 6974 or 6975.
+    pub part: u16,
+    /// N.
+    pub devices: usize,
+    /// The configuration byte.
+    pub configuration: u8,
+    /// B, G, R for each device.
+    pub calibration: &'a [u8],
+    /// The global byte.
+    pub global: u8,
+    /// 24 or 48 values for each device.
+    pub individual: &'a [u16],
+}
+
+/// The first difference: device from 1, group (1 configuration, 2 calibration, 3 active global, 4 active individual),
+/// place.
+pub type Difference = (usize, u8, usize);
+
+/// The first difference, or none.
+pub fn compare(set: &Set, chain: &[Device]) -> Result<Option<Difference>, Refusal> {
+    judge(set, chain)?;
+    let values = values(set.configuration);
+    let calibration = set.calibration.chunks_exact(3);
+    let individual = set.individual.chunks_exact(values);
+    for (k, (device, (calibration, individual))) in
+        chain.iter().zip(calibration.zip(individual)).enumerate()
+    {
+        let r = &device.registers;
+        if let Some((group, place)) = first_difference(set, r, calibration, individual) {
+            return Ok(Some((k + 1, group, place)));
+        }
+    }
+    Ok(None)
+}
+
+fn judge(set: &Set, chain: &[Device]) -> Result<(), Refusal> {
+    let of_chain = judge_parts(chain).err().unwrap_or(0);
+    if !is_known(set.part) || of_chain == 1 {
+        return Err(1);
+    }
+    if set.devices == 0 || set.devices > 1023 || of_chain == 2 {
+        return Err(2);
+    }
+    let values = values(set.configuration) * set.devices;
+    if set.calibration.len() != 3 * set.devices
+        || set.individual.len() != values
+        || chain.len() != set.devices
+        || of_chain == 4
+        || chain[0].registers.part != set.part
+    {
+        return Err(4);
+    }
+    let all = set.individual.iter().fold(0, |all, &value| all | value);
+    let limit = subframes(set.part, set.configuration);
+    if u16::from(set.global) >= limit || all >> width(set.part) != 0 {
+        return Err(6);
+    }
+    if chain.iter().all(fits) {
+        Ok(())
+    } else {
+        Err(13)
+    }
+}
+
+fn first_difference(
+    set: &Set,
+    r: &Registers,
+    calibration: &[u8],
+    individual: &[u16],
+) -> Option<(u8, usize)> {
+    if r.configuration != set.configuration {
+        return Some((1, 0));
+    }
+    if let Some(place) = (0..3).find(|&k| r.calibration[k] != calibration[k]) {
+        return Some((2, place));
+    }
+    if r.active != set.global {
+        return Some((3, 0));
+    }
+    let place = if set.configuration & 1 == 0 {
+        (0..24).find(|&k| r.active0[k] != individual[k])
+    } else {
+        first_in_pairs(r, individual)
+    };
+    Some((4, place?))
+}
+
+/// MUX0 and MUX1 values in turn: a quick pass that tells whether any differs, and then where.
+fn first_in_pairs(r: &Registers, individual: &[u16]) -> Option<usize> {
+    let mut differ = 0;
+    for ((pair, v0), v1) in individual.chunks_exact(2).zip(&r.active0).zip(&r.active1) {
+        differ |= (pair[0] ^ v0) | (pair[1] ^ v1);
+    }
+    if differ == 0 {
+        return None;
+    }
+    let held = |k: usize| [r.active0, r.active1][k % 2][k / 2];
+    (0..48).find(|&k| held(k) != individual[k])
+}

@@ -1,0 +1,216 @@
+//! One device in place: its judgement, and its clocks one at a time or as many as it can take at once.
+
+use crate::part::{field_width, is_known, slice_bits, width, CALIBRATION, GLOBAL, INDIVIDUAL};
+use crate::Refusal;
+use record::{Device, Place, COUNTING, HUNTING, LOST, OPENING, PASSING, SLICE};
+
+/// What a device sends on.
+#[derive(Clone, Copy, Debug, PartialEq, Eq)]
+pub enum Sent {
+    /// Nothing.
+    Nothing,
+    /// The state that came in.
+    State(u8),
+    /// The 24 states of a header: command and count.
+    Header(u8, u16),
+}
+
+/// 1 for an unknown part, 13 where numbers do not fit.
+pub fn judge(device: &Device) -> Result<(), Refusal> {
+    if !is_known(device.registers.part) {
+        return Err(1);
+    }
+    if fits(device) {
+        Ok(())
+    } else {
+        Err(13)
+    }
+}
+
+/// Whether the numbers of a record of a known part fit.
+pub fn fits(device: &Device) -> bool {
+    let r = &device.registers;
+    let any = |values: &[u16]| values.iter().fold(0, |all, &v| all | v);
+    let values = any(&r.waiting0) | any(&r.waiting1) | any(&r.active0) | any(&r.active1);
+    (r.overtemperature | r.openled) < 2
+        && (values | any(&r.slice)) >> width(r.part) == 0
+        && fits_place(device)
+}
+
+fn fits_place(device: &Device) -> bool {
+    let Place {
+        phase,
+        command,
+        count,
+        read,
+    } = device.place;
+    let r = &device.registers;
+    match phase {
+        HUNTING => command == 0 && count == 0 && read < 256,
+        OPENING => command == 0 && count == 0 && (2..64).contains(&read),
+        COUNTING => command < 4 && count == 0 && (1..1024).contains(&read),
+        SLICE => {
+            let bits = || slice_bits(command, r.part, r.configuration);
+            command < 4 && count < 1024 && usize::from(read) < bits()
+        }
+        PASSING | LOST => command == 0 && count == 0 && read == 0,
+        _ => false,
+    }
+}
+
+/// One line state, 0 to 3, for a device that fits.
+pub fn step(device: &mut Device, state: u8) -> Sent {
+    let bit = u16::from(state & 1);
+    if state < 2 {
+        low(device, bit);
+        return Sent::Nothing;
+    }
+    match device.place.phase {
+        SLICE => take_bit(device, bit),
+        PASSING => Sent::State(state),
+        _ => {
+            open(device, bit);
+            Sent::Nothing
+        }
+    }
+}
+
+fn low(device: &mut Device, bit: u16) {
+    let window = match device.place.phase {
+        HUNTING => device.place.read,
+        _ => 0,
+    };
+    device.place = place(HUNTING, 0, 0, (window << 1 | bit) & 0xFF);
+}
+
+/// A high clock before the slice.
+fn open(device: &mut Device, bit: u16) {
+    let Place {
+        phase,
+        command,
+        read,
+        ..
+    } = device.place;
+    let next = read << 1 | bit;
+    device.place = match phase {
+        HUNTING if read == 0xE8 => place(OPENING, 0, 0, 2 | bit),
+        OPENING if next < 64 => place(OPENING, 0, 0, next),
+        OPENING => match next & 63 {
+            pairs @ (0 | 0x15 | 0x2A | 0x3F) => place(COUNTING, (pairs & 3) as u8, 0, 1),
+            _ => Place::of(LOST),
+        },
+        COUNTING if next < 1024 => place(COUNTING, command, 0, next),
+        COUNTING => place(SLICE, command, next & 1023, 0),
+        _ => Place::of(LOST),
+    };
+}
+
+fn take_bit(device: &mut Device, bit: u16) -> Sent {
+    let Place { command, read, .. } = device.place;
+    let r = &mut device.registers;
+    let width = field_width(command, r.part);
+    let slot = &mut r.slice[usize::from(read) / width as usize];
+    *slot = (*slot << 1 | bit) & ((1 << width) - 1);
+    device.place.read += 1;
+    if usize::from(read) + 1 == slice_bits(command, r.part, r.configuration) {
+        finish(device)
+    } else {
+        Sent::Nothing
+    }
+}
+
+/// Takes low states from the front: how many.
+pub fn take_lows(device: &mut Device, states: &[u8]) -> usize {
+    let mut window = match device.place.phase {
+        HUNTING => device.place.read,
+        _ => 0,
+    };
+    let mut taken = 0;
+    while taken < states.len() && states[taken] < 2 {
+        window = window << 1 | u16::from(states[taken]);
+        taken += 1;
+    }
+    if taken > 0 {
+        device.place = place(HUNTING, 0, 0, window & 0xFF);
+    }
+    taken
+}
+
+/// Takes high states of the slice from the front, field by field: how many, and the header once it is whole.
+pub fn take_slice(device: &mut Device, states: &[u8]) -> (usize, Sent) {
+    let command = device.place.command;
+    let r = &mut device.registers;
+    let width = field_width(command, r.part) as usize;
+    let mask = ((1u32 << width) - 1) as u16;
+    let length = slice_bits(command, r.part, r.configuration);
+    let start = usize::from(device.place.read);
+    let (mut read, mut taken) = (start, 0);
+    while read < length {
+        let slot = &mut r.slice[read / width];
+        let room = width - read % width;
+        let field = &states[taken..states.len().min(taken + room)];
+        let mut value = *slot;
+        let mut count = 0;
+        for &state in field {
+            if state < 2 {
+                break;
+            }
+            value = value << 1 | u16::from(state & 1);
+            count += 1;
+        }
+        if count > 0 {
+            *slot = value & mask;
+        }
+        read += count;
+        taken += count;
+        if count < room {
+            device.place.read = read as u16;
+            return (taken, Sent::Nothing);
+        }
+    }
+    (taken, finish(device))
+}
+
+/// The slice is whole: it is stored and the header sent.
+fn finish(device: &mut Device) -> Sent {
+    let Place { command, count, .. } = device.place;
+    store(device, command);
+    let r = &device.registers;
+    let fault = if command & 1 == 0 {
+        r.overtemperature
+    } else {
+        r.openled
+    };
+    device.place = Place::of(PASSING);
+    Sent::Header(command, (count + u16::from(fault)) & 1023)
+}
+
+fn store(device: &mut Device, command: u8) {
+    let r = &mut device.registers;
+    let bytes = [r.slice[0] as u8, r.slice[1] as u8, r.slice[2] as u8];
+    let agree = bytes[0] == bytes[1] && bytes[1] == bytes[2];
+    match command {
+        INDIVIDUAL if r.configuration & 1 == 0 => r.waiting0.copy_from_slice(&r.slice[..24]),
+        INDIVIDUAL => {
+            for (k, pair) in r.slice.chunks_exact(2).enumerate() {
+                r.waiting0[k] = pair[0];
+                r.waiting1[k] = pair[1];
+            }
+        }
+        CALIBRATION => r.calibration = bytes,
+        GLOBAL if agree => r.waiting = bytes[0],
+        GLOBAL => {}
+        _ if agree => r.configuration = bytes[0],
+        _ => {}
+    }
+}
+
+/// A place with its numbers.
+pub fn place(phase: u8, command: u8, count: u16, read: u16) -> Place {
+    Place {
+        phase,
+        command,
+        count,
+        read,
+    }
+}

@@ -1,0 +1,15 @@
+//! Optimised plain Rust of the same operations: what the proved library is timed against.
+//!
+//! Each function judges what the proved one judges and works in place. All are tested against `model`.
+
+pub mod chain;
+pub mod compare;
+pub mod device;
+pub mod grouped;
+pub mod packing;
+pub mod part;
+pub mod reader;
+pub mod writer;
+
+/// A number of 01's refusal table.
+pub type Refusal = u8;

@@ -1,0 +1,211 @@
+//! Every baseline against the model, on random cases.
+
+use baseline::writer::Told;
+use baseline::{chain, compare, device, grouped, packing, reader, writer};
+use cases::{lines, records, sets, Random};
+use model::bits;
+use model::frame::Tail;
+use model::part::Command;
+use model::reader::Contents;
+use model::set::Set;
+
+const SEED: u64 = 0xBA5E;
+
+fn told(set: &Set, command: Command, tail: Tail) -> Told {
+    Told {
+        part: set.part,
+        devices: set.devices,
+        command: command.code(),
+        configuration: set.configuration,
+        tail: tail.number,
+        tail_length: tail.length,
+    }
+}
+
+fn any_set(random: &mut Random) -> Set {
+    let (part, devices) = (sets::part(random), random.between(1, 5));
+    sets::set(random, part, devices)
+}
+
+#[test]
+fn packing_and_unpacking() {
+    type Pack = fn(&[u16], u32, &mut [u8], usize) -> Option<usize>;
+    type Unpack = fn(&[u8], usize, u32, &mut [u16]) -> bool;
+    let kinds: [(Pack, Unpack); 3] = [
+        (packing::pack, packing::unpack),
+        (packing::pack_words, packing::unpack_words),
+        (grouped::pack, grouped::unpack),
+    ];
+    for case in 0..4000 {
+        let random = &mut Random::of_case(SEED, case);
+        let any = random.between(0, 16) as u32;
+        let width = random.pick(&[12, 14, any]);
+        let count = random.below(40);
+        let values = random.words(count);
+        let masked = values.iter().map(|&v| u64::from(v) & ((1 << width) - 1));
+        let packed = bits::pack(&bits::fields(width, masked.clone()));
+        let at = random.below(4);
+        for (pack, unpack) in kinds {
+            let mut out = vec![0x55; at + packed.len() + 2];
+            let expected = [&vec![0x55; at], &packed[..], &[0x55; 2]].concat();
+            assert_eq!(pack(&values, width, &mut out, at), Some(packed.len()));
+            assert_eq!(out, expected);
+            let mut back = vec![0; count];
+            assert!(unpack(&out, at, width, &mut back));
+            assert!(back.iter().map(|&v| u64::from(v)).eq(masked.clone()));
+            if !packed.is_empty() {
+                let short = at + packed.len() - 1;
+                assert_eq!(pack(&values, width, &mut out[..short], at), None);
+                assert!(!unpack(&out[..short], at, width, &mut back));
+            }
+        }
+    }
+}
+
+#[test]
+fn frames_written_and_read() {
+    for case in 0..4000 {
+        let random = &mut Random::of_case(SEED, case);
+        let mut set = any_set(random);
+        let (command, mut tail) = (random.pick(&Command::ALL), sets::tail(random));
+        if random.one_in(8) {
+            set.global = random.byte();
+        }
+        if random.one_in(8) {
+            set.individual[0] = random.next() as u16;
+        }
+        if random.one_in(8) {
+            tail.number = random.next();
+        }
+        let given = set.given(command);
+        let room = random.pick(&[6, 2000]);
+        let expected = model::writer::write(&set.told(command, tail), &given, room);
+        let mut out = vec![0; room];
+        let written = writer::write(
+            &told(&set, command, tail),
+            given.byte,
+            given.calibration,
+            given.individual,
+            &mut out,
+        );
+        assert_eq!(written, expected.as_ref().map(Vec::len).map_err(|&n| n));
+        let Ok(mut frame) = expected else { continue };
+        assert_eq!(out[..frame.len()], frame);
+        if random.one_in(2) {
+            let at = random.below(frame.len().min(8));
+            frame[at] ^= 1 << random.below(8);
+        }
+        if random.one_in(3) {
+            *frame.last_mut().unwrap() ^= 1 << random.below(8);
+        }
+        reads_alike(&set, command, tail, &frame);
+    }
+}
+
+fn reads_alike(set: &Set, command: Command, tail: Tail, frame: &[u8]) {
+    let (mut bytes, mut values) = (vec![0; 100], vec![0; 1000]);
+    let told_frame = told(set, command, tail);
+    let read = reader::read(&told_frame, frame, &mut bytes, &mut values);
+    match model::reader::read(&set.told(command, tail), frame, 100_000) {
+        Err(number) => assert_eq!(read, Err(number)),
+        Ok(Contents::Byte(byte)) => assert_eq!(read, Ok(usize::from(byte))),
+        Ok(Contents::Calibration(list)) => {
+            assert_eq!(read, Ok(list.len()));
+            assert_eq!(bytes[..list.len()], list);
+        }
+        Ok(Contents::Individual(list)) => {
+            assert_eq!(read, Ok(list.len()));
+            assert_eq!(values[..list.len()], list);
+        }
+    }
+    let back = &frame[..(24 + tail.length as usize).div_ceil(8).min(frame.len())];
+    assert_eq!(
+        reader::read_return(&told_frame, back),
+        model::reader::read_return(set.part, set.devices, command, tail, back)
+    );
+}
+
+#[test]
+fn judgement_and_step_of_any_record() {
+    for case in 0..40_000 {
+        let random = &mut Random::of_case(SEED, case);
+        let part = sets::part(random);
+        let mut record = match random.below(4) {
+            0 => records::junk(random),
+            1 => records::damaged(random, part),
+            _ => records::fitting(random, part),
+        };
+        let judged = model::device::Device::of_record(&record);
+        assert_eq!(device::judge(&record).err(), judged.as_ref().err().copied());
+        let Ok(known) = judged else { continue };
+        let state = random.below(4) as u8;
+        let (next, states) = known.step(state);
+        let mut sent = vec![];
+        match device::step(&mut record, state) {
+            device::Sent::Nothing => {}
+            device::Sent::State(state) => sent.push(state),
+            device::Sent::Header(command, count) => {
+                sent.resize(24, 0);
+                chain::write_header(&mut sent, command, count);
+            }
+        }
+        assert_eq!((record, sent), (next.to_record(), states));
+    }
+}
+
+#[test]
+fn runs_of_any_chain() {
+    for case in 0..1500 {
+        let random = &mut Random::of_case(SEED, case);
+        let (part, devices) = (sets::part(random), random.between(1, 4));
+        let mut records: Vec<_> = (0..devices)
+            .map(|_| records::fitting(random, part))
+            .collect();
+        let mut copy = records.clone();
+        for _ in 0..4 {
+            let states = lines::noise(random, part, devices);
+            let mut returned = vec![0; states.len() + 23];
+            let expected = model::chain::run(&mut records, &states, returned.len()).unwrap();
+            let sent = chain::run(&mut copy, &states, &mut returned);
+            assert_eq!(sent, Ok(expected.len()));
+            assert_eq!(returned[..expected.len()], expected);
+            assert_eq!(copy, records);
+        }
+    }
+}
+
+#[test]
+fn comparisons() {
+    for case in 0..3000 {
+        let random = &mut Random::of_case(SEED, case);
+        let set = any_set(random);
+        let mut records = vec![record::Device::fresh(set.part); set.devices];
+        for command in Command::RESTORE {
+            let states = set.states(command, Tail::default()).unwrap();
+            model::chain::run(&mut records, &states, states.len() + 23).unwrap();
+        }
+        model::chain::boundary(&mut records).unwrap();
+        for _ in 0..random.below(3) {
+            let at = random.below(set.devices);
+            let r = &mut records[at].registers;
+            match random.below(5) {
+                0 => r.configuration ^= 2,
+                1 => r.calibration[random.below(3)] ^= 1,
+                2 => r.active ^= 64,
+                3 => r.active0[random.below(24)] ^= 1,
+                _ => r.active1[random.below(24)] ^= 1,
+            }
+        }
+        let expected = model::compare::compare(&set, &records)
+            .map(|found| found.map(|d| (d.device, d.group as u8 + 1, d.place)));
+        let of_set = compare::Set {
+            part: set.part,
+            devices: set.devices,
+            configuration: set.configuration,
+            calibration: &set.calibration,
+            global: set.global,
+            individual: &set.individual,
+        };
+        assert_eq!(compare::compare(&of_set, &records), expected);
+    }
+}

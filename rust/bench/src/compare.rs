@@ -1,0 +1,61 @@
+//! A set of 512 multiplexed devices against a chain that runs it.
+
+use crate::frames::page;
+use crate::race::{best, print};
+use baseline::compare::{compare, Set};
+use record::Device;
+use std::hint::black_box;
+
+const DEVICES: usize = 512;
+
+/// The comparison that looks at everything: they are the same.
+pub fn races() {
+    let set = page(DEVICES);
+    let chain: Vec<Device> = (1..=DEVICES)
+        .map(|number| {
+            let mut device = Device::fresh(set.part);
+            let r = &mut device.registers;
+            r.configuration = set.configuration;
+            r.calibration.copy_from_slice(set.calibration_of(number));
+            r.active = set.global;
+            for (k, pair) in set.individual_of(number).chunks(2).enumerate() {
+                (r.active0[k], r.active1[k]) = (pair[0], pair[1]);
+            }
+            device
+        })
+        .collect();
+    let of_library = ffi::Set {
+        part: set.part,
+        devices: DEVICES,
+        configuration: set.configuration,
+        calibration: &set.calibration,
+        global: set.global,
+        individual: &set.individual,
+    };
+    let plain_set = Set {
+        part: set.part,
+        devices: DEVICES,
+        configuration: set.configuration,
+        calibration: &set.calibration,
+        global: set.global,
+        individual: &set.individual,
+    };
+    let found = ffi::compare(&of_library, &chain);
+    assert_eq!((found.group, found.refusal), (0, 0), "compared alike");
+    assert_eq!(compare(&plain_set, &chain), Ok(None), "compared alike");
+    let [proved, plain] = best([
+        &mut || {
+            black_box(ffi::compare(&of_library, black_box(&chain)));
+        },
+        &mut || {
+            let _ = black_box(compare(&plain_set, black_box(&chain)));
+        },
+    ]);
+    print(
+        &format!("compare {DEVICES} multiplexed devices"),
+        ("ns a device", DEVICES as f64),
+        proved,
+        plain,
+        Some(2.0),
+    );
+}

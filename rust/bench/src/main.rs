@@ -1,0 +1,33 @@
+//! The proved library beside plain Rust, in one run: times, ratios, and the limits that were asked for.
+
+mod chains;
+mod compare;
+mod frames;
+mod packing;
+mod race;
+mod steps;
+
+/// What is timed: the feature `standin` puts plain Rust in the library's place, to try this program without it.
+const TIMED: &str = if cfg!(feature = "standin") {
+    "STAND-IN"
+} else {
+    "proved"
+};
+
+fn main() {
+    println!("Best of many rounds; in a round both sides have their turn, on the same input.");
+    println!(
+        "Both sides are first shown to give the same. Output memory is not cleared before a call:"
+    );
+    println!("each side writes over what its last call left there.");
+    println!();
+    println!(
+        "{:64} {:>10} {:>10} {:12} {:>6}",
+        "", TIMED, "Rust", "in", "ratio"
+    );
+    packing::races();
+    frames::races();
+    steps::races();
+    chains::races();
+    compare::races();
+}

@@ -1,0 +1,8 @@
+//! Random cases from fixed seeds: sets, tails, line states and device records, in order and damaged.
+
+pub mod lines;
+pub mod random;
+pub mod records;
+pub mod sets;
+
+pub use random::Random;

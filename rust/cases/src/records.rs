@@ -1,0 +1,123 @@
+//! Device records.
+
+use crate::sets::{unknown_part, value};
+use crate::Random;
+use model::part::{slice_bits, Command, Part};
+use record::{Device, Place, Registers};
+
+/// A record that fits, in any phase.
+pub fn fitting(random: &mut Random, part: u16) -> Device {
+    let known = Part::of(part).expect("a part's number");
+    let values = |random: &mut Random| [(); 24].map(|()| value(random, known));
+    let registers = Registers {
+        part,
+        overtemperature: random.below(2) as u8,
+        openled: random.below(2) as u8,
+        configuration: random.byte(),
+        calibration: [random.byte(), random.byte(), random.byte()],
+        waiting: random.byte(),
+        active: random.byte(),
+        waiting0: values(random),
+        waiting1: values(random),
+        active0: values(random),
+        active1: values(random),
+        slice: [(); 48].map(|()| value(random, known)),
+    };
+    Device {
+        registers,
+        place: place(random, known, registers.configuration),
+    }
+}
+
+/// A place that fits.
+fn place(random: &mut Random, part: Part, configuration: u8) -> Place {
+    let phase = random.below(6) as u8;
+    let command = random.pick(&Command::ALL);
+    let mut place = Place::of(phase);
+    match phase {
+        record::HUNTING => {
+            let any = random.byte().into();
+            place.read = random.pick(&[0xE8, 0xE8, any]);
+        }
+        record::OPENING => place.read = opening(random),
+        record::COUNTING => {
+            place.command = command.code();
+            place.read = random.between(1, 1023) as u16;
+        }
+        record::SLICE => {
+            let bits = slice_bits(command, part, configuration);
+            place.command = command.code();
+            let (count, taken) = (random.below(1024), random.below(bits));
+            place.count = random.pick(&[0, 1023, count]) as u16;
+            place.read = random.pick(&[bits - 1, taken]) as u16;
+        }
+        _ => {}
+    }
+    place
+}
+
+/// Command bits so far: one of the beginnings of a command, or any.
+fn opening(random: &mut Random) -> u16 {
+    let code = random.below(4) as u16;
+    let whole = 0x40 | (code * 0x15);
+    match random.below(3) {
+        0 => whole >> 1,
+        1 => whole >> random.between(1, 5),
+        _ => random.between(2, 63) as u16,
+    }
+}
+
+/// A record with one number that may not fit.
+pub fn damaged(random: &mut Random, part: u16) -> Device {
+    let mut device = fitting(random, part);
+    let any = random.next() as u16;
+    let limit = if part == 6974 { 4096 } else { 16_384 };
+    let high = random.pick(&[limit - 1, limit, any]);
+    let r = &mut device.registers;
+    match random.below(12) {
+        0 => r.part = unknown_part(random),
+        1 => r.overtemperature = random.pick(&[1, 2, 255]),
+        2 => r.openled = random.pick(&[1, 2, 255]),
+        3 => r.waiting0[random.below(24)] = high,
+        4 => r.waiting1[random.below(24)] = high,
+        5 => r.active0[random.below(24)] = high,
+        6 => r.active1[random.below(24)] = high,
+        7 => r.slice[random.below(48)] = high,
+        8 => device.place.phase = random.pick(&[0, 1, 2, 3, 4, 5, 6, 255]),
+        9 => device.place.command = random.pick(&[0, 1, 3, 4, 255]),
+        10 => device.place.count = random.pick(&[0, 1, 1023, 1024, any]),
+        _ => {
+            let small = random.pick(&[0, 1, 2, 23, 24, 63, 64, 255, 256, 287, 288, 335, 336]);
+            let large = random.pick(&[575, 576, 671, 672, 1023, 1024, any]);
+            device.place.read = random.pick(&[small, large]);
+        }
+    }
+    device
+}
+
+/// A record that holds anything at all.
+pub fn junk(random: &mut Random) -> Device {
+    let words = |random: &mut Random| [(); 24].map(|()| random.next() as u16);
+    Device {
+        registers: Registers {
+            part: random.next() as u16,
+            overtemperature: random.byte(),
+            openled: random.byte(),
+            configuration: random.byte(),
+            calibration: [random.byte(), random.byte(), random.byte()],
+            waiting: random.byte(),
+            active: random.byte(),
+            waiting0: words(random),
+            waiting1: words(random),
+            active0: words(random),
+            active1: words(random),
+            slice: [(); 48].map(|()| random.next() as u16),
+        },
+        place: Place {
+            phase: random.byte(),
+            command: random.byte(),
+            count: random.next() as u16,
+            read: random.next() as u16,
+        },
+    }
+}

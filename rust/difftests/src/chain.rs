@@ -1,0 +1,123 @@
+//! Single calls on lent chains of any records.
+
+use crate::bits::answer;
+use crate::tally::{Case, Tally};
+use cases::{lines, records, sets, Random};
+use record::Device;
+
+/// Chains of records that fit, of damaged ones and of junk; too few and too many; of two parts.
+pub fn lent() -> Tally {
+    let mut tally = Tally::new("calls on lent records", 0x1E27);
+    for number in 0..40_000 {
+        let random = &mut Random::of_case(tally.seed(), number);
+        tally.case(number, |case| {
+            let part = sets::part(random);
+            let chain = any_chain(random, part);
+            match random.below(8) {
+                0 => fresh(case, random, chain),
+                1 => boundary(case, chain),
+                2 => set_fault(case, random, chain),
+                _ => run(case, random, chain, part),
+            }
+        });
+    }
+    tally.close(&[0, 1, 2, 4, 5, 13]);
+    tally
+}
+
+fn any_chain(random: &mut Random, part: u16) -> Vec<Device> {
+    let count = match random.below(400) {
+        0 => 1024,
+        1 => 1023,
+        2..=9 => 0,
+        _ => random.between(1, 5),
+    };
+    let mut chain: Vec<Device> = if count > 1000 {
+        vec![records::fitting(random, part); count]
+    } else {
+        (0..count).map(|_| records::fitting(random, part)).collect()
+    };
+    if count > 0 && random.one_in(3) {
+        let at = random.below(count);
+        chain[at] = match random.below(4) {
+            0 => records::junk(random),
+            1 => records::fitting(random, part ^ 1),
+            _ => records::damaged(random, part),
+        };
+    }
+    chain
+}
+
+/// States for a single call, seldom with one that is over 3.
+fn states(random: &mut Random, part: u16) -> Vec<u8> {
+    let devices = random.between(1, 3);
+    let mut states = lines::noise(random, part, devices);
+    if random.one_in(8) {
+        states.clear();
+    }
+    if !states.is_empty() && random.one_in(16) {
+        let at = random.below(states.len());
+        states[at] = random.pick(&[4, 6, 255]);
+    }
+    states
+}
+
+fn run(case: &mut Case, random: &mut Random, mut chain: Vec<Device>, part: u16) {
+    let mut states = states(random, part);
+    if chain.len() > 1000 {
+        states.truncate(40);
+    }
+    let room = match random.below(10) {
+        0 => random.below(states.len() + 23),
+        1 => states.len() + 22,
+        2 => states.len() + 30,
+        _ => states.len() + 23,
+    };
+    let mut returned = random.bytes(room);
+    let mut after = returned.clone();
+    let mut expected_chain = chain.clone();
+    let expected = model::chain::run(&mut expected_chain, &states, room);
+    if let Ok(sent) = &expected {
+        after[..sent.len()].copy_from_slice(sent);
+    }
+    let found = ffi::run(&mut chain, &states, &mut returned);
+    let expected = answer(expected.map(|s| s.len() as u64));
+    case.same("run", found, expected);
+    case.same("records after a run", &chain, &expected_chain);
+    case.same("returned states", &returned, &after);
+    case.reach(found.refusal);
+}
+
+fn fresh(case: &mut Case, random: &mut Random, mut chain: Vec<Device>) {
+    let unknown = sets::unknown_part(random);
+    let part = random.pick(&[6974, 6975, 6975, unknown]);
+    let mut expected_chain = chain.clone();
+    let expected = model::chain::fresh(&mut expected_chain, part);
+    let found = ffi::fresh(&mut chain, part);
+    case.same("fresh", found, expected.err().unwrap_or(0));
+    case.same("records after fresh", &chain, &expected_chain);
+    case.reach(found);
+}
+
+fn boundary(case: &mut Case, mut chain: Vec<Device>) {
+    let mut expected_chain = chain.clone();
+    let expected = model::chain::boundary(&mut expected_chain);
+    let found = ffi::boundary(&mut chain);
+    case.same("boundary", found, expected.err().unwrap_or(0));
+    case.same("records after a boundary", &chain, &expected_chain);
+    case.reach(found);
+}
+
+fn set_fault(case: &mut Case, random: &mut Random, mut chain: Vec<Device>) {
+    let far = random.pick(&[0, chain.len() + 1, usize::MAX]);
+    let near = random.between(1, chain.len().max(1));
+    let device = random.pick(&[near, near, near, far]);
+    let kind = random.pick(&[0, 1, 0, 1, 2, 255]);
+    let flag = random.pick(&[0, 1, 2, 255]);
+    let mut expected_chain = chain.clone();
+    let expected = model::chain::set_fault(&mut expected_chain, device, kind, flag != 0);
+    let found = ffi::set_fault(&mut chain, device, kind, flag);
+    case.same("set fault", found, expected.err().unwrap_or(0));
+    case.same("records after a fault", &chain, &expected_chain);
+    case.reach(found);
+}

@@ -1,0 +1,73 @@
+//! One device by value: its judgement and its step.
+
+use crate::tally::Tally;
+use cases::{records, sets, Random};
+use ffi::Stepped;
+use model::device::Device;
+use model::frame::header;
+use model::line::clocked;
+use model::part::Command;
+
+/// Records that fit, records with one number changed, and records of anything; states 0 to 3, and others.
+pub fn judged_and_stepped() -> Tally {
+    let mut tally = Tally::new("judge and step", 0x57E9);
+    for number in 0..120_000 {
+        let random = &mut Random::of_case(tally.seed(), number);
+        tally.case(number, |case| {
+            let part = sets::part(random);
+            let record = match random.below(4) {
+                0 => records::junk(random),
+                1 => records::damaged(random, part),
+                _ => records::fitting(random, part),
+            };
+            let any = random.byte();
+            let state = random.pick(&[0, 1, 2, 3, 2, 3, 3, any]);
+            let judged = Device::of_record(&record);
+            let refusal = judged.as_ref().err().copied().unwrap_or(0);
+            case.same("judgement", ffi::judge(record), refusal);
+
+            let stepped = ffi::step(record, state);
+            case.reach(stepped.refusal);
+            let refusal = match refusal {
+                0 if state > 3 => 13,
+                other => other,
+            };
+            case.same("refusal", stepped.refusal, refusal);
+            match judged {
+                Ok(device) if state < 4 => {
+                    let (next, sent) = device.step(state);
+                    case.same("next device", stepped.device, next.to_record());
+                    case.same("sent", states_of(&stepped), sent);
+                    case.same("bare step", ffi::step_bare(record, state), stepped);
+                }
+                _ => case.same("refused", stepped, kept(record, refusal)),
+            }
+        });
+    }
+    tally.close(&[0, 1, 13]);
+    tally
+}
+
+/// The answer of a refused step: the device as it came in, and nothing else.
+fn kept(device: record::Device, refusal: u8) -> Stepped {
+    Stepped {
+        device,
+        count: 0,
+        command: 0,
+        state: 0,
+        sent: 0,
+        refusal,
+    }
+}
+
+/// The states that a step's answer stands for. Numbers that it does not use are 0.
+fn states_of(stepped: &Stepped) -> Vec<u8> {
+    match (stepped.sent, stepped.state, stepped.command, stepped.count) {
+        (0, 0, 0, 0) => vec![],
+        (1, state, 0, 0) => vec![state],
+        (24, 0, command @ 0..=3, count) => {
+            clocked(&header(Command::ALL[usize::from(command)], count))
+        }
+        other => panic!("a step that sends {other:?}"),
+    }
+}

@@ -1,0 +1,156 @@
+//! Light: every subframe and window, every clock of chosen values, and positions of any kind.
+
+use crate::bits::answer;
+use crate::tally::Tally;
+use cases::{records, sets, Random};
+use ffi::{Answer, Signed};
+use model::light::{is_device_lit, is_lit, is_on, lead, Position};
+use model::part::Part;
+
+/// The four configurations that matter, with their other bits set and clear.
+const CONFIGURATIONS: [u8; 8] = [0x00, 0x01, 0x10, 0x11, 0xEE, 0xEF, 0xFE, 0xFF];
+
+fn flag(result: Result<bool, u8>) -> Answer {
+    answer(result.map(u64::from))
+}
+
+fn signed(result: Result<i32, u8>) -> Signed {
+    Signed {
+        value: result.unwrap_or(0),
+        refusal: result.err().unwrap_or(0),
+    }
+}
+
+/// Every global byte with every subframe and window, and those just outside. A case is one global byte.
+pub fn schedules() -> Tally {
+    let mut tally = Tally::new("ON subframes and leads", 0);
+    for part in [6974, 6975, 6973] {
+        for configuration in CONFIGURATIONS {
+            let subframes = Part::of(part).map_or(4, |p| p.subframes(configuration));
+            for global in 0..=255 {
+                tally.case(u64::from(global), |case| {
+                    for s in (0..=subframes + 1).chain([u32::MAX]) {
+                        let found = ffi::on(part, configuration, global, s);
+                        case.same("on", found, flag(is_on(part, configuration, global, s)));
+                        case.reach(found.refusal);
+                    }
+                    let windows = (0..=subframes).flat_map(|start| {
+                        let lengths =
+                            (0..=subframes - start + 1).chain([u32::MAX, u32::MAX - start]);
+                        lengths.map(move |length| (start, length))
+                    });
+                    for (start, length) in windows {
+                        let found = ffi::lead(part, configuration, global, start, length);
+                        let expected = lead(part, configuration, global, start, length);
+                        case.same("lead", found, signed(expected));
+                        case.reach(found.refusal);
+                    }
+                });
+            }
+        }
+    }
+    tally.close(&[0, 1, 13]);
+    tally
+}
+
+/// Every clock of a subframe that is ON and of one that is not, for every output. A case is a part, a value, an output.
+pub fn lit_clocks() -> Tally {
+    let mut tally = Tally::new("lit clocks", 0x0117);
+    for part in Part::ALL {
+        let (edge, clocks) = (part.edge_zone(), part.clocks());
+        let edges = [0, 1, edge - 1, edge, edge + 1, clocks - edge, clocks - 1];
+        let random = &mut Random::of_case(tally.seed(), u64::from(part.number()));
+        let any = [(); 2].map(|()| random.below(clocks as usize) as u32);
+        for value in edges.into_iter().chain(any) {
+            for output in 0..24 {
+                tally.case(u64::from(value), |case| {
+                    // With global byte 0 only the last subframe is ON.
+                    for subframe in [0, part.subframes(0) - 1] {
+                        for clock in 0..clocks {
+                            let (number, value) = (part.number(), value as u16);
+                            let at = [output, subframe, clock, 0];
+                            let found = ffi::lit(number, 0, 0, value, at);
+                            let expected = is_lit(number, 0, 0, value, position(at));
+                            case.same("lit", found, flag(expected));
+                            case.reach(found.refusal);
+                        }
+                    }
+                });
+            }
+        }
+    }
+    tally.close(&[0]);
+    tally
+}
+
+fn position([output, subframe, clock, phase]: ffi::Position) -> Position {
+    Position {
+        output,
+        subframe,
+        clock,
+        phase,
+    }
+}
+
+/// A position, seldom with one number at or past its limit.
+fn any_position(random: &mut Random, part: u16, configuration: u8) -> ffi::Position {
+    let known = Part::of(part).unwrap_or(Part::Max6975);
+    let subframes = known.subframes(configuration);
+    let limits = [
+        24,
+        subframes,
+        known.clocks(),
+        1 + u32::from(configuration & 1),
+    ];
+    let mut at = limits.map(|limit| random.below(limit as usize) as u32);
+    if random.one_in(3) {
+        let k = random.below(4);
+        at[k] = random.pick(&[limits[k] - 1, limits[k], limits[k] + 1, u32::MAX]);
+    }
+    at
+}
+
+/// Any numbers.
+pub fn positions() -> Tally {
+    let mut tally = Tally::new("lit from numbers", 0x9051);
+    for number in 0..300_000 {
+        let random = &mut Random::of_case(tally.seed(), number);
+        tally.case(number, |case| {
+            let (known, unknown) = (sets::part(random), sets::unknown_part(random));
+            let part = random.pick(&[known, known, known, known, known, known, unknown]);
+            let (configuration, global) = (random.byte(), random.byte());
+            let any = random.next() as u16;
+            let value = random.pick(&[any, any & 0xFFF, any & 0x3FFF]);
+            let at = any_position(random, part, configuration);
+            let found = ffi::lit(part, configuration, global, value, at);
+            let expected = is_lit(part, configuration, global, value, position(at));
+            case.same("lit", found, flag(expected));
+            case.reach(found.refusal);
+        });
+    }
+    tally.close(&[0, 1, 6, 13]);
+    tally
+}
+
+/// Any device.
+pub fn devices() -> Tally {
+    let mut tally = Tally::new("lit of a device", 0xDE71);
+    for number in 0..120_000 {
+        let random = &mut Random::of_case(tally.seed(), number);
+        tally.case(number, |case| {
+            let part = sets::part(random);
+            let record = match random.below(8) {
+                0 => records::junk(random),
+                1 => records::damaged(random, part),
+                _ => records::fitting(random, part),
+            };
+            let at = any_position(random, part, record.registers.configuration);
+            let found = ffi::device_lit(record, at);
+            let expected = is_device_lit(&record, position(at));
+            case.same("lit", found, flag(expected));
+            case.reach(found.refusal);
+        });
+    }
+    tally.close(&[0, 1, 13]);
+    tally
+}

@@ -1,0 +1,94 @@
+//! A chain: a lent list of records.
+
+use crate::device::Device;
+use crate::part::Part;
+use crate::{refuse, Refusal};
+
+/// Makes a chain fresh, whatever its records hold.
+pub fn fresh(records: &mut [record::Device], part: u16) -> Result<(), Refusal> {
+    Part::of(part)?;
+    refuse(2, !(1..=1023).contains(&records.len()))?;
+    records.fill(record::Device::fresh(part));
+    Ok(())
+}
+
+/// Gives the chain line states; the states that the last device sends, for a list with room for `room`.
+pub fn run(records: &mut [record::Device], states: &[u8], room: usize) -> Result<Vec<u8>, Refusal> {
+    judge_parts(records)?;
+    refuse(5, room < states.len() + 23)?;
+    refuse(13, states.iter().any(|&s| s > 3))?;
+    let mut devices = devices_of(records)?;
+    let mut returned = vec![];
+    for &state in states {
+        let mut sent = vec![state];
+        for device in &mut devices {
+            sent = pass_through(device, &sent);
+        }
+        returned.extend(sent);
+    }
+    store(&devices, records);
+    Ok(returned)
+}
+
+/// A frame boundary for the whole chain.
+pub fn boundary(records: &mut [record::Device]) -> Result<(), Refusal> {
+    judge_parts(records)?;
+    let devices: Vec<Device> = devices_of(records)?
+        .into_iter()
+        .map(Device::boundary)
+        .collect();
+    store(&devices, records);
+    Ok(())
+}
+
+/// Sets a fault flag of the device with a number from 1: kind 0 is overtemperature, 1 is open LED.
+pub fn set_fault(
+    records: &mut [record::Device],
+    device: usize,
+    kind: u8,
+    flag: bool,
+) -> Result<(), Refusal> {
+    judge_parts(records)?;
+    refuse(13, !(1..=records.len()).contains(&device) || kind > 1)?;
+    let mut devices = devices_of(records)?;
+    let device = &mut devices[device - 1];
+    match kind {
+        0 => device.overtemperature = flag,
+        _ => device.open_led = flag,
+    }
+    store(&devices, records);
+    Ok(())
+}
+
+/// Numbers 1, 2 and 4 of a lent chain: its part.
+pub fn judge_parts(records: &[record::Device]) -> Result<Part, Refusal> {
+    let parts = records
+        .iter()
+        .map(|r| Part::of(r.registers.part))
+        .collect::<Result<Vec<_>, _>>()?;
+    refuse(2, !(1..=1023).contains(&parts.len()))?;
+    refuse(4, parts.iter().any(|&part| part != parts[0]))?;
+    Ok(parts[0])
+}
+
+/// The devices of records of known parts; 13 where one does not fit.
+pub fn devices_of(records: &[record::Device]) -> Result<Vec<Device>, Refusal> {
+    records.iter().map(Device::of_record).collect()
+}
+
+fn store(devices: &[Device], records: &mut [record::Device]) {
+    for (device, record) in devices.iter().zip(records) {
+        *record = device.to_record();
+    }
+}
+
+/// Steps a device through states in turn; what it sends.
+fn pass_through(device: &mut Device, states: &[u8]) -> Vec<u8> {
+    let mut sent = vec![];
+    for &state in states {
+        let (next, more) = device.clone().step(state);
+        *device = next;
+        sent.extend(more);
+    }
+    sent
+}

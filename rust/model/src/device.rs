@@ -1,0 +1,264 @@
+//! One device, clock by clock.
+
+use crate::bits::{bits_of, number_of};
+use crate::frame::{header, SYNC};
+use crate::line::clocked;
+use crate::part::{field_width, multiplexed, slice_bits, Command, Part};
+use crate::{refuse, Refusal};
+
+/// Where a device is in the frame.
+#[derive(Clone, Debug, PartialEq, Eq)]
+pub enum Phase {
+    /// The last eight bits of the low clocks since the last high one.
+    Hunting(u8),
+    /// The command bits so far.
+    Opening(Vec<bool>),
+    /// The command, and the count bits so far.
+    Counting(Command, Vec<bool>),
+    /// The command, the count, and how many bits of the slice are taken.
+    Slice(Command, u16, usize),
+    /// Every high state is sent on.
+    Passing,
+    /// High clocks are ignored.
+    Lost,
+}
+
+/// A device whose numbers fit.
+#[derive(Clone, Debug, PartialEq, Eq)]
+pub struct Device {
+    /// The part.
+    pub part: Part,
+    /// A fault flag.
+    pub overtemperature: bool,
+    /// A fault flag.
+    pub open_led: bool,
+    /// The configuration byte.
+    pub configuration: u8,
+    /// B, G, R.
+    pub calibration: [u8; 3],
+    /// The global byte that waits.
+    pub waiting_global: u8,
+    /// The global byte in use.
+    pub active_global: u8,
+    /// The values that wait, for MUX0 and MUX1.
+    pub waiting: [[u16; 24]; 2],
+    /// The values in use, for MUX0 and MUX1.
+    pub active: [[u16; 24]; 2],
+    /// The slice coming in, field by field.
+    pub slots: [u16; 48],
+    /// The phase.
+    pub phase: Phase,
+}
+
+impl Device {
+    /// The device that a record holds: 1 for its part, 13 where its numbers do not fit.
+    pub fn of_record(record: &record::Device) -> Result<Device, Refusal> {
+        let r = &record.registers;
+        let part = Part::of(r.part)?;
+        let mut values = [r.waiting0, r.waiting1, r.active0, r.active1]
+            .concat()
+            .into_iter()
+            .chain(r.slice);
+        refuse(13, r.overtemperature > 1 || r.openled > 1)?;
+        refuse(13, values.any(|v| !part.holds(v)))?;
+        Ok(Device {
+            part,
+            overtemperature: r.overtemperature == 1,
+            open_led: r.openled == 1,
+            configuration: r.configuration,
+            calibration: r.calibration,
+            waiting_global: r.waiting,
+            active_global: r.active,
+            waiting: [r.waiting0, r.waiting1],
+            active: [r.active0, r.active1],
+            slots: r.slice,
+            phase: phase_of(&record.place, part, r.configuration)?,
+        })
+    }
+
+    /// The record of a device.
+    pub fn to_record(&self) -> record::Device {
+        record::Device {
+            registers: record::Registers {
+                part: self.part.number(),
+                overtemperature: u8::from(self.overtemperature),
+                openled: u8::from(self.open_led),
+                configuration: self.configuration,
+                calibration: self.calibration,
+                waiting: self.waiting_global,
+                active: self.active_global,
+                waiting0: self.waiting[0],
+                waiting1: self.waiting[1],
+                active0: self.active[0],
+                active1: self.active[1],
+                slice: self.slots,
+            },
+            place: place_of(&self.phase),
+        }
+    }
+
+    /// One line state in, 0 to 3: the next device, and the states sent on.
+    pub fn step(self, state: u8) -> (Device, Vec<u8>) {
+        let bit = state & 1 == 1;
+        if state < 2 {
+            (self.low(bit), vec![])
+        } else {
+            self.high(bit, state)
+        }
+    }
+
+    /// A frame boundary: what waits becomes active.
+    pub fn boundary(mut self) -> Device {
+        self.active_global = self.waiting_global;
+        self.active = self.waiting;
+        self
+    }
+
+    fn low(mut self, bit: bool) -> Device {
+        let window = match self.phase {
+            Phase::Hunting(window) => window,
+            _ => 0,
+        };
+        self.phase = Phase::Hunting(window << 1 | u8::from(bit));
+        self
+    }
+
+    fn high(mut self, bit: bool, state: u8) -> (Device, Vec<u8>) {
+        let phase = self.phase.clone();
+        self.phase = match phase {
+            Phase::Hunting(window) if u64::from(window) == SYNC => Phase::Opening(vec![bit]),
+            Phase::Hunting(_) => Phase::Lost,
+            Phase::Opening(bits) => opened(joined(bits, bit)),
+            Phase::Counting(command, bits) => counted(command, joined(bits, bit)),
+            Phase::Slice(command, count, taken) => {
+                return self.take(command, count, taken, bit);
+            }
+            Phase::Passing => return (self, vec![state]),
+            Phase::Lost => Phase::Lost,
+        };
+        (self, vec![])
+    }
+
+    /// One bit of the slice.
+    fn take(mut self, command: Command, count: u16, taken: usize, bit: bool) -> (Device, Vec<u8>) {
+        let width = field_width(command, self.part);
+        let slot = &mut self.slots[taken / width as usize];
+        *slot = ((u32::from(*slot) * 2 + u32::from(bit)) % (1 << width)) as u16;
+        if taken + 1 < slice_bits(command, self.part, self.configuration) {
+            self.phase = Phase::Slice(command, count, taken + 1);
+            return (self, vec![]);
+        }
+        let count = (count + u16::from(self.has_fault(command))) % 1024;
+        self.store(command);
+        self.phase = Phase::Passing;
+        (self, clocked(&header(command, count)))
+    }
+
+    fn has_fault(&self, command: Command) -> bool {
+        if command.counts_open_leds() {
+            self.open_led
+        } else {
+            self.overtemperature
+        }
+    }
+
+    fn store(&mut self, command: Command) {
+        let bytes = [0, 1, 2].map(|k| self.slots[k] as u8);
+        let copies_agree = bytes[0] == bytes[1] && bytes[1] == bytes[2];
+        match command {
+            Command::Individual if multiplexed(self.configuration) => {
+                for output in 0..24 {
+                    self.waiting[0][output] = self.slots[2 * output];
+                    self.waiting[1][output] = self.slots[2 * output + 1];
+                }
+            }
+            Command::Individual => self.waiting[0].copy_from_slice(&self.slots[..24]),
+            Command::Calibration => self.calibration = bytes,
+            Command::Global if copies_agree => self.waiting_global = bytes[0],
+            Command::Configuration if copies_agree => self.configuration = bytes[0],
+            Command::Global | Command::Configuration => {}
+        }
+    }
+}
+
+fn joined(mut bits: Vec<bool>, bit: bool) -> Vec<bool> {
+    bits.push(bit);
+    bits
+}
+
+/// After a command bit: at the sixth, the three pairs must agree.
+fn opened(bits: Vec<bool>) -> Phase {
+    if bits.len() < 6 {
+        return Phase::Opening(bits);
+    }
+    if bits[0..2] != bits[2..4] || bits[0..2] != bits[4..6] {
+        return Phase::Lost;
+    }
+    let command = Command::ALL[number_of(&bits[0..2]) as usize];
+    Phase::Counting(command, vec![])
+}
+
+/// After a count bit: at the tenth, the slice begins.
+fn counted(command: Command, bits: Vec<bool>) -> Phase {
+    if bits.len() < 10 {
+        return Phase::Counting(command, bits);
+    }
+    Phase::Slice(command, number_of(&bits) as u16, 0)
+}
+
+/// The phase of a record's place; 13 where its numbers fit none.
+fn phase_of(place: &record::Place, part: Part, configuration: u8) -> Result<Phase, Refusal> {
+    let record::Place {
+        phase,
+        command: code,
+        count,
+        read,
+    } = *place;
+    let command = Command::ALL.into_iter().find(|c| c.code() == code);
+    match (phase, command, count, read) {
+        (record::HUNTING, Some(Command::Individual), 0, 0..=255) => Ok(Phase::Hunting(read as u8)),
+        (record::OPENING, Some(Command::Individual), 0, 2..=63) => {
+            Ok(Phase::Opening(bits_after_one(read)))
+        }
+        (record::COUNTING, Some(command), 0, 1..=1023) => {
+            Ok(Phase::Counting(command, bits_after_one(read)))
+        }
+        (record::SLICE, Some(command), 0..=1023, _)
+            if usize::from(read) < slice_bits(command, part, configuration) =>
+        {
+            Ok(Phase::Slice(command, count, usize::from(read)))
+        }
+        (record::PASSING, Some(Command::Individual), 0, 0) => Ok(Phase::Passing),
+        (record::LOST, Some(Command::Individual), 0, 0) => Ok(Phase::Lost),
+        _ => Err(13),
+    }
+}
+
+/// The bits of a number after its leading one.
+fn bits_after_one(number: u16) -> Vec<bool> {
+    bits_of(number.ilog2(), u64::from(number))
+}
+
+/// A leading one and then the bits, as a number.
+fn one_and(bits: &[bool]) -> u16 {
+    (1 << bits.len()) + number_of(bits) as u16
+}
+
+fn place_of(phase: &Phase) -> record::Place {
+    let (phase, command, count, read) = match phase {
+        Phase::Hunting(window) => (record::HUNTING, 0, 0, u16::from(*window)),
+        Phase::Opening(bits) => (record::OPENING, 0, 0, one_and(bits)),
+        Phase::Counting(command, bits) => (record::COUNTING, command.code(), 0, one_and(bits)),
+        Phase::Slice(command, count, taken) => {
+            (record::SLICE, command.code(), *count, *taken as u16)
+        }
+        Phase::Passing => (record::PASSING, 0, 0, 0),
+        Phase::Lost => (record::LOST, 0, 0, 0),
+    };
+    record::Place {
+        phase,
+        command,
+        count,
+        read,
+    }
+}

@@ -1,0 +1,29 @@
+//! The customer's paper 01, written out a second time.
+//!
+//! This model was written from the paper alone and shares no code or definition with the proved library. It is clear
+//! and slow: frames are lists of bits, a chain goes device by device and state by state, and light is counted. An
+//! operation answers a `Result`, with the paper's refusal number as its error, and a refused one changes nothing.
+
+pub mod bits;
+pub mod chain;
+pub mod compare;
+pub mod device;
+pub mod frame;
+pub mod light;
+pub mod line;
+pub mod part;
+pub mod reader;
+pub mod set;
+pub mod writer;
+
+/// A number of 01's refusal table.
+pub type Refusal = u8;
+
+/// Refuses with a number where it applies. Tests stand in the table's order, so the lowest number is given.
+pub fn refuse(number: Refusal, applies: bool) -> Result<(), Refusal> {
+    if applies {
+        Err(number)
+    } else {
+        Ok(())
+    }
+}

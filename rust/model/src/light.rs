@@ -1,0 +1,92 @@
+//! Light: ON subframes, leads, lit outputs.
+
+use crate::device::Device;
+use crate::part::{multiplexed, Part};
+use crate::{refuse, Refusal};
+
+/// Whether a subframe is ON.
+pub fn is_on(part: u16, configuration: u8, global: u8, subframe: u32) -> Result<bool, Refusal> {
+    let part = Part::of(part)?;
+    let subframes = part.subframes(configuration);
+    refuse(13, subframe >= subframes)?;
+    let on = u32::from(global) % subframes + 1;
+    Ok((subframe + 1) * on / subframes > subframe * on / subframes)
+}
+
+/// The lead of a window: S times its ON subframes less what g + 1 in S would be.
+pub fn lead(
+    part: u16,
+    configuration: u8,
+    global: u8,
+    start: u32,
+    length: u32,
+) -> Result<i32, Refusal> {
+    let subframes = Part::of(part)?.subframes(configuration);
+    refuse(13, u64::from(start) + u64::from(length) > subframes.into())?;
+    let mut on = 0;
+    for subframe in start..start + length {
+        on += i32::from(is_on(part, configuration, global, subframe)?);
+    }
+    let g = i32::from(global) % subframes as i32;
+    Ok(subframes as i32 * on - length as i32 * (g + 1))
+}
+
+/// Where light is asked for: an output in wire order, a subframe, a clock in it, and the phase, MUX0 or MUX1.
+#[derive(Clone, Copy, Debug)]
+pub struct Position {
+    /// 0 (B7) to 23 (R0).
+    pub output: u32,
+    /// From 0.
+    pub subframe: u32,
+    /// From 0.
+    pub clock: u32,
+    /// 0 or 1.
+    pub phase: u32,
+}
+
+/// Whether an output with a value is lit.
+pub fn is_lit(
+    part: u16,
+    configuration: u8,
+    global: u8,
+    value: u16,
+    at: Position,
+) -> Result<bool, Refusal> {
+    let known = Part::of(part)?;
+    refuse(6, !known.holds(value))?;
+    judge_position(known, configuration, at)?;
+    let (clocks, edge, value) = (known.clocks(), known.edge_zone(), u32::from(value));
+    let named = named(at.output);
+    let phased = if named.is_multiple_of(2) {
+        at.clock < value
+    } else {
+        at.clock >= clocks - value
+    };
+    let inside = edge <= at.clock && at.clock < clocks - edge;
+    Ok(is_on(part, configuration, global, at.subframe)? && phased && inside)
+}
+
+/// Whether an output of a device is lit, by its active values.
+pub fn is_device_lit(record: &record::Device, at: Position) -> Result<bool, Refusal> {
+    let device = Device::of_record(record)?;
+    judge_position(device.part, device.configuration, at)?;
+    let value = device.active[at.phase as usize][at.output as usize];
+    let part = device.part.number();
+    is_lit(part, device.configuration, device.active_global, value, at)
+}
+
+/// The number in the name of an output: 7 for output 0, B7, and 0 for output 23, R0.
+fn named(output: u32) -> u32 {
+    7 - output % 8
+}
+
+fn judge_position(part: Part, configuration: u8, at: Position) -> Result<(), Refusal> {
+    let phases = if multiplexed(configuration) { 2 } else { 1 };
+    refuse(
+        13,
+        at.output >= 24
+            || at.subframe >= part.subframes(configuration)
+            || at.clock >= part.clocks()
+            || at.phase >= phases,
+    )
+}

@@ -1,0 +1,126 @@
+//! The device record that a chain is lent as: `struct bb_device` of `include/bractbeacon.h`.
+//!
+//! Plain numbers without padding: every pattern of its 304 bytes is a record. Whether its numbers fit is for each user
+//! to judge.
+
+/// Phase: looking for SYNC at low load.
+pub const HUNTING: u8 = 0;
+/// Phase: taking the six command bits.
+pub const OPENING: u8 = 1;
+/// Phase: taking the ten count bits.
+pub const COUNTING: u8 = 2;
+/// Phase: taking its own slice.
+pub const SLICE: u8 = 3;
+/// Phase: sending every high state on.
+pub const PASSING: u8 = 4;
+/// Phase: ignoring high clocks.
+pub const LOST: u8 = 5;
+
+/// What a device holds.
+#[repr(C)]
+#[derive(Clone, Copy, Debug, PartialEq, Eq)]
+pub struct Registers {
+    /// 6974 or 6975.
+    pub part: u16,
+    /// Fault flag, 0 or 1.
+    pub overtemperature: u8,
+    /// Fault flag, 0 or 1.
+    pub openled: u8,
+    /// D0 multiplex, D4 GLB4.
+    pub configuration: u8,
+    /// B, G, R.
+    pub calibration: [u8; 3],
+    /// Global byte, until the frame boundary.
+    pub waiting: u8,
+    /// Global byte in use.
+    pub active: u8,
+    /// MUX0 values, until the frame boundary.
+    pub waiting0: [u16; 24],
+    /// MUX1 values, until the frame boundary.
+    pub waiting1: [u16; 24],
+    /// MUX0 values in use.
+    pub active0: [u16; 24],
+    /// MUX1 values in use while D0 is 1.
+    pub active1: [u16; 24],
+    /// The slice coming in, a shift register for each field.
+    pub slice: [u16; 48],
+}
+
+/// Where a device is in the frame. Numbers that a phase does not use are 0.
+#[repr(C)]
+#[derive(Clone, Copy, Debug, PartialEq, Eq)]
+pub struct Place {
+    /// [`HUNTING`] to [`LOST`].
+    pub phase: u8,
+    /// C1 C0, while counting and in the slice.
+    pub command: u8,
+    /// The count received, in the slice.
+    pub count: u16,
+    /// The window of low bits; a leading one and the bits so far; or the slice's bits taken.
+    pub read: u16,
+}
+
+/// One device.
+#[repr(C)]
+#[derive(Clone, Copy, Debug, PartialEq, Eq)]
+pub struct Device {
+    /// What it holds.
+    pub registers: Registers,
+    /// Where it is.
+    pub place: Place,
+}
+
+impl Registers {
+    /// Registers of a part with zeros and no faults.
+    pub const fn zeros(part: u16) -> Registers {
+        Registers {
+            part,
+            overtemperature: 0,
+            openled: 0,
+            configuration: 0,
+            calibration: [0; 3],
+            waiting: 0,
+            active: 0,
+            waiting0: [0; 24],
+            waiting1: [0; 24],
+            active0: [0; 24],
+            active1: [0; 24],
+            slice: [0; 48],
+        }
+    }
+}
+
+impl Place {
+    /// A place of a phase that uses none of the other numbers.
+    pub const fn of(phase: u8) -> Place {
+        Place {
+            phase,
+            command: 0,
+            count: 0,
+            read: 0,
+        }
+    }
+}
+
+impl Device {
+    /// A fresh device of a part: zeros, no faults, hunting.
+    pub const fn fresh(part: u16) -> Device {
+        Device {
+            registers: Registers::zeros(part),
+            place: Place::of(HUNTING),
+        }
+    }
+}
+
+#[cfg(test)]
+mod tests {
+    use super::*;
+
+    #[test]
+    fn the_record_has_the_headers_layout() {
+        assert_eq!(std::mem::size_of::<Registers>(), 298);
+        assert_eq!(std::mem::size_of::<Place>(), 6);
+        assert_eq!(std::mem::size_of::<Device>(), 304);
+        assert_eq!(std::mem::align_of::<Device>(), 2);
+    }
+}

@@ -23,7 +23,7 @@ and-assoc : (a b c : Bool) → ((a && b) && c) ≡ (a && (b && c))
 and-assoc true b c = refl
 and-assoc false b c = refl
 
-pub and-true : (a : Bool) → a ≡ (a && true)
+and-true : (a : Bool) → a ≡ (a && true)
 and-true true = refl
 and-true false = refl
 
@@ -53,7 +53,7 @@ fits-found j [] = and-true (j .fits)
 fits-found j (d ∷ ds) = fits-found (judgedWith j d) ds ∙ and-assoc (j .fits) (fits d) (allFit ds)
 
 -- after a first record: the rest are of its part
-pub same-after : (j : Judged) (ds : List Device) → j .some ≡ true → judgedFrom j ds .same ≡ (j .same && every (hasPart (j .part)) ds)
+same-after : (j : Judged) (ds : List Device) → j .some ≡ true → judgedFrom j ds .same ≡ (j .same && every (hasPart (j .part)) ds)
 unfolding judgedFrom
 same-after j [] e = and-true (j .same)
 same-after j (d ∷ ds) e =

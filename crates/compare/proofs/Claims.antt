@@ -1,25 +1,24 @@
 -- The claims of specs/Claims. By induction on the devices: the first either names its own first difference, or holds what is its own, and then
 -- the answer is that of the devices after it.
 use mathlib.Core.Path.{_≡_, refl, ap, sym, subst, _∙_}
-use mathlib.Core.Bool.{Bool, true, false, cond, true≢false}
+use mathlib.Core.Bool.{Bool, true, false, cond}
 use mathlib.Core.List.{List, [], _∷_}
-use Prim.Native.Nat.{ℕ, zero, suc, _+_, _*_, _-_, _<_, _≤_}
+use Prim.Native.Nat.{ℕ, suc, _+_, _-_, _<_}
 use native.Mathlib.Omega.{arith}
 use lib.Dec.{eqb}
 use lib.ListN.{length, take, getD}
 use borrow.Author.Tests.{eqb-true, eqb-false, eq-eqb}
-use Rattle.parts.specs.Parts.{partOf, multiplex, sliceFields}
-use Rattle.parts.specs.declared.command.Command.the-variants.{Individual}
+use Rattle.parts.specs.Parts.{partOf}
 use Rattle.parts.proofs.Laws.{banks-three}
 use Rattle.device.specs.declared.device.Device.{Device}
 use Rattle.calls.specs.Chain.{blank}
 use Rattle.model.specs.Lists.{All, Both}
-use Rattle.model.specs.Set.{Own, owned}
+use Rattle.model.specs.Set.{Set, Own, owned}
 use Rattle.model.proofs.Set.{length-owned}
 use Rattle.link.specs.Claims.{Holds}
 use Rattle.compare.specs.declared.compared.Compared.{Compared}
-use Rattle.compare.specs.declared.compared.Given.{Given}
-use Rattle.compare.specs.Compare.{differsAt, Pair, groups, inGroups, compared, same, difference, setOf, compareRefusal, comparison}
+use Rattle.compare.specs.Compare.{differsAt, Pair, groups, inGroups, compared, same, difference, compareRefusal, comparison}
+use Rattle.compare.specs.Search.{given}
 use Rattle.compare.specs.Claims.{Arrays, SameHolds, HoldsSame, Named, ofSet, ofDevice, DiffersFirst, FirstDifference}
 use Rattle.compare.proofs.Lists.{differs-first}
 use Rattle.compare.proofs.Holding.{Sized, dealt-sized, sides, equal-holds, holds-groups, groups-equal, GroupAt, group-named, nowhere}
@@ -91,18 +90,18 @@ device-named {A} z n (o ∷ os) (d ∷ ds) s r l e k =
 
 -- ---- the claims
 
-module _ (g : Given) (calibration individual : List ℕ) (ds : List Device) where
+module _ (s : Set) (ds : List Device) where
   abbrev os : List Own
-  os = owned (setOf g calibration individual)
+  os = owned s
 
   abbrev number : ℕ
-  number = compareRefusal g calibration individual ds
+  number = compareRefusal s ds
 
-  accepted : number ≡ 0 → comparison g calibration individual ds ≡ difference 1 os ds
+  accepted : number ≡ 0 → comparison s ds ≡ difference 1 os ds
   unfolding comparison
   accepted e = ap (λ (b : Bool). cond b (difference 1 os ds) (compared number 0 0 0)) (eq-eqb number 0 e)
 
-  same-accepted : comparison g calibration individual ds ≡ same → number ≡ 0
+  same-accepted : comparison s ds ≡ same → number ≡ 0
   unfolding comparison
   same-accepted e = go (eqb number 0) refl e
     where
@@ -114,25 +113,25 @@ module _ (g : Given) (calibration individual : List ℕ) (ds : List Device) wher
     sized : All Sized os
     unfolding owned
     sized =
-        let l = begin-live g calibration individual ds e .1 in
-        dealt-sized (partOf (g .part)) (banks-three (g .part)) (g .devices) (g .configuration) (g .global) calibration individual
+        let l = begin-live (given (s .part) (s .devices) (s .configuration) (s .global)) (s .calibration) (s .individual) ds e .1 in
+        dealt-sized (partOf (s .part)) (banks-three (s .part)) (s .devices) (s .configuration) (s .global) (s .calibration) (s .individual)
         (sym (l .bytesIn) ∙ zero-plus _) (sym (l .valuesIn) ∙ zero-plus _)
       where
         zero-plus : (n : ℕ) → 0 + n ≡ n
         zero-plus n = omega arith
 
     lengths : length os ≡ length ds
-    lengths = length-owned (setOf g calibration individual) ∙ begin-live g calibration individual ds e .1 .devices
+    lengths = length-owned s ∙ begin-live (given (s .part) (s .devices) (s .configuration) (s .global)) (s .calibration) (s .individual) ds e .1 .devices
 
 pub same-holds : SameHolds
-same-holds g calibration individual ds r e =
-    let a : compareRefusal g calibration individual ds ≡ 0 = same-accepted g calibration individual ds e in
-    difference-holds 1 (owned (setOf g calibration individual)) ds (sized g calibration individual ds a) r (lengths g calibration individual ds a)
-    (sym (accepted g calibration individual ds a) ∙ e)
+same-holds s ds r e =
+    let a : compareRefusal s ds ≡ 0 = same-accepted s ds e in
+    difference-holds 1 (owned s) ds (sized s ds a) r (lengths s ds a)
+    (sym (accepted s ds a) ∙ e)
 
 pub holds-same : HoldsSame
-holds-same g calibration individual ds a h =
-    accepted g calibration individual ds a ∙ holds-difference 1 (owned (setOf g calibration individual)) ds (sized g calibration individual ds a) h
+holds-same s ds a h =
+    accepted s ds a ∙ holds-difference 1 (owned s) ds (sized s ds a) h
 
 -- an answer that names a device, a group and a place
 first-named : (z : Own) (os : List Own) (ds : List Device) (a : Compared) (i h : ℕ) → DeviceAt 1 z os ds a i h → FirstDifference a z os ds
@@ -158,8 +157,8 @@ first-named z os ds a i h q =
     less-one n = omega arith
 
 pub named : Named
-named g calibration individual ds z r a n =
-    device-named z 1 (owned (setOf g calibration individual)) ds (sized g calibration individual ds a) r (lengths g calibration individual ds a)
-    (λ q. n (accepted g calibration individual ds a ∙ q))
-    (λ i h q. subst (λ (c : Compared). FirstDifference c z (owned (setOf g calibration individual)) ds) (sym (accepted g calibration individual ds a))
-    (first-named z (owned (setOf g calibration individual)) ds (difference 1 (owned (setOf g calibration individual)) ds) i h q))
+named s ds z r a n =
+    device-named z 1 (owned s) ds (sized s ds a) r (lengths s ds a)
+    (λ q. n (accepted s ds a ∙ q))
+    (λ i h q. subst (λ (c : Compared). FirstDifference c z (owned s) ds) (sym (accepted s ds a))
+    (first-named z (owned s) ds (difference 1 (owned s) ds) i h q))

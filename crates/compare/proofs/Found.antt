@@ -1,30 +1,30 @@
 -- The search comes to what Compare says. Between two turns `rest` is the answer that is still to be found; a turn leaves it as it was: by the
 -- next device's groups the answer is found there, or it is that of the devices after it. Assumes nothing.
 use mathlib.Core.Path.{_≡_, refl, ap, ap₂, sym, subst, _∙_}
-use mathlib.Core.Bool.{Bool, true, false, not, _&&_, cond, true≢false}
+use mathlib.Core.Bool.{Bool, true, false, _&&_, cond, true≢false}
 use mathlib.Core.List.{List, [], _∷_}
-use Prim.Native.Nat.{ℕ, zero, suc, _+_, _*_, _-_, _%_, _<_, _≤_}
+use Prim.Native.Nat.{ℕ, suc, _+_, _*_, _-_, _%_, _<_, _≤_}
 use native.Mathlib.Numerals.{add-one}
 use native.Mathlib.Nat.{suc-mul}
 use native.Mathlib.Omega.{arith}
-use lib.Dec.{eqb, ltb, leb}
+use lib.Dec.{eqb, ltb}
 use lib.ListN.{length, getD, take, drop}
 use lib.Seq.{drop-cons, drop-drop}
 use borrow.Author.Tests.{ltb-true, ltb-false, leb-true, eqb-true, ne-eqb, not-false}
-use Rattle.parts.specs.Parts.{Part, partOf, known, multiplex, sliceFields}
-use Rattle.parts.specs.Refusals.{first, answer}
-use Rattle.parts.specs.declared.command.Command.the-variants.{Individual, Calibration}
+use Rattle.parts.specs.Parts.{Part, partOf, multiplex, sliceFields}
+use Rattle.parts.specs.Refusals.{answer}
+use Rattle.parts.specs.declared.command.Command.the-variants.{Individual}
 use Rattle.parts.proofs.Laws.{banks-three}
 use Rattle.parts.proofs.Rows.{clear}
 use Rattle.device.specs.declared.device.Device.{Device}
-use Rattle.calls.specs.Chain.{blank, isCount, allKnown, every, hasPart}
-use Rattle.model.specs.Set.{Own, deal, owned}
+use Rattle.calls.specs.Chain.{blank, isCount}
+use Rattle.model.specs.Set.{Set, Own, deal, owned}
 use Rattle.turns.specs.Judging.{unjudged, judgedFrom}
 use Rattle.compare.specs.declared.compared.Compared.{Compared}
 use Rattle.compare.specs.declared.compared.Given.{Given}
 use Rattle.compare.specs.declared.search.Search.{Search}
-use Rattle.compare.specs.Compare.{differsAt, Pair, _against_, groups, inGroups, compared, same, difference, setOf, listsFit, sameChain, compareTable, compareRefusal, comparison}
-use Rattle.compare.specs.Search.{Ready, ownAt, onward, ended, lookedAt, begunUnder, begun}
+use Rattle.compare.specs.Compare.{differsAt, Pair, _against_, groups, inGroups, compared, same, difference, lengthsFit, sameChain, compareTable, compareRefusal, comparison}
+use Rattle.compare.specs.Search.{setBy, Ready, onward, ended, lookedAt, begunUnder, begun}
 use Rattle.compare.proofs.Refusal.{and-left, and-right, fields-of}
 use Rattle.compare.proofs.Judged.{refusal-found}
 
@@ -199,17 +199,20 @@ module _ (p : Part) (bytes values : List ℕ) (ds : List Device) where
 -- ---- where the search begins
 
 module _ (g : Given) (bytes values : List ℕ) (ds : List Device) where
+  abbrev set : Set
+  set = setBy g bytes values
+
   abbrev p₀ : Part
   p₀ = partOf (g .part)
 
-  pub begin-live : compareRefusal g bytes values ds ≡ 0 → (0 < g .devices) × Live p₀ bytes values ds (g .devices) (begunUnder (compareRefusal g bytes values ds) g)
+  pub begin-live : compareRefusal set ds ≡ 0 → (0 < g .devices) × Live p₀ bytes values ds (g .devices) (begunUnder (compareRefusal set ds) g)
   unfolding compareRefusal
   begin-live e =
-      let c = clear (compareTable g bytes values ds) refl e in
+      let c = clear (compareTable set ds) refl e in
       let counts : (isCount (g .devices) && isCount (length ds)) ≡ true = not-false _ (c .1 .0) in
-      let lists : (listsFit g (length bytes) (length values) && sameChain g ds) ≡ true = not-false _ (c .1 .1 .0) in
-      let fit : listsFit g (length bytes) (length values) ≡ true = and-left _ _ lists in
-      let sizes : sameChain g ds ≡ true = and-right (listsFit g (length bytes) (length values)) (sameChain g ds) lists in (
+      let lists : (lengthsFit (g .part) (g .devices) (g .configuration) (length bytes) (length values) && sameChain set ds) ≡ true = not-false _ (c .1 .1 .0) in
+      let fit : lengthsFit (g .part) (g .devices) (g .configuration) (length bytes) (length values) ≡ true = and-left _ _ lists in
+      let sizes : sameChain set ds ≡ true = and-right (lengthsFit (g .part) (g .devices) (g .configuration) (length bytes) (length values)) (sameChain set ds) lists in (
         leb-true 1 (g .devices) (and-left _ _ (and-left _ _ counts)),
         record {
           left = zero-plus (g .devices);
@@ -223,16 +226,16 @@ module _ (g : Given) (bytes values : List ℕ) (ds : List Device) where
         },
       )
 
-  begin-stands : Stands p₀ bytes values ds (g .devices) (comparison g bytes values ds) (begunUnder (compareRefusal g bytes values ds) g)
+  begin-stands : Stands p₀ bytes values ds (g .devices) (comparison set ds) (begunUnder (compareRefusal set ds) g)
   unfolding comparison owned
   begin-stands =
-      let n = compareRefusal g bytes values ds in
+      let n = compareRefusal set ds in
       let all : g .devices - 0 ≡ g .devices = omega arith in
       record {
         answered = ap (λ (k : ℕ). cond (eqb n 0) (difference 1 (deal p₀ k (g .configuration) (g .global) bytes values) ds) (compared n 0 0 0)) all;
         live = λ f. begin-live (eqb-true n 0 f);
       }
 
-  pub stands-start : Stands p₀ bytes values ds (g .devices) (comparison g bytes values ds) (begun g (length bytes) values (judgedFrom unjudged ds) (length ds))
+  pub stands-start : Stands p₀ bytes values ds (g .devices) (comparison set ds) (begun g (length bytes) values (judgedFrom unjudged ds) (length ds))
   stands-start =
-      subst (λ (n : ℕ). Stands p₀ bytes values ds (g .devices) (comparison g bytes values ds) (begunUnder n g)) (sym (refusal-found g bytes values ds)) begin-stands
+      subst (λ (n : ℕ). Stands p₀ bytes values ds (g .devices) (comparison set ds) (begunUnder n g)) (sym (refusal-found g bytes values ds)) begin-stands

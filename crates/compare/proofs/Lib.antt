@@ -8,3 +8,4 @@ pub mod Found
 pub mod Lists
 pub mod Holding
 pub mod Claims
+pub mod Restored

@@ -1,6 +1,6 @@
 -- A comparison's refusal, row by row as the code tests them, and by what one pass over the records found.
 use mathlib.Core.Path.{_≡_, refl, ap, ap₂, sym, _∙_}
-use mathlib.Core.Bool.{Bool, true, false, not, _&&_, cond, true≢false}
+use mathlib.Core.Bool.{Bool, true, false, _&&_, true≢false}
 use Prim.Native.Nat.{ℕ, _+_, _*_, _%_, _≤_}
 use mathlib.Core.List.{List}
 use lib.Dec.{leb}
@@ -13,7 +13,7 @@ use Rattle.parts.proofs.Laws.{banks-three}
 use Rattle.calls.specs.Chain.{isCount}
 use Rattle.turns.specs.declared.judging.Judged.{Judged}
 use Rattle.compare.specs.declared.compared.Given.{Given}
-use Rattle.compare.specs.Compare.{listsFit, valuesFit}
+use Rattle.compare.specs.Compare.{lengthsFit, valuesFit}
 use Rattle.compare.specs.Search.{chainFits, rowsBy}
 
 -- ---- tests
@@ -45,7 +45,10 @@ module _ (g : Given) (bytes : ℕ) (individual : List ℕ) (j : Judged) (count :
   counts = isCount (g .devices) && isCount count
 
   abbrev lists : Bool
-  lists = listsFit g bytes (length individual) && chainFits g j count
+  lists = lengthsFit (g .part) (g .devices) (g .configuration) bytes (length individual) && chainFits g j count
+
+  abbrev values : Bool
+  values = valuesFit (g .part) (g .configuration) (g .global) individual
 
   abbrev number : ℕ
   number = first (rowsBy g bytes individual j count)
@@ -59,11 +62,11 @@ module _ (g : Given) (bytes : ℕ) (individual : List ℕ) (j : Judged) (count :
   pub rows-4 : parts ≡ true → counts ≡ true → lists ≡ false → 4 ≡ number
   rows-4 e f g = rw (e, f, g)
 
-  pub rows-6 : parts ≡ true → counts ≡ true → lists ≡ true → valuesFit g individual ≡ false → 6 ≡ number
+  pub rows-6 : parts ≡ true → counts ≡ true → lists ≡ true → values ≡ false → 6 ≡ number
   rows-6 e f g h = rw (e, f, g, h)
 
-  pub rows-none : parts ≡ true → counts ≡ true → lists ≡ true → valuesFit g individual ≡ true → j .fits ≡ true → 0 ≡ number
+  pub rows-none : parts ≡ true → counts ≡ true → lists ≡ true → values ≡ true → j .fits ≡ true → 0 ≡ number
   rows-none e f g h i = rw (e, f, g, h, i)
 
-  pub rows-13 : parts ≡ true → counts ≡ true → lists ≡ true → valuesFit g individual ≡ true → j .fits ≡ false → 13 ≡ number
+  pub rows-13 : parts ≡ true → counts ≡ true → lists ≡ true → values ≡ true → j .fits ≡ false → 13 ≡ number
   rows-13 e f g h i = rw (e, f, g, h, i)

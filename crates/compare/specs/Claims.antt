@@ -1,17 +1,22 @@
--- What is claimed of a comparison: it says same exactly where every register in use is the set's, and what it names otherwise is the first
--- difference. Each claim is a type; its proof is in proofs/Claims.
+-- What is claimed of a comparison: it says same exactly where every register in use is the set's, so after a restore; and what it names
+-- otherwise is the first difference. Each claim is a type; its proof is in proofs/Claims and proofs/Restored.
 use Prim.Native.Nat.{ℕ, _-_, _<_, _≤_}
 use mathlib.Core.Path.{_≡_}
-use mathlib.Core.List.{List, []}
+use mathlib.Core.Bool.{Bool}
+use mathlib.Core.List.{List, [], _∷_, _++_, map}
 use lib.ListN.{length, take, getD}
+use Rattle.parts.specs.Wire.{stateOf, lows}
+use Rattle.parts.specs.declared.command.Command.{Command}
+use Rattle.frames.specs.declared.told.Tail.{Tail}
 use Rattle.device.specs.declared.device.Device.{Device}
 use Rattle.calls.specs.Chain.{blank}
+use Rattle.calls.specs.History.{Call, boundary, afterCalls, fed, Faults}
 use Rattle.model.specs.Lists.{All, Both}
-use Rattle.model.specs.Set.{Own, owned}
-use Rattle.link.specs.Claims.{Holds}
+use Rattle.model.specs.Set.{Set, Own, owned}
+use Rattle.link.specs.Restore.{restoreStates}
+use Rattle.link.specs.Claims.{Holds, start, Begun}
 use Rattle.compare.specs.declared.compared.Compared.{Compared}
-use Rattle.compare.specs.declared.compared.Given.{Given}
-use Rattle.compare.specs.Compare.{Pair, _against_, groups, same, setOf, compareRefusal, comparison}
+use Rattle.compare.specs.Compare.{Pair, _against_, groups, same, compareRefusal, comparison}
 
 -- a record's arrays have their lengths, as in every record that is lent
 pub record Arrays (d : Device) : Type 0 where
@@ -22,18 +27,27 @@ pub record Arrays (d : Device) : Type 0 where
 -- same: every register in use is the set's
 abbrev pub SameHolds : Type 0
 SameHolds =
-    (g : Given) (calibration individual : List ℕ) (ds : List Device)
+    (s : Set) (ds : List Device)
     → All Arrays ds
-    → comparison g calibration individual ds ≡ same
-    → Both Holds (owned (setOf g calibration individual)) ds
+    → comparison s ds ≡ same
+    → Both Holds (owned s) ds
 
 -- every register in use is the set's: same, unless it is refused
 abbrev pub HoldsSame : Type 0
 HoldsSame =
-    (g : Given) (calibration individual : List ℕ) (ds : List Device)
-    → compareRefusal g calibration individual ds ≡ 0
-    → Both Holds (owned (setOf g calibration individual)) ds
-    → comparison g calibration individual ds ≡ same
+    (s : Set) (ds : List Device)
+    → compareRefusal s ds ≡ 0
+    → Both Holds (owned s) ds
+    → comparison s ds ≡ same
+
+-- after a restore, any fault settings and a boundary: a comparison of that set and that chain is not refused, and says same
+abbrev pub RestoredSame : Type 0
+RestoredSame =
+    (p : ℕ) (records : List Device) (earlier during later : List Call) (s : Set) (gap : Command → List Bool) (tail : Command → Tail) (last : List Bool)
+    → Begun p records earlier during s tail
+    → fed (start p records earlier) during ≡ restoreStates s gap tail ++ map stateOf (lows last)
+    → Faults (afterCalls (start p records earlier) during) later
+    → comparison s (afterCalls (start p records earlier) (during ++ (later ++ boundary ∷ []))) ≡ same
 
 -- the two sides of what is compared
 abbrev pub ofSet : Pair → List ℕ
@@ -68,8 +82,8 @@ pub record FirstDifference (r : Compared) (o : Own) (os : List Own) (ds : List D
 -- neither refused nor same: the first difference
 abbrev pub Named : Type 0
 Named =
-    (g : Given) (calibration individual : List ℕ) (ds : List Device) (o : Own)
+    (s : Set) (ds : List Device) (o : Own)
     → All Arrays ds
-    → compareRefusal g calibration individual ds ≡ 0
-    → (comparison g calibration individual ds ≡ same → ⊥)
-    → FirstDifference (comparison g calibration individual ds) o (owned (setOf g calibration individual)) ds
+    → compareRefusal s ds ≡ 0
+    → (comparison s ds ≡ same → ⊥)
+    → FirstDifference (comparison s ds) o (owned s) ds

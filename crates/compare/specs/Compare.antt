@@ -1,7 +1,7 @@
 -- Comparing a set with a lent chain: same, or the first difference. Document 01, "Is it running?": the lowest device, then configuration,
 -- calibration, active global, active individual (groups 1 to 4), then the place in that device's slice, from 0. A byte that is repeated is a
 -- slice of one here, so its place is 0. Global bytes are compared as stored; MUX1 values count only if the set's D0 is 1.
-use Prim.Native.Nat.{ℕ, zero, suc, _*_}
+use Prim.Native.Nat.{ℕ, suc, _*_}
 use mathlib.Core.Bool.{Bool, not, _&&_, cond}
 use mathlib.Core.List.{List, [], _∷_}
 use lib.Dec.{eqb, ltb}
@@ -14,21 +14,16 @@ use Rattle.device.specs.declared.device.Device.{Device}
 use Rattle.calls.specs.Chain.{every, hasPart, allKnown, allFit, isCount}
 use Rattle.model.specs.Set.{Set, Own, owned}
 use Rattle.compare.specs.declared.compared.Compared.{Compared}
-use Rattle.compare.specs.declared.compared.Given.{Given}
 
--- the set that a caller gives, but for its lists, and with them
-abbrev pub given : ℕ → ℕ → ℕ → ℕ → Given
-given part devices configuration global =
-    record { part = part; devices = devices; configuration = configuration; global = global }
-
-abbrev pub setOf : Given → List ℕ → List ℕ → Set
-setOf g calibration individual =
+-- a set, by what a caller gives
+abbrev pub setOf : ℕ → ℕ → ℕ → List ℕ → ℕ → List ℕ → Set
+setOf part devices configuration calibration global individual =
     record {
-      part = partOf (g .part);
-      devices = g .devices;
-      configuration = g .configuration;
+      part = part;
+      devices = devices;
+      configuration = configuration;
       calibration = calibration;
-      global = g .global;
+      global = global;
       individual = individual;
     }
 
@@ -57,8 +52,7 @@ pub data Pair : Type 0 where
 abbrev pub groups : Own → Device → List Pair
 groups o d =
     ((o .configuration ∷ []) against (d .registers .configuration ∷ []))
-    ∷ ((o .calibration) against (d .registers .calibration))
-    ∷ ((o .global ∷ []) against (d .registers .active ∷ []))
+    ∷ ((o .calibration) against (d .registers .calibration)) ∷ ((o .global ∷ []) against (d .registers .active ∷ []))
     ∷ ((o .individual) against (activeValues (o .configuration) d))
     ∷ []
 
@@ -81,36 +75,35 @@ difference n [] ds = same
 difference n (o ∷ os) [] = same
 difference n (o ∷ os) (d ∷ ds) = inGroups n 1 (groups o d) (difference (suc n) os ds)
 
--- a settings list has the length that its rule says
-abbrev pub listsFit : Given → ℕ → ℕ → Bool
-listsFit g bytes values =
-    eqb bytes (g .devices * sliceFields (partOf (g .part)) Calibration 0)
-    && eqb values (g .devices * sliceFields (partOf (g .part)) Individual (multiplex (g .configuration)))
+-- so many calibration bytes and individual values are what the rules of the settings lists say
+abbrev pub lengthsFit : ℕ → ℕ → ℕ → ℕ → ℕ → Bool
+lengthsFit part devices configuration bytes values =
+    eqb bytes (devices * sliceFields (partOf part) Calibration 0)
+    && eqb values (devices * sliceFields (partOf part) Individual (multiplex configuration))
 
 -- the global byte and the individual values are in range
-abbrev pub valuesFit : Given → List ℕ → Bool
-valuesFit g individual =
-    ltb (g .global) (subframes (partOf (g .part)) (g .configuration)) && allBelow individual (limit (partOf (g .part)))
+abbrev pub valuesFit : ℕ → ℕ → ℕ → List ℕ → Bool
+valuesFit part configuration global individual =
+    ltb global (subframes (partOf part) configuration) && allBelow individual (limit (partOf part))
 
 -- the chain has the set's number of devices and its part
-abbrev pub sameChain : Given → List Device → Bool
-sameChain g ds = eqb (length ds) (g .devices) && every (hasPart (g .part)) ds
+abbrev pub sameChain : Set → List Device → Bool
+sameChain s ds = eqb (length ds) (s .devices) && every (hasPart (s .part)) ds
 
 abbrev pub rowsOf : Bool → Bool → Bool → Bool → Bool → List Row
 rowsOf parts counts lists values records =
     (1 when not parts) ∷ (2 when not counts) ∷ (4 when not lists) ∷ (6 when not values) ∷ (13 when not records) ∷ []
 
 -- when a comparison is refused: of the set as the four writers do, of the chain by its records
-abbrev pub compareTable : Given → List ℕ → List ℕ → List Device → List Row
-compareTable g calibration individual ds =
-    rowsOf (known (g .part) && allKnown ds) (isCount (g .devices) && isCount (length ds))
-    (listsFit g (length calibration) (length individual) && sameChain g ds) (valuesFit g individual) (allFit ds)
+abbrev pub compareTable : Set → List Device → List Row
+compareTable s ds =
+    rowsOf (known (s .part) && allKnown ds) (isCount (s .devices) && isCount (length ds))
+    (lengthsFit (s .part) (s .devices) (s .configuration) (length (s .calibration)) (length (s .individual)) && sameChain s ds)
+    (valuesFit (s .part) (s .configuration) (s .global) (s .individual)) (allFit ds)
 
-unfoldable pub compareRefusal : Given → List ℕ → List ℕ → List Device → ℕ
-compareRefusal g calibration individual ds = first (compareTable g calibration individual ds)
+unfoldable pub compareRefusal : Set → List Device → ℕ
+compareRefusal s ds = first (compareTable s ds)
 
 -- what a comparison answers
-unfoldable pub comparison : Given → List ℕ → List ℕ → List Device → Compared
-comparison g calibration individual ds =
-    answer (compareRefusal g calibration individual ds) (λ n. compared n 0 0 0)
-    (difference 1 (owned (setOf g calibration individual)) ds)
+unfoldable pub comparison : Set → List Device → Compared
+comparison s ds = answer (compareRefusal s ds) (λ n. compared n 0 0 0) (difference 1 (owned s) ds)

@@ -2,8 +2,8 @@
 -- answered is said in Compare; that the search comes to it is in proofs/Found.
 use Prim.Native.Nat.{ℕ, _+_, _*_, _%_, _<_, _≤_}
 use mathlib.Core.Path.{_≡_}
-use mathlib.Core.Bool.{Bool, false, not, _&&_, cond}
-use mathlib.Core.List.{List, [], _∷_}
+use mathlib.Core.Bool.{Bool, false, _&&_, cond}
+use mathlib.Core.List.{List}
 use lib.Dec.{eqb, ltb}
 use lib.ListN.{length, take, drop}
 use Rattle.parts.specs.Parts.{partOf, known, multiplex, sliceFields}
@@ -11,12 +11,20 @@ use Rattle.parts.specs.Refusals.{Row, first}
 use Rattle.parts.specs.declared.command.Command.the-variants.{Individual, Calibration}
 use Rattle.device.specs.declared.device.Device.{Device}
 use Rattle.calls.specs.Chain.{isCount}
-use Rattle.model.specs.Set.{Own}
+use Rattle.model.specs.Set.{Set, Own}
 use Rattle.turns.specs.declared.judging.Judged.{Judged}
 use Rattle.compare.specs.declared.compared.Compared.{Compared}
 use Rattle.compare.specs.declared.compared.Given.{Given}
 use Rattle.compare.specs.declared.search.Search.{Search}
-use Rattle.compare.specs.Compare.{compared, same, groups, inGroups, listsFit, valuesFit, rowsOf}
+use Rattle.compare.specs.Compare.{setOf, compared, same, groups, inGroups, lengthsFit, valuesFit, rowsOf}
+
+-- what is given of a set beside its lists, and with them
+abbrev pub given : ℕ → ℕ → ℕ → ℕ → Given
+given part devices configuration global =
+    record { part = part; devices = devices; configuration = configuration; global = global }
+
+abbrev pub setBy : Given → List ℕ → List ℕ → Set
+setBy g calibration individual = setOf (g .part) (g .devices) (g .configuration) calibration (g .global) individual
 
 -- ---- the refusal
 
@@ -27,7 +35,8 @@ chainFits g j count = eqb count (g .devices) && (j .same && eqb (j .part) (g .pa
 abbrev pub rowsBy : Given → ℕ → List ℕ → Judged → ℕ → List Row
 rowsBy g bytes individual j count =
     rowsOf (known (g .part) && j .known) (isCount (g .devices) && isCount count)
-    (listsFit g bytes (length individual) && chainFits g j count) (valuesFit g individual) (j .fits)
+    (lengthsFit (g .part) (g .devices) (g .configuration) bytes (length individual) && chainFits g j count)
+    (valuesFit (g .part) (g .configuration) (g .global) individual) (j .fits)
 
 -- ---- the search
 

@@ -1,6 +1,6 @@
 // The comparison over a lent chain, for C and Rust. It walks the records; what it does with one of them is by value.
 ghost use mathlib.Core.Path.{_≡_};
-ghost use Rattle.compare.specs.Compare.{given, comparison};
+ghost use Rattle.compare.specs.Compare.{setOf, comparison};
 use crate::compared::Compared;
 use crate::search::begin;
 use crate::search::look;
@@ -19,7 +19,7 @@ pub extern "C" fn bb_compare(
     individual: &[u16],
     chain: &[Device],
 ) -> Compared
-    ensures { λ r. ⌜ r ≡ comparison (given part devices configuration global) (now (calibration .entry)) (now (individual .entry)) (now (chain .entry)) ⌝ }
+    ensures { λ r. ⌜ r ≡ comparison (setOf part devices configuration (now (calibration .entry)) global (now (individual .entry))) (now (chain .entry)) ⌝ }
 {
     let judged = judge(chain);
     let mut search = begin(

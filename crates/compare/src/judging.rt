@@ -5,7 +5,7 @@ ghost use Prim.Native.Nat.{_≤_};
 ghost use lib.Dec.{eqb};
 ghost use lib.ListN.{length};
 ghost use Rattle.parts.specs.Refusals.{first};
-ghost use Rattle.compare.specs.Compare.{listsFit, valuesFit};
+ghost use Rattle.compare.specs.Compare.{lengthsFit, valuesFit};
 ghost use Rattle.compare.specs.Search.{chainFits, rowsBy};
 use crate::compared::Given;
 use parts::Command;
@@ -42,7 +42,7 @@ pub fn refusal_of(
 // The settings lists have the lengths that their rules say.
 fn lists_fit(given: Given, bytes: usize, values: usize) -> bool
     requires { ⌜ given .devices ≤ 1023 ⌝ }
-    ensures { λ r. ⌜ r ≡ listsFit given bytes values ⌝ }
+    ensures { λ r. ⌜ r ≡ lengthsFit (given .part) (given .devices) (given .configuration) bytes values ⌝ }
 {
     let devices = given.devices;
     let banks = parts::slice_fields(Command::Calibration, given.part, 0) as usize;
@@ -67,7 +67,7 @@ fn chain_fits(given: Given, judged: Judged, count: usize) -> bool
 
 // The global byte and the individual values are in range.
 fn values_fit(given: Given, individual: &[u16]) -> bool
-    ensures { λ r. ⌜ r ≡ valuesFit given (now (individual .entry)) ⌝ }
+    ensures { λ r. ⌜ r ≡ valuesFit (given .part) (given .configuration) (given .global) (now (individual .entry)) ⌝ }
 {
     if (given.global as u16) < parts::subframes_of(given.part, given.configuration) {
         parts::values_below(individual, parts::value_limit(given.part))

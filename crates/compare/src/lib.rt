@@ -6,5 +6,4 @@ mod own;
 mod search;
 
 pub use compared::Compared;
-pub use compared::Given;
 pub use comparison::bb_compare;

@@ -61,10 +61,10 @@ fn active_differ(values: &[u16], configuration: u8, device: Device) -> usize
 {
     let registers = device.registers;
     let mux0 = registers.active0;
+    let mux1 = registers.active1;
     if configuration % 2 == 0 {
         return values_differ(values, mux0);
     }
-    let mux1 = registers.active1;
     turns_differ(values, mux0, mux1)
 }
 

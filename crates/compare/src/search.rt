@@ -2,8 +2,7 @@
 ghost use mathlib.Core.Path.{_≡_};
 ghost use Prim.Native.Nat.{_+_, _<_};
 ghost use lib.ListN.{length};
-ghost use Rattle.compare.specs.Compare.{given};
-ghost use Rattle.compare.specs.Search.{Ready, begun, begunUnder, lookedAt};
+ghost use Rattle.compare.specs.Search.{given, Ready, begun, begunUnder, lookedAt};
 use crate::compared::Compared;
 use crate::compared::Given;
 use device::Device;

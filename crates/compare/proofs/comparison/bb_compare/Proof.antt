@@ -1,6 +1,6 @@
 -- `compare::bb_compare` meets its contract: a walk of its MIR, by hand. Records are judged once; each turn of the loop reads a record and calls
 -- `look` with the set's two lists lent on. What it comes to is in proofs/Found.
-use Rattle.chain.proofs.Walk.{_≡_, refl, sym, _∙_, ap, subst, ℕ, zero, suc, _+_, _*_, _<_, _^_, arith, Bool, true, false, List, [], _∷_, length, getD, URA, fullShare, Ty, named, imm, w8, w64, tyBool, tyPtr, tyRef, vbool, vint, vptr, Val, SProp, ent, sep, emp, via, fst∗, Lft, GName, Share, ftrue, fat, flft, Memory, Routine, Heap, Out, Env, Wp, WpFn, Tables, afterSeq, afterBlock, afterTurn, atReturn, Atoms, sem, fmOf, Item, ‵, raw, _⊛_, ⋆, anyQ, atRet, _$_, _∵_, !, qed, by, move, use1, drop, split, join, rewrite, fsplit, fjoin, suffices, frame, done, whole, sub, look-in, look, look-raw, store, init, forget, stop, hop, fld, from, load, lit, of-opd, and-then, no-more, bin, assigns, assigns-last, land, stays, leaves-loop, exec, returns, enter, alloc1, alloc0, params1, pass1, pass0, free1, free0, Fun, givenOf, tables, tablesOf, yes, owns, pointee, Is, shows, uint-vals, uint-tells, uint-makes, uint-copy, RefT, sliceTy, sliceVal, ShrSlice, Room, slice-vals, shr-slice-tells, row, plain, shrSliceOf, u8, usize, onEntry, tripleOf, Contract, Triple, cited, nothing, owned, heard, says, Stays, stay-dropped, walkOf, ends-at, walked, goes-dropped, word, byte, loop, id⊢}
+use Rattle.chain.proofs.Walk.{_≡_, refl, _∙_, ap, subst, ℕ, zero, suc, _*_, _<_, _^_, arith, Bool, true, false, List, [], _∷_, length, getD, URA, fullShare, Ty, named, imm, w8, w64, tyBool, tyPtr, tyRef, vbool, vint, vptr, Val, SProp, ent, sep, emp, via, fst∗, Lft, GName, Share, ftrue, fat, flft, Memory, Routine, Heap, Out, Env, Wp, WpFn, Tables, afterSeq, afterBlock, afterTurn, atReturn, Atoms, sem, fmOf, Item, ‵, raw, _⊛_, ⋆, anyQ, atRet, _$_, _∵_, !, qed, by, move, use1, drop, split, join, rewrite, fsplit, fjoin, suffices, frame, done, whole, sub, look-in, look, look-raw, store, init, forget, stop, hop, fld, from, load, lit, of-opd, and-then, no-more, bin, assigns, assigns-last, land, stays, leaves-loop, exec, returns, enter, alloc1, alloc0, params1, pass1, pass0, free1, free0, Fun, givenOf, tables, tablesOf, yes, owns, pointee, Is, shows, uint-vals, uint-tells, uint-makes, uint-copy, RefT, sliceTy, sliceVal, ShrSlice, Room, slice-vals, shr-slice-tells, row, plain, shrSliceOf, u8, usize, onEntry, tripleOf, Contract, Triple, cited, nothing, owned, heard, says, Stays, stay-dropped, walkOf, ends-at, walked, goes-dropped, word, byte, loop, id⊢}
 use Rattle.chain.proofs.Walk as walk-names
 use package.mir.Syntax.{w16, tyInt}
 use denote.Builtin.{u16}
@@ -23,8 +23,8 @@ use Rattle.chain.proofs.judge.Met as judge-thm
 use Rattle.compare.specs.declared.compared.Compared.{Compared}
 use Rattle.compare.specs.declared.compared.Given.{Given}
 use Rattle.compare.specs.declared.search.Search.{Search}
-use Rattle.compare.specs.Compare.{given, comparison}
-use Rattle.compare.specs.Search.{Ready, begun, lookedAt}
+use Rattle.compare.specs.Compare.{setOf, comparison}
+use Rattle.compare.specs.Search.{given, Ready, begun, lookedAt}
 use Rattle.compare.proofs.Found.{Stands, stands-zero, stands-end, stands-index, stands-ready, stands-next, stands-start}
 use Rattle.compare.proofs.compared.Compared as R
 use Rattle.compare.proofs.compared.Compared.Laws as R′
@@ -113,7 +113,7 @@ module _ {M : Type 1} (𝓤 : URA M) (H : Heap 𝓤) (A : Atoms 𝓤) (W : walk-
   p = partOf pt
 
   abbrev fin : Compared
-  fin = comparison g cs vs xs
+  fin = comparison (setOf pt n cf cs gl vs) xs
 
   abbrev bg : Search
   bg = begun g (length cs) vs (judgedFrom unjudged xs) (length xs)

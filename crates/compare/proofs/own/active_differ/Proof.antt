@@ -13,7 +13,7 @@ turns-differ-requires : tie.Need-turns-differ-requires
 turns-differ-requires c κs = search needs
 
 returns-2 : tie.Need-returns-2
-returns-2 c = rw (c .turns-differ .ensures, ne-eqb _ _ (c .before .before .if1 .left))
+returns-2 c = rw (c .turns-differ .ensures, ne-eqb _ _ (c .before .if1 .left))
 
 pub active-differ-spec : {M : Type 1} → statement M
 active-differ-spec =

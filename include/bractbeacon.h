@@ -1,7 +1,7 @@
 /*
  * Bractbeacon: frames, chains and light of MAX6974 and MAX6975 LED drivers.
  *
- * The functions are those of the static library target/staticlib/libcapi.a (`rt staticlib capi`, x86-64 Linux).
+ * The functions are those of the static library target/staticlib/libbractbeacon.a (`tools/library`, x86-64 Linux).
  * Each has one result and one content of every lent list, for any numbers; the library's contracts say which.
  * "01" below is the customer's paper, "Sign restore: build definition and exact rules".
  *

@@ -2,7 +2,8 @@
  * From a set to a running sign, through include/bractbeacon.h: frames, line states, a run on three devices, what comes
  * back, the light, the comparison. Prints what came out and exits with 1 where it is not what paper 01 says.
  *
- *   gcc -std=c11 -Wall -Wextra -Iinclude examples/c/example.c -Ltarget/staticlib -lcapi -o example
+ *   tools/library
+ *   gcc -std=c11 -Wall -Wextra -Iinclude examples/c/example.c -Ltarget/staticlib -lbractbeacon -o target/example
  */
 #include <stdio.h>
 #include <string.h>

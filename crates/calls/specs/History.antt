@@ -5,9 +5,9 @@ use mathlib.Core.Path.{_≡_}
 use mathlib.Core.Bool.{Bool}
 use mathlib.Core.List.{List, [], _∷_, _++_}
 use lib.ListN.{length, take}
-use Rattle.parts.specs.Refusals.{content}
+use Rattle.parts.specs.Refusals.{Row, content}
 use Rattle.device.specs.declared.device.Device.{Device}
-use Rattle.calls.specs.Calls.{freshRefusal, freshAfter, runRefusal, runAfter, runRoom, returned, boundaryRefusal, boundaryAfter, faultRefusal, faultAfter}
+use Rattle.calls.specs.Calls.{freshTable, runTable, boundaryTable, faultTable, freshRefusal, freshAfter, runRefusal, runAfter, runRoom, returned, boundaryRefusal, boundaryAfter, faultRefusal, faultAfter}
 
 -- fresh: the part. run: states, and the lent room as it is. fault: device, kind, flag
 pub data Call : Type 0 where
@@ -15,6 +15,13 @@ pub data Call : Type 0 where
   run : List ℕ → List ℕ → Call
   boundary : Call
   fault : ℕ → ℕ → Bool → Call
+
+-- what a call is refused for, in the order of the numbers
+abbrev pub tableOf : List Device → Call → List Row
+tableOf ds (fresh part) = freshTable part (length ds)
+tableOf ds (run ss out) = runTable ds ss (length out)
+tableOf ds boundary = boundaryTable ds
+tableOf ds (fault device kind flag) = faultTable ds device kind
 
 -- the number under which a call is refused, or 0
 unfoldable pub refusalOf : List Device → Call → ℕ
@@ -57,13 +64,26 @@ unfoldable pub answers : List Device → List Call → List ℕ
 answers ds [] = []
 answers ds (c ∷ cs) = answered ds c ++ answers (after ds c) cs
 
--- each call of a list is a run, or is refused where it stands
+-- a call is a run, or is refused where it stands
 abbrev pub RunOrRefused : List Device → Call → Type 0
 RunOrRefused ds (fresh part) = refusalOf ds (fresh part) ≡ 0 → ⊥
 RunOrRefused ds (run ss out) = Unit {0}
 RunOrRefused ds boundary = refusalOf ds boundary ≡ 0 → ⊥
 RunOrRefused ds (fault device kind flag) = refusalOf ds (fault device kind flag) ≡ 0 → ⊥
 
+-- and so is each of a list
 abbrev pub Runs : List Device → List Call → Type 0
 Runs ds [] = Unit {0}
 Runs ds (c ∷ cs) = RunOrRefused ds c × Runs (after ds c) cs
+
+-- a call sets a fault, or is refused where it stands
+abbrev pub FaultOrRefused : List Device → Call → Type 0
+FaultOrRefused ds (fresh part) = refusalOf ds (fresh part) ≡ 0 → ⊥
+FaultOrRefused ds (run ss out) = refusalOf ds (run ss out) ≡ 0 → ⊥
+FaultOrRefused ds boundary = refusalOf ds boundary ≡ 0 → ⊥
+FaultOrRefused ds (fault device kind flag) = Unit {0}
+
+-- and so does each of a list
+abbrev pub Faults : List Device → List Call → Type 0
+Faults ds [] = Unit {0}
+Faults ds (c ∷ cs) = FaultOrRefused ds c × Faults (after ds c) cs

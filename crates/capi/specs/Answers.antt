@@ -1,12 +1,33 @@
 -- The answers of the operations as numbers: document 01's number of a refusal, and what was asked for.
 use Prim.Native.Nat.{ℕ}
 use mathlib.Core.Bool.{cond}
-use Rattle.parts.specs.Parts.{known}
+use lib.IntN.{pos}
+use Rattle.bits.specs.Bits.{digit}
+use Rattle.parts.specs.Parts.{known, code, commandAt}
 use Rattle.bits.specs.declared.packing.Packed.{Packed}
 use Rattle.bits.specs.declared.packing.Packed.the-variants as P
 use Rattle.line.specs.declared.states.Line.{Line}
 use Rattle.line.specs.declared.states.Line.the-variants as L
+use Rattle.frames.specs.declared.told.Told.{Told}
+use Rattle.frames.specs.declared.told.Tail.{Tail}
+use Rattle.frames.specs.declared.told.Written.{Written}
+use Rattle.frames.specs.declared.told.Written.the-variants as F
+use Rattle.frames.specs.declared.told.Read.{Read}
+use Rattle.frames.specs.declared.told.Read.the-variants as R
+use Rattle.frames.specs.declared.told.Returned.{Returned}
+use Rattle.frames.specs.declared.told.Returned.the-variants as B
+use Rattle.device.specs.declared.device.Device.{Device}
+use Rattle.device.specs.declared.device.Stepped.{Stepped as Unjudged}
+use Rattle.device.specs.declared.device.Answer.{Answer as Judged}
+use Rattle.device.specs.declared.phase.Sent.{Sent}
+use Rattle.device.specs.declared.phase.Sent.the-variants as S
+use Rattle.schedule.specs.declared.answer.Asked.{Asked}
+use Rattle.schedule.specs.declared.answer.Asked.the-variants as Q
+use Rattle.schedule.specs.declared.answer.Lead.{Lead}
+use Rattle.schedule.specs.declared.answer.Lead.the-variants as W
 use Rattle.capi.specs.declared.answer.Answer.{Answer}
+use Rattle.capi.specs.declared.answer.Signed.{Signed}
+use Rattle.capi.specs.declared.steps.Stepped.{Stepped}
 
 -- what was asked for
 abbrev pub accepted : ℕ → Answer
@@ -29,3 +50,62 @@ ofLine (L.Refused number) = refused number
 -- a number of a part's row
 abbrev pub ofPart : ℕ → ℕ → Answer
 ofPart part number = cond (known part) (accepted number) (refused 1)
+
+-- ---- frames
+
+-- what is told of a frame: a command by its bits C1 C0
+abbrev pub toldBy : ℕ → ℕ → ℕ → ℕ → Told
+toldBy part devices command configuration =
+    record { part = part; devices = devices; command = commandAt command; configuration = configuration }
+
+abbrev pub tailOf : ℕ → ℕ → Tail
+tailOf number length = record { number = number; length = length }
+
+-- a frame written: its bytes
+abbrev pub ofWritten : Written → Answer
+ofWritten (F.Bytes n) = accepted n
+ofWritten (F.Refused number) = refused number
+
+-- a frame read: its byte, or how many bytes or values stand in the lent list
+abbrev pub ofRead : Read → Answer
+ofRead (R.Byte byte) = accepted byte
+ofRead (R.Bytes n) = accepted n
+ofRead (R.Values n) = accepted n
+ofRead (R.Refused number) = refused number
+
+-- a return read: its count
+abbrev pub ofReturned : Returned → Answer
+ofReturned (B.Count count) = accepted count
+ofReturned (B.Refused number) = refused number
+
+-- ---- light
+
+-- yes is 1, no is 0
+abbrev pub ofAsked : Asked → Answer
+ofAsked (Q.Is holds) = accepted (digit holds)
+ofAsked (Q.Refused number) = refused number
+
+-- a lead
+abbrev pub ofLead : Lead → Signed
+ofLead (W.By value) = record { value = value; refusal = 0 }
+ofLead (W.Refused number) = record { value = pos 0; refusal = number }
+
+-- ---- one device
+
+abbrev pub numbers : Device → ℕ → ℕ → ℕ → ℕ → ℕ → Stepped
+numbers device count command state sent refusal =
+    record { device = device; count = count; command = command; state = state; sent = sent; refusal = refusal }
+
+-- what is sent on: nothing, one state, or the 24 states of a header
+abbrev pub ofSent : Device → Sent → ℕ → Stepped
+ofSent d S.Nothing refusal = numbers d 0 0 0 0 refusal
+ofSent d (S.One state) refusal = numbers d 0 0 state 1 refusal
+ofSent d (S.Header c count) refusal = numbers d count (code c) 0 24 refusal
+
+-- a judged step
+abbrev pub ofStep : Judged → Stepped
+ofStep s = ofSent (s .device) (s .sent) (s .refusal)
+
+-- a step without a judgement
+abbrev pub ofBareStep : Unjudged → Stepped
+ofBareStep s = ofSent (s .device) (s .sent) 0

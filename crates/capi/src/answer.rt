@@ -26,3 +26,10 @@ pub fn refuse(refusal: u8) -> Answer
         refusal: refusal,
     }
 }
+
+// A signed number, or a refusal: 0 as above.
+#[repr(C)]
+pub struct Signed {
+    pub value: i32,
+    pub refusal: u8,
+}

@@ -1,17 +1,16 @@
 -- A record that fits still fits after any line state, a frame boundary and a fault setting, and a fresh device fits: what a chain's records
 -- were judged for once holds through a run. By cases on the phase; the next place is that of a phase whose numbers fit. Assumes nothing.
-use mathlib.Core.Path.{_≡_, refl, ap, sym, _∙_, subst}
-use mathlib.Core.Bool.{Bool, true, false, _&&_, cond, true≢false}
+use mathlib.Core.Path.{_≡_, refl, ap, _∙_}
+use mathlib.Core.Bool.{Bool, true, _&&_}
 use mathlib.Core.List.{List, [], _∷_}
 use Prim.Native.Nat.{ℕ, zero, suc, _+_, _-_, _*_, _/_, _%_, _<_, _≤_}
-use native.Mathlib.Nat.{mod-lt, lt-of-lt-of-le, mod-eq-of-lt}
+use native.Mathlib.Nat.{mod-lt, lt-of-lt-of-le}
 use native.Mathlib.Omega.{arith}
 use lib.Dec.{eqb, ltb, lit<}
 use lib.ListN.{getD, set, replicate}
-use borrow.Author.Tests.{lt-ltb, le-leb, eq-eqb, ltb-true, leb-true, eqb-true}
+use borrow.Author.Tests.{lt-ltb, le-leb, ltb-true, leb-true}
 use Rattle.parts.specs.Parts.{partOf, multiplex, limit, fieldWidth, fieldLimit}
 use Rattle.parts.specs.Lists.{allBelow}
-use Rattle.parts.proofs.Laws.{command-code}
 use Rattle.parts.specs.declared.command.Command.{Command}
 use Rattle.parts.specs.declared.command.Command.the-variants.{Individual, Calibration, Global, Configuration}
 use Rattle.device.specs.Phases.{placeOf, phaseOf, pushed, windowOf, heard, rising, opened, opening, counting}
@@ -25,68 +24,15 @@ use Rattle.device.specs.declared.registers.Registers.{Registers}
 use Rattle.device.specs.declared.device.Device.{Device}
 use Rattle.device.specs.declared.device.Stepped.{Stepped}
 use Rattle.device.proofs.Fields.{limit-pos, field-limit-pos, field-limit-le, slice-bits-pos}
-
--- ---- tests
-
-pub and-true : (a b : Bool) → (a && b) ≡ true → (a ≡ true) × (b ≡ true)
-and-true true b h = (refl, h)
-and-true false b h = absurd (true≢false (sym h))
-
-pub true-and : (a b : Bool) → a ≡ true → b ≡ true → (a && b) ≡ true
-true-and a b p q = rw (p, q)
-
--- what holds of both ways of a test holds of what it chooses
-pub cond-both : {A : Type 0} (P : A → Type 0) (t : Bool) (a b : A) → (t ≡ true → P a) → (t ≡ false → P b) → P (cond t a b)
-cond-both P true a b p q = p refl
-cond-both P false a b p q = q refl
-
--- ---- places and phases
-
--- a phase's numbers fit the types of the record's: only the window can be too large for its own
-abbrev pub Small : Phase → Type 0
-Small p = windowOf p < 256
-
--- the round trip through the record's numbers
-pub phase-place : (p : Phase) → Small p → phaseOf (placeOf p) ≡ p
-phase-place (Hunting window) h = ap Hunting (mod-eq-of-lt h)
-phase-place (Opening read) h = refl
-phase-place (Counting c read) h = rw (command-code c)
-phase-place (Slice c count taken) h = rw (command-code c)
-phase-place Passing h = refl
-phase-place Lost h = refl
-
-pub same-place : (p q : Place) → samePlace p q ≡ true → p ≡ q
-same-place p q h =
-    let a = and-true _ _ h in
-    let b = and-true _ _ (a .1) in
-    let c = and-true _ _ (b .1) in
-    let e1 : p .phase ≡ q .phase = eqb-true (p .phase) (q .phase) (a .0) in
-    let e2 : p .command ≡ q .command = eqb-true (p .command) (q .command) (b .0) in
-    let e3 : p .count ≡ q .count = eqb-true (p .count) (q .count) (c .0) in
-    let e4 : p .read ≡ q .read = eqb-true (p .read) (q .read) (c .1) in
-    (λ i. record { phase = e1 i; command = e2 i; count = e3 i; read = e4 i })
-
--- and back, for numbers that fit
-pub place-phase : (q : Place) (r : Registers) → placeFits q r ≡ true → placeOf (phaseOf q) ≡ q
-place-phase q r h = same-place (placeOf (phaseOf q)) q (and-true _ _ h .0)
-
-pub same-self : (q : Place) → samePlace q q ≡ true
-same-self q =
-    rw (eq-eqb (q .phase) (q .phase) refl, eq-eqb (q .command) (q .command) refl, eq-eqb (q .count) (q .count) refl, eq-eqb (q .read) (q .read) refl)
-
--- the place of a phase whose numbers fit
-pub place-fits : (p : Phase) (r : Registers) → Small p → phaseFits p r ≡ true → placeFits (placeOf p) r ≡ true
-place-fits p r h k =
-    subst (λ (x : Phase). (samePlace (placeOf x) (placeOf p) && phaseFits x r) ≡ true) (sym (phase-place p h))
-    (true-and (samePlace (placeOf p) (placeOf p)) (phaseFits p r) (same-self (placeOf p)) k)
+use Rattle.device.proofs.Places.{and-both, both-and, cond-both, Small, phase-small, place-fits}
 
 -- ---- lists of values
 
 pub below-head : (x : ℕ) (xs : List ℕ) (m : ℕ) → allBelow (x ∷ xs) m ≡ true → (x < m) × (allBelow xs m ≡ true)
-below-head x xs m h = let t = and-true (ltb x m) (allBelow xs m) h in (ltb-true x m (t .0), t .1)
+below-head x xs m h = let t = and-both (ltb x m) (allBelow xs m) h in (ltb-true x m (t .0), t .1)
 
 pub below-cons : (x : ℕ) (xs : List ℕ) (m : ℕ) → x < m → allBelow xs m ≡ true → allBelow (x ∷ xs) m ≡ true
-below-cons x xs m p q = true-and (ltb x m) (allBelow xs m) (lt-ltb x m p) q
+below-cons x xs m p q = both-and (ltb x m) (allBelow xs m) (lt-ltb x m p) q
 
 pub below-at : (xs : List ℕ) (m i : ℕ) → allBelow xs m ≡ true → 0 < m → getD xs i 0 < m
 below-at [] m i h p = p
@@ -123,12 +69,12 @@ pub record Below (r : Registers) : Type 0 where
 
 pub below-of : (r : Registers) → (flagsFit r && valuesFit r) ≡ true → Below r
 below-of r h =
-    let s = and-true (flagsFit r) (valuesFit r) h in
-    let f = and-true (ltb (r .overtemperature) 2) (ltb (r .openled) 2) (s .0) in
-    let a = and-true _ _ (s .1) in
-    let b = and-true _ _ (a .1) in
-    let w = and-true _ _ (a .0) in
-    let v = and-true _ _ (b .0) in
+    let s = and-both (flagsFit r) (valuesFit r) h in
+    let f = and-both (ltb (r .overtemperature) 2) (ltb (r .openled) 2) (s .0) in
+    let a = and-both _ _ (s .1) in
+    let b = and-both _ _ (a .1) in
+    let w = and-both _ _ (a .0) in
+    let v = and-both _ _ (b .0) in
     record {
       hot = ltb-true (r .overtemperature) 2 (f .0);
       lit = ltb-true (r .openled) 2 (f .1);
@@ -196,23 +142,16 @@ abbrev pub Good : Registers → Phase → Type 0
 Good r p = Small p × (phaseFits p r ≡ true)
 
 pub phase-good : (q : Place) (r : Registers) → placeFits q r ≡ true → Good r (phaseOf q)
-phase-good q r h = (small q, and-true (samePlace (placeOf (phaseOf q)) q) (phaseFits (phaseOf q) r) h .1) where
-  small : (q : Place) → Small (phaseOf q)
-  small q =
-      cond-both Small (eqb (q .phase) 0) _ _ (λ _. mod-lt (q .read) (lit< tt))
-      (λ _. cond-both Small (eqb (q .phase) 1) _ _ (λ _. lit< tt)
-      (λ _. cond-both Small (eqb (q .phase) 2) _ _ (λ _. lit< tt)
-      (λ _. cond-both Small (eqb (q .phase) 3) _ _ (λ _. lit< tt)
-      (λ _. cond-both Small (eqb (q .phase) 4) _ _ (λ _. lit< tt) (λ _. lit< tt)))))
+phase-good q r h = (phase-small q, and-both (samePlace (placeOf (phaseOf q)) q) (phaseFits (phaseOf q) r) h .1)
 
 pub device-fits : (r : Registers) (p : Phase) → Below r → Good r p → fits (at r p) ≡ true
-device-fits r p b g = true-and (placeFits (placeOf p) r) (flagsFit r && valuesFit r) (place-fits p r (g .0) (g .1)) (of-below r b)
+device-fits r p b g = both-and (placeFits (placeOf p) r) (flagsFit r && valuesFit r) (place-fits p r (g .0) (g .1)) (of-below r b)
 
 module _ (r : Registers) where
   rising-good : (window bit : ℕ) → bit < 2 → Good r (rising window bit)
   rising-good window bit h =
       cond-both (Good r) (eqb window 0xE8) _ _
-      (λ _. (lit< tt, true-and _ _ (le-leb 2 (2 + bit) (omega arith)) (lt-ltb (2 + bit) 64 (omega arith)))) (λ _. (lit< tt, refl))
+      (λ _. (lit< tt, both-and _ _ (le-leb 2 (2 + bit) (omega arith)) (lt-ltb (2 + bit) 64 (omega arith)))) (λ _. (lit< tt, refl))
 
   opened-good : (pairs : ℕ) → Good r (opened pairs)
   opened-good pairs =
@@ -224,16 +163,16 @@ module _ (r : Registers) where
   opening-good : (read bit : ℕ) → 2 ≤ read → Good r (opening read bit)
   opening-good read bit h =
       cond-both (Good r) (ltb (read * 2 + bit) 64) _ _
-      (λ t. (lit< tt, true-and _ _ (le-leb 2 (read * 2 + bit) (omega arith)) t))
+      (λ t. (lit< tt, both-and _ _ (le-leb 2 (read * 2 + bit) (omega arith)) t))
       (λ _. opened-good (read * 2 + bit - 64))
 
   counting-good : (c : Command) (read bit : ℕ) → 1 ≤ read → Good r (counting c read bit)
   counting-good c read bit h =
       cond-both (Good r) (ltb (read * 2 + bit) 1024) _ _
-      (λ t. (lit< tt, true-and _ _ (le-leb 1 (read * 2 + bit) (omega arith)) t))
+      (λ t. (lit< tt, both-and _ _ (le-leb 1 (read * 2 + bit) (omega arith)) t))
       (λ _. (
         lit< tt,
-        true-and _ _ (lt-ltb ((read * 2 + bit) % 1024) 1024 (mod-lt (read * 2 + bit) (lit< tt)))
+        both-and _ _ (lt-ltb ((read * 2 + bit) % 1024) 1024 (mod-lt (read * 2 + bit) (lit< tt)))
             (lt-ltb 0 (sliceLength r c) (slice-bits-pos c (r .part) (multiplex (r .configuration)))),
       ))
 
@@ -245,14 +184,14 @@ Fit s = fits (s .device) ≡ true
 high-fits : (r : Registers) (p : Phase) (s : ℕ) → Below r → Good r p → Fit (stepHigh r p s)
 high-fits r (Hunting window) s b g = device-fits r (rising window (s % 2)) b (rising-good r window (s % 2) (mod-lt s (lit< tt)))
 high-fits r (Opening read) s b g =
-    device-fits r (opening read (s % 2)) b (opening-good r read (s % 2) (leb-true 2 read (and-true _ _ (g .1) .0)))
+    device-fits r (opening read (s % 2)) b (opening-good r read (s % 2) (leb-true 2 read (and-both _ _ (g .1) .0)))
 high-fits r (Counting c read) s b g =
-    device-fits r (counting c read (s % 2)) b (counting-good r c read (s % 2) (leb-true 1 read (and-true _ _ (g .1) .0)))
+    device-fits r (counting c read (s % 2)) b (counting-good r c read (s % 2) (leb-true 1 read (and-both _ _ (g .1) .0)))
 high-fits r (Slice c n t) s b g =
-    let h = and-true (ltb n 1024) (ltb t (sliceLength r c)) (g .1) in
+    let h = and-both (ltb n 1024) (ltb t (sliceLength r c)) (g .1) in
     let f = took-below r c (t / fieldWidth (partOf (r .part)) c) (s % 2) b in
     cond-both Fit (ltb (t + 1) (sliceLength r c)) _ _
-    (λ q. device-fits _ (Slice c n (t + 1)) f (lit< tt, true-and _ _ (h .0) q))
+    (λ q. device-fits _ (Slice c n (t + 1)) f (lit< tt, both-and _ _ (h .0) q))
     (λ _. device-fits _ Passing (stored-below _ c f) (lit< tt, refl))
 high-fits r Passing s b g = device-fits r Passing b g
 high-fits r Lost s b g = device-fits r Lost b g
@@ -260,7 +199,7 @@ high-fits r Lost s b g = device-fits r Lost b g
 -- a record that fits is one that fits after any line state
 pub kept : (d : Device) (s : ℕ) → fits d ≡ true → fits (step d s .device) ≡ true
 kept d s h =
-    let t = and-true (placeFits (d .place) (d .registers)) _ h in
+    let t = and-both (placeFits (d .place) (d .registers)) _ h in
     let b = below-of (d .registers) (t .1) in
     let g = phase-good (d .place) (d .registers) (t .0) in
     cond-both Fit (ltb s 2) _ _
@@ -304,12 +243,12 @@ showing-fits : (d : Device) (hot lit active : ℕ) (active0 active1 : List ℕ)
 showing-fits d hot lit active active0 active1 t b =
     let r = showing (d .registers) hot lit active active0 active1 in
     let e = showing-phase (phaseOf (d .place)) (d .registers) hot lit active active0 active1 in
-    true-and (placeFits (d .place) r) (flagsFit r && valuesFit r)
+    both-and (placeFits (d .place) r) (flagsFit r && valuesFit r)
     (ap (λ (x : Bool). samePlace (placeOf (phaseOf (d .place))) (d .place) && x) e ∙ t) (of-below r b)
 
 pub kept-bounded : (d : Device) → fits d ≡ true → fits (bounded d) ≡ true
 kept-bounded d h =
-    let t = and-true (placeFits (d .place) (d .registers)) _ h in
+    let t = and-both (placeFits (d .place) (d .registers)) _ h in
     let b = below-of (d .registers) (t .1) in
     let r = d .registers in
     showing-fits d (r .overtemperature) (r .openled) (r .waiting) (r .waiting0) (r .waiting1) (t .0)
@@ -317,7 +256,7 @@ kept-bounded d h =
 
 pub kept-faulted : (d : Device) (kind flag : ℕ) → flag < 2 → fits d ≡ true → fits (faulted d kind flag) ≡ true
 kept-faulted d kind flag l h =
-    let t = and-true (placeFits (d .place) (d .registers)) _ h in
+    let t = and-both (placeFits (d .place) (d .registers)) _ h in
     let b = below-of (d .registers) (t .1) in
     let r = d .registers in
     cond-both (λ (x : Registers). fits (record { registers = x; place = d .place }) ≡ true) (eqb kind 0)

@@ -56,11 +56,13 @@ abbrev pub sliceRows : Told → List ℕ → List Row
 sliceRows t frame =
     (9 when not (eqb (field 14 10 (fields 8 frame)) 0)) ∷ (10 when copiesDiffer (t .command) (heldFields t frame)) ∷ []
 
+-- 6 to 8
+abbrev pub openingRows : Told → Tail → List ℕ → List Row
+openingRows t tail frame = rangeRows t tail frame ++ headRows (t .command) (fields 8 frame)
+
 -- 6 to 12
 abbrev pub bodyRows : Told → Tail → List ℕ → List Row
-bodyRows t tail frame =
-    rangeRows t tail frame
-    ++ (headRows (t .command) (fields 8 frame) ++ (sliceRows t frame ++ endRows (24 + slicesBits t) tail (fields 8 frame)))
+bodyRows t tail frame = openingRows t tail frame ++ (sliceRows t frame ++ endRows (24 + slicesBits t) tail (fields 8 frame))
 
 -- the refusals of a reader that is lent lists of so many bytes and values
 abbrev pub readTable : Told → Tail → List ℕ → ℕ → ℕ → List Row

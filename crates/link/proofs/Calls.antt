@@ -23,7 +23,8 @@ use Rattle.device.specs.declared.phase.Phase.{Phase}
 use Rattle.device.specs.declared.phase.Phase.the-variants.{Hunting, Opening, Counting, Slice, Passing, Lost}
 use Rattle.device.specs.declared.registers.Registers.{Registers}
 use Rattle.device.specs.declared.device.Device.{Device}
-use Rattle.device.proofs.Kept.{and-true, cond-both, kept-bounded, kept-faulted, kept-fresh}
+use Rattle.device.proofs.Places.{and-both, cond-both}
+use Rattle.device.proofs.Kept.{kept-bounded, kept-faulted, kept-fresh}
 use Rattle.calls.specs.Chain.{every, hasPart, allKnown, sameParts, allFit, isCount, blank}
 use Rattle.calls.specs.Calls.{freshTable, freshRefusal, freshDevices, runRefusal, runDevices, returned, boundaryRefusal, boundaryDevices, faultRefusal, faultDevices}
 use Rattle.calls.specs.History.{Call, fresh, run, boundary, fault, refusalOf, after, afterCalls, given, answered, fed, answers, RunOrRefused, Runs}
@@ -33,8 +34,9 @@ use Rattle.model.specs.Run as machine
 use Rattle.model.specs.Device as model
 use Rattle.model.proofs.Lists.{All-replicate}
 use Rattle.model.proofs.Run.{chain-append, chain-nil, chain-holds}
-use Rattle.link.specs.Claims.{ownTable}
-use Rattle.link.proofs.Device.{phaseIn, deviceOf, stepRecord, Sound, step-part, through-same, chain-keep}
+use Rattle.link.specs.Records.{ownTable}
+use Rattle.link.proofs.View.{phaseIn, deviceOf, stepRecord, Sound}
+use Rattle.link.proofs.Device.{step-part, through-same, chain-keep}
 
 -- ---- what an accepted call leaves
 
@@ -159,7 +161,7 @@ unfolding refusalOf freshRefusal
 whole-fresh q ds a =
     let t = clear (freshTable q (length ds)) refl a in
     let k = not-false (known q) (t .0) in
-    let n = and-true (leb 1 (length ds)) (leb (length ds) 1023) (not-false (isCount (length ds)) (t .1 .0)) in
+    let n = and-both (leb 1 (length ds)) (leb (length ds) 1023) (not-false (isCount (length ds)) (t .1 .0)) in
     let l = length-replicate (length ds) (freshDevice q) in
     record {
       someDevice = rw l (leb-true 1 (length ds) (n .0));
@@ -229,7 +231,7 @@ length-afterCalls ds (c ∷ cs) = length-afterCalls (after ds c) cs ∙ length-a
 
 -- ---- runs, and calls that are refused
 
-refused-after : (ds : List Device) (c : Call) → (refusalOf ds c ≡ 0 → ⊥) → after ds c ≡ ds
+pub refused-after : (ds : List Device) (c : Call) → (refusalOf ds c ≡ 0 → ⊥) → after ds c ≡ ds
 refused-after ds c h = rw (after-effect ds c, ne-eqb (refusalOf ds c) 0 h)
 
 run-one : (ds : List Device) (c : Call) → RunOrRefused ds c → _≡_ {A = List Device × List ℕ} (after ds c, answered ds c) (chain stepRecord ds (given ds c))

@@ -1,4 +1,9 @@
--- x
+-- The link of records and the model, and the calls on records.
 pub mod Numbers
+pub mod View
+pub mod Header
+pub mod Slice
 pub mod Device
 pub mod Calls
+pub mod Frames
+pub mod Records

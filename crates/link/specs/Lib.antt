@@ -1,2 +1,3 @@
--- What the claims about lists of calls say.
-pub mod Claims
+-- A restore as a caller makes it, and what records hold after it.
+pub mod Restore
+pub mod Records

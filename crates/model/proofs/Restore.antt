@@ -39,7 +39,7 @@ pieces-run ds [] = rw (chain-nil stepDevice ds)
 pieces-run ds (p ∷ ps) = pieces-run ((sendPiece ds p) .0) ps ∙ rw (chain-append stepDevice ds (lows (p .gap) ++ frameStates (p .kind) 0 (p .slices) (p .tail)) (flatten (map pieceStates ps)), chain-append stepDevice ds (lows (p .gap)) (frameStates (p .kind) 0 (p .slices) (p .tail)))
 
 -- a chain of one or more devices sends, over all the states, the returns and nothing else
-length-run : (ds : List Device) (ls : List Line) → length ((runChain ds ls) .0) ≡ length ds
+pub length-run : (ds : List Device) (ls : List Line) → length ((runChain ds ls) .0) ≡ length ds
 length-run ds ls = sym (length-map ((runChain ds ls) .0) partOf) ∙ ap length (chain-keeps stepDevice partOf step-part ds ls) ∙ length-map ds partOf
 
 pub pieces-sent : (ds : List Device) (ps : List Piece) → 0 < length ds → map dataBit ((runChain ds (flatten (map pieceStates ps))) .1) ≡ flatten ((sendPieces ds ps) .1)
@@ -55,7 +55,7 @@ bit-le : (b : Bool) → digit b ≤ 1
 bit-le true = omega arith
 bit-le false = omega arith
 
-faults-le : (c : Command) (rs : List Registers) → faults c rs ≤ length rs
+pub faults-le : (c : Command) (rs : List Registers) → faults c rs ≤ length rs
 unfolding faults
 faults-le c [] = omega arith
 faults-le c (r ∷ rs) = let h = faults-le c rs in omega (arith, bit-le (fault c r))

@@ -15,7 +15,8 @@ use Rattle.parts.proofs.Rows.{clear, none, accepted, lowest}
 use Rattle.device.specs.declared.device.Device.{Device}
 use Rattle.device.specs.Judgement.{placeFits, flagsFit, valuesFit, fits}
 use Rattle.device.proofs.Fields.{limit-pos}
-use Rattle.device.proofs.Kept.{and-true, below-at, below-of}
+use Rattle.device.proofs.Kept.{below-at, below-of}
+use Rattle.device.proofs.Places.{and-both}
 use Rattle.schedule.specs.declared.answer.Asked.the-variants.{Refused}
 use Rattle.schedule.specs.Answers.{positionOver, litRows, litAnswer}
 use Rattle.schedule.specs.OfDevice.{activeValue, deviceRows, deviceAnswer}
@@ -44,7 +45,7 @@ accepted-within d output subframe clock phase e =
     let r = d .registers in
     let n = or-none (not (fits d)) (positionOver (partOf (r .part)) (r .configuration) output subframe clock phase) (clear (deviceRows d output subframe clock phase) refl e .1 .0) in
     let w = position-within (partOf (r .part)) (r .configuration) output subframe clock phase (n .1) in
-    let b = below-of r (and-true (placeFits (d .place) r) (flagsFit r && valuesFit r) (not-false (fits d) (n .0)) .1) in
+    let b = below-of r (and-both (placeFits (d .place) r) (flagsFit r && valuesFit r) (not-false (fits d) (n .0)) .1) in
     record {
       output-lt = omega (arith, w .0, banks-three (r .part));
       subframe-lt = w .1;

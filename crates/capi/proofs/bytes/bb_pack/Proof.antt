@@ -1,7 +1,5 @@
 use mathlib.Core.Path.{ap, _∙_}
 use Rattle.capi.specs.Answers.{ofPacked}
-use mathlib.Core.Path.{ap, _∙_}
-use Rattle.capi.specs.Answers.{ofPacked}
 use borrow.Author.Needs.{needs}
 use Rattle.capi.proofs.bytes.bb_pack.Statement.{statement}
 use Rattle.capi.proofs.bytes.bb_pack.Tie as tie

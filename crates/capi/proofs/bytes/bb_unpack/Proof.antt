@@ -1,7 +1,5 @@
 use mathlib.Core.Path.{ap, _∙_}
 use mathlib.Core.Bool.{Bool, cond}
-use mathlib.Core.Path.{ap, _∙_}
-use mathlib.Core.Bool.{Bool, cond}
 use borrow.Author.Needs.{needs}
 use Rattle.capi.proofs.bytes.bb_unpack.Statement.{statement}
 use Rattle.capi.proofs.bytes.bb_unpack.Tie as tie

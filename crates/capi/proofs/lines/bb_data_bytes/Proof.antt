@@ -1,7 +1,5 @@
 use mathlib.Core.Path.{ap, _∙_}
 use Rattle.capi.specs.Answers.{ofLine}
-use mathlib.Core.Path.{ap, _∙_}
-use Rattle.capi.specs.Answers.{ofLine}
 use borrow.Author.Needs.{needs}
 use Rattle.capi.proofs.lines.bb_data_bytes.Statement.{statement}
 use Rattle.capi.proofs.lines.bb_data_bytes.Tie as tie

@@ -1,3 +1,4 @@
+-- A shift by the length leaves something exactly when bits stand above it; a length of 64 leaves no room for one.
 use borrow.Author.Needs.{needs}
 use Rattle.frames.proofs.judge.is_tail_high.Statement.{statement}
 use Rattle.frames.proofs.judge.is_tail_high.Tie as tie

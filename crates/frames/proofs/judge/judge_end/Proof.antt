@@ -1,3 +1,4 @@
+-- Row by row. The unused bits of the last byte are all that stands behind the tail.
 use borrow.Author.Needs.{needs}
 use Rattle.frames.proofs.judge.judge_end.Statement.{statement}
 use Rattle.frames.proofs.judge.judge_end.Tie as tie

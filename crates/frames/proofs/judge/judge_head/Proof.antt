@@ -1,3 +1,4 @@
+-- Row by row: what `field_at` read is the field that the row tests.
 use mathlib.Core.Path.{refl}
 use Rattle.parts.proofs.Rows as rows
 use borrow.Author.Needs.{needs}

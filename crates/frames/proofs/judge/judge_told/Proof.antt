@@ -1,3 +1,4 @@
+-- Row by row: the tests before give nothing, and the next holds or does not.
 use borrow.Author.Needs.{needs}
 use Rattle.frames.proofs.judge.judge_told.Statement.{statement}
 use Rattle.frames.proofs.judge.judge_told.Tie as tie

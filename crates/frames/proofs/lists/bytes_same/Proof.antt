@@ -1,3 +1,4 @@
+-- After i turns: the list passes where nothing differed so far and the rest passes.
 use Rattle.frames.specs.Frames.{allSame}
 use mathlib.Core.Bool.{_&&_}
 use borrow.Author.Tests.{eq-eqb, ne-eqb}

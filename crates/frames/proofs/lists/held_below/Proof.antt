@@ -1,3 +1,4 @@
+-- The bytes behind the header are a part of the frame.
 use Rattle.parts.specs.Lists.{allBelow}
 use lib.ListN.{take, drop}
 use Prim.Native.Nat.{ℕ, _+_, _-_}

@@ -1,3 +1,4 @@
+-- The bytes behind the header are a part of the frame.
 use Rattle.frames.specs.Frames.{allSame}
 use lib.ListN.{take, drop, getD}
 use Prim.Native.Nat.{ℕ, _+_, _-_}

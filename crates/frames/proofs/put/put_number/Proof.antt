@@ -1,3 +1,4 @@
+-- There is room, so the answer of `bits` is never a refusal.
 use borrow.Author.Needs.{needs}
 use Rattle.frames.proofs.put.put_number.Statement.{statement}
 use Rattle.frames.proofs.put.put_number.Tie as tie
@@ -10,6 +11,7 @@ use lib.ListN.{length}
 use Rattle.bits.specs.Bits.{bytesOf, bytesFor, overAt}
 use Rattle.bits.proofs.Laws as bit
 use mathlib.Core.Bool.{Bool}
+use Rattle.bits.proofs.Answers.{fits-within, packedOut-fits}
 use Rattle.frames.proofs.Answers as answers
 
 pack-number-requires : tie.Need-pack-number-requires
@@ -42,7 +44,8 @@ returns-2 c = let s = c .before .before .before .before .before .before .before 
     let a = s .args in
     let out = a .out .now in (
       c .before .before .before .before .before .pack-number .ensures .1
-          ∙ answers.out-packed 64 (a .width) (a .value ∷ []) (a .at) out (s .pre .0) (omega (arith, one-mul (a .width)))
+          ∙ packedOut-fits 64 (a .width) (a .value ∷ []) (a .at) out
+          (fits-within 64 (a .width) 1 (a .at) (length out) (s .pre .0) (omega (arith, one-mul (a .width))))
           ∙ ap (λ (z : List Bool). overAt (a .at) (bytesOf z) out) (bit.fields-one (a .width) (a .value)),
       ap (λ (k : ℕ). a .at + k)
           (answers.packed-bytes 64 (a .width) 1 (a .at) (length out) (s .pre .0) (omega (arith, one-mul (a .width))) (c .before .before .before .before .before .pack-number .ensures .0) (c .before .n .given .1)

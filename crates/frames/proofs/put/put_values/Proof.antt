@@ -1,3 +1,4 @@
+-- There is room, so the answer of `bits` is never a refusal.
 use borrow.Author.Needs.{needs}
 use Rattle.frames.proofs.put.put_values.Statement.{statement}
 use Rattle.frames.proofs.put.put_values.Tie as tie
@@ -5,6 +6,7 @@ use Prim.Native.Nat.{ℕ, _+_}
 use mathlib.Core.Path.{ap, _∙_}
 use native.Mathlib.Omega.{arith}
 use lib.ListN.{length}
+use Rattle.bits.proofs.Answers.{fits-within, packedOut-fits}
 use Rattle.frames.proofs.Answers as answers
 
 pack-requires : tie.Need-pack-requires
@@ -35,7 +37,8 @@ same-length-2 c = search needs
 returns-2 : tie.Need-returns-2
 returns-2 c = let s = c .before .before .before .before .before .before .before .before .before in
     let a = s .args in (
-      c .before .before .before .before .before .pack .ensures .1 ∙ answers.out-packed 16 (a .width) (a .values .now) (a .at) (a .out .now) (s .pre .0) (s .pre .1),
+      c .before .before .before .before .before .pack .ensures .1 ∙ packedOut-fits 16 (a .width) (a .values .now) (a .at) (a .out .now)
+          (fits-within 16 (a .width) (length (a .values .now)) (a .at) (length (a .out .now)) (s .pre .0) (s .pre .1)),
       ap (λ (k : ℕ). a .at + k)
           (answers.packed-bytes 16 (a .width) (length (a .values .now)) (a .at) (length (a .out .now)) (s .pre .0) (s .pre .1) (c .before .before .before .before .before .pack .ensures .0) (c .before .n .given .1)),
     )

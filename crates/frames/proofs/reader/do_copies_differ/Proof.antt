@@ -1,3 +1,4 @@
+-- By cases over the command. The fields of such a frame are its bytes from the fourth on.
 use Rattle.frames.proofs.Lengths as lengths
 use Rattle.frames.proofs.Pieces as pieces
 use Rattle.parts.specs.declared.command.Command.{Command}

@@ -1,3 +1,4 @@
+-- By cases over the command. The fields of a global frame are its bytes from the fourth on.
 use borrow.Author.Needs.{needs}
 use Rattle.frames.proofs.reader.is_copy_high.Statement.{statement}
 use Rattle.frames.proofs.reader.is_copy_high.Tie as tie

@@ -1,3 +1,4 @@
+-- One row with two tests, one after the other.
 use mathlib.Core.Path.{refl, sym, _∙_}
 use Rattle.parts.proofs.Rows as rows
 use borrow.Author.Needs.{needs}

@@ -1,3 +1,4 @@
+-- The groups of rows one after the other, each judged only where those before give nothing.
 use Rattle.frames.proofs.Accepted as accepted
 use Rattle.frames.specs.Frames.{toldRows, frameLength}
 use Rattle.frames.specs.Reading.{lengthRows, bodyRows, readRefusal}

@@ -1,3 +1,4 @@
+-- Row by row.
 use mathlib.Core.Path.{refl, sym, _∙_}
 use Rattle.parts.proofs.Rows as rows
 use borrow.Author.Needs.{needs}

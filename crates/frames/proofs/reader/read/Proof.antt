@@ -1,3 +1,4 @@
+-- Refused: the number, and the lists as they were. Accepted: the tests that hold are what taking the fields asks for.
 use borrow.Author.Needs.{needs}
 use Rattle.frames.proofs.reader.read.Statement.{statement}
 use Rattle.frames.proofs.reader.read.Tie as tie

@@ -1,3 +1,4 @@
+-- By cases over the command: values are the fields at their width, and bytes are the frame from the fourth on.
 use borrow.Author.Needs.{needs}
 use Rattle.frames.proofs.reader.take_fields.Statement.{statement}
 use Rattle.frames.proofs.reader.take_fields.Tie as tie

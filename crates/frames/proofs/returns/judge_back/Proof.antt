@@ -1,3 +1,4 @@
+-- Row by row, the two groups of the header and of the end as their judges say.
 use borrow.Author.Needs.{needs}
 use Rattle.frames.proofs.returns.judge_back.Statement.{statement}
 use Rattle.frames.proofs.returns.judge_back.Tie as tie

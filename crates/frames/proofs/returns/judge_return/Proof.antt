@@ -1,3 +1,4 @@
+-- The groups of rows one after the other.
 use Rattle.frames.proofs.Accepted as accepted
 use Rattle.frames.specs.Frames.{toldRows}
 use Rattle.frames.specs.Returns.{returnRows, returnRefusal}

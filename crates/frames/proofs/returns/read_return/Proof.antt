@@ -1,3 +1,4 @@
+-- Accepted, there are 24 bits, and ten of them are a count.
 use Rattle.frames.proofs.Accepted as accepted
 use Rattle.frames.specs.declared.told.Returned.the-variants.{Count, Refused}
 use Rattle.frames.specs.Frames.{field}

@@ -1,3 +1,4 @@
+-- Few devices and a short tail, so the sum fits.
 use Rattle.frames.proofs.Lengths as lengths
 use native.Mathlib.Omega.{arith}
 use borrow.Author.Needs.{needs}

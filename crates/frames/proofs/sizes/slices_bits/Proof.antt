@@ -1,3 +1,4 @@
+-- Few devices, so the product fits.
 use Rattle.frames.proofs.Lengths as lengths
 use native.Mathlib.Omega.{arith}
 use borrow.Author.Needs.{needs}

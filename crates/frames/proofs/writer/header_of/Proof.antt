@@ -1,3 +1,4 @@
+-- The six command bits stand above the ten of the count.
 use borrow.Author.Needs.{needs}
 use Rattle.frames.proofs.writer.header_of.Statement.{statement}
 use Rattle.frames.proofs.writer.header_of.Tie as tie

@@ -1,3 +1,4 @@
+-- By cases over the command.
 use Rattle.frames.proofs.Tests as tests
 use borrow.Author.Needs.{needs}
 use Rattle.frames.proofs.writer.is_value_high.Statement.{statement}

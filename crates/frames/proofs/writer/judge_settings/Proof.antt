@@ -1,3 +1,4 @@
+-- Row by row; the last has two tests.
 use borrow.Author.Tests.{lt-ltb, le-ltb}
 use mathlib.Core.Path.{refl, sym, _∙_}
 use Rattle.parts.proofs.Rows as rows

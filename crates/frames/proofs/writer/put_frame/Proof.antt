@@ -1,3 +1,4 @@
+-- Header and slices are whole bytes, so three pieces put one behind the other are the frame.
 use borrow.Author.Needs.{needs}
 use Rattle.frames.proofs.writer.put_frame.Statement.{statement}
 use Rattle.frames.proofs.writer.put_frame.Tie as tie

@@ -1,3 +1,4 @@
+-- By cases over the command: fields at their width, or whole bytes.
 use borrow.Author.Needs.{needs}
 use Rattle.frames.proofs.writer.put_slices.Statement.{statement}
 use Rattle.frames.proofs.writer.put_slices.Tie as tie

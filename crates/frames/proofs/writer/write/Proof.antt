@@ -1,3 +1,4 @@
+-- Refused: the number, and the output as it was. Accepted: the frame in front of it.
 use borrow.Author.Needs.{needs}
 use Rattle.frames.proofs.writer.write.Statement.{statement}
 use Rattle.frames.proofs.writer.write.Tie as tie

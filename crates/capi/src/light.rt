@@ -1,0 +1,98 @@
+// The questions about light.
+ghost use mathlib.Core.Path.{_≡_};
+ghost use Rattle.schedule.specs.Answers.{onAnswer, leadAnswer, litAnswer};
+ghost use Rattle.schedule.specs.OfDevice.{deviceAnswer};
+ghost use Rattle.capi.specs.Answers.{ofAsked, ofLead};
+use crate::answer::Answer;
+use crate::answer::Signed;
+use crate::answer::accept;
+use crate::answer::refuse;
+use device::Device;
+use schedule::Asked;
+use schedule::Lead;
+
+// Is a subframe ON?
+#[no_mangle]
+pub extern "C" fn bb_on(part: u16, configuration: u8, global: u8, subframe: u32) -> Answer
+    ensures { λ r. ⌜ r ≡ ofAsked (onAnswer part configuration global subframe) ⌝ }
+{
+    of_asked(schedule::is_on(part, configuration, global, subframe))
+}
+
+// How far does a window of subframes lead?
+#[no_mangle]
+pub extern "C" fn bb_lead(
+    part: u16,
+    configuration: u8,
+    global: u8,
+    start: u32,
+    length: u32,
+) -> Signed
+    ensures { λ r. ⌜ r ≡ ofLead (leadAnswer part configuration global start length) ⌝ }
+{
+    of_lead(schedule::lead_of(part, configuration, global, start, length))
+}
+
+// Is an output with a value lit at a clock of a subframe, in a phase?
+#[no_mangle]
+pub extern "C" fn bb_lit(
+    part: u16,
+    configuration: u8,
+    global: u8,
+    value: u16,
+    output: u32,
+    subframe: u32,
+    clock: u32,
+    phase: u32,
+) -> Answer
+    ensures { λ r. ⌜ r ≡ ofAsked (litAnswer part configuration global value output subframe clock phase) ⌝ }
+{
+    of_asked(schedule::is_lit(
+        part,
+        configuration,
+        global,
+        value,
+        output,
+        subframe,
+        clock,
+        phase,
+    ))
+}
+
+// The same of a device, by its active values.
+#[no_mangle]
+pub extern "C" fn bb_device_lit(
+    device: Device,
+    output: u32,
+    subframe: u32,
+    clock: u32,
+    phase: u32,
+) -> Answer
+    ensures { λ r. ⌜ r ≡ ofAsked (deviceAnswer device output subframe clock phase) ⌝ }
+{
+    of_asked(schedule::is_device_lit(device, output, subframe, clock, phase))
+}
+
+fn of_asked(asked: Asked) -> Answer
+    ensures { λ r. ⌜ r ≡ ofAsked asked ⌝ }
+{
+    match asked {
+        Asked::Is(yes) => if yes { accept(1) } else { accept(0) },
+        Asked::Refused(number) => refuse(number),
+    }
+}
+
+fn of_lead(lead: Lead) -> Signed
+    ensures { λ r. ⌜ r ≡ ofLead lead ⌝ }
+{
+    match lead {
+        Lead::By(by) => Signed {
+            value: by,
+            refusal: 0,
+        },
+        Lead::Refused(number) => Signed {
+            value: 0,
+            refusal: number,
+        },
+    }
+}

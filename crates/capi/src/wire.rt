@@ -1,0 +1,156 @@
+// Frames written and read, and returns read. A command is told by its bits C1 C0, and higher bits are not looked at.
+ghost use mathlib.Core.Path.{_≡_};
+ghost use lib.ListN.{length};
+ghost use Rattle.parts.specs.Parts.{commandAt};
+ghost use Rattle.frames.specs.Writing.{written, writtenOut};
+ghost use Rattle.frames.specs.Reading.{read, readBytes, readValues};
+ghost use Rattle.frames.specs.Returns.{returned};
+ghost use Rattle.capi.specs.Answers.{toldBy, tailOf, ofWritten, ofRead, ofReturned};
+use crate::answer::Answer;
+use crate::answer::accept;
+use crate::answer::refuse;
+use frames::Read;
+use frames::Returned;
+use frames::Tail;
+use frames::Told;
+use frames::Written;
+
+// Writes a frame.
+#[no_mangle]
+pub extern "C" fn bb_write(
+    part: u16,
+    devices: usize,
+    command: u8,
+    configuration: u8,
+    tail: u64,
+    long: u32,
+    byte: u8,
+    bytes: &[u8],
+    values: &[u16],
+    out: &mut [u8],
+) -> Answer
+    ensures { λ r.
+        ⌜
+        r
+        ≡ ofWritten
+        (written (toldBy part devices command configuration) (tailOf tail long) byte (now (bytes .entry)) (now (values .entry))
+        (length (now (out .entry))))
+        ⌝ }
+    ensures { λ _.
+        ⌜
+        now (out .exit)
+        ≡ writtenOut (toldBy part devices command configuration) (tailOf tail long) byte (now (bytes .entry)) (now (values .entry))
+        (now (out .entry))
+        ⌝ }
+{
+    let told = told_by(part, devices, command, configuration);
+    let behind = tail_of(tail, long);
+    let written = frames::write(told, behind, byte, bytes, values, out);
+    of_written(written)
+}
+
+// Reads a host frame.
+#[no_mangle]
+pub extern "C" fn bb_read(
+    part: u16,
+    devices: usize,
+    command: u8,
+    configuration: u8,
+    tail: u64,
+    long: u32,
+    frame: &[u8],
+    bytes: &mut [u8],
+    values: &mut [u16],
+) -> Answer
+    ensures { λ r.
+        ⌜
+        r
+        ≡ ofRead
+        (read (toldBy part devices command configuration) (tailOf tail long) (now (frame .entry)) (length (now (bytes .entry)))
+        (length (now (values .entry))))
+        ⌝ }
+    ensures { λ _.
+        ⌜
+        now (bytes .exit)
+        ≡ readBytes (toldBy part devices command configuration) (tailOf tail long) (now (frame .entry)) (now (bytes .entry))
+        (length (now (values .entry)))
+        ⌝ }
+    ensures { λ _.
+        ⌜
+        now (values .exit)
+        ≡ readValues (toldBy part devices command configuration) (tailOf tail long) (now (frame .entry)) (length (now (bytes .entry)))
+        (now (values .entry))
+        ⌝ }
+{
+    let told = told_by(part, devices, command, configuration);
+    let behind = tail_of(tail, long);
+    let read = frames::read(told, behind, frame, bytes, values);
+    of_read(read)
+}
+
+// Reads what came back.
+#[no_mangle]
+pub extern "C" fn bb_read_return(
+    part: u16,
+    devices: usize,
+    command: u8,
+    tail: u64,
+    long: u32,
+    frame: &[u8],
+) -> Answer
+    ensures { λ r. ⌜ r ≡ ofReturned (returned part devices (commandAt command) (tailOf tail long) (now (frame .entry))) ⌝ }
+{
+    let named = parts::command_of(command);
+    let behind = tail_of(tail, long);
+    let returned = frames::read_return(part, devices, named, behind, frame);
+    of_returned(returned)
+}
+
+fn told_by(part: u16, devices: usize, command: u8, configuration: u8) -> Told
+    ensures { λ r. ⌜ r ≡ toldBy part devices command configuration ⌝ }
+{
+    Told {
+        part: part,
+        devices: devices,
+        command: parts::command_of(command),
+        configuration: configuration,
+    }
+}
+
+fn tail_of(number: u64, long: u32) -> Tail
+    ensures { λ r. ⌜ r ≡ tailOf number long ⌝ }
+{
+    Tail {
+        number: number,
+        length: long,
+    }
+}
+
+fn of_written(written: Written) -> Answer
+    ensures { λ r. ⌜ r ≡ ofWritten written ⌝ }
+{
+    match written {
+        Written::Bytes(n) => accept(n),
+        Written::Refused(number) => refuse(number),
+    }
+}
+
+fn of_read(read: Read) -> Answer
+    ensures { λ r. ⌜ r ≡ ofRead read ⌝ }
+{
+    match read {
+        Read::Byte(byte) => accept(byte as usize),
+        Read::Bytes(n) => accept(n),
+        Read::Values(n) => accept(n),
+        Read::Refused(number) => refuse(number),
+    }
+}
+
+fn of_returned(returned: Returned) -> Answer
+    ensures { λ r. ⌜ r ≡ ofReturned returned ⌝ }
+{
+    match returned {
+        Returned::Count(count) => accept(count as usize),
+        Returned::Refused(number) => refuse(number),
+    }
+}

@@ -1,0 +1,1 @@
+// The claims: definitions and theorems alone, no code. Read specs/Claims.antt.

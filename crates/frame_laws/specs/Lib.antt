@@ -1,0 +1,4 @@
+-- What the theorems on frames are stated with.
+pub mod RoundTrip
+pub mod Slices
+pub mod Examples

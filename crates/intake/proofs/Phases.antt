@@ -1,0 +1,308 @@
+-- What each phase does with the states at hand. Low states change the window alone; high states of a header change the phase alone; a lost
+-- device ignores them; a passing device, and one whose slice is full, stops after one. By induction on the states at hand. Assumes nothing.
+use mathlib.Core.Path.{_≡_, refl, sym, ap, _∙_, subst}
+use mathlib.Core.Bool.{Bool, true, false, cond, true≢false}
+use mathlib.Core.List.{List, [], _∷_}
+use Prim.Native.Nat.{ℕ, _+_, _-_, _%_, _*_, _<_, _≤_}
+use native.Mathlib.Nat.{mod-lt}
+use native.Mathlib.Omega.{arith}
+use lib.Dec.{ltb, eqb, lit<}
+use lib.ListN.{length, getD, drop, drop-of-length-le}
+use lib.Seq.{drop-drop}
+use borrow.Author.Tests.{le-ltb, lt-ltb}
+use Rattle.parts.specs.declared.command.Command.{Command}
+use Rattle.device.specs.Phases.{phaseOf, pushed, windowOf, heard, inHeader, headed, opened}
+use Rattle.device.specs.Step.{step, stepHigh, at, moved, sliceLength}
+use Rattle.device.proofs.Places.{Small, phase-place, phase-small, cond-both}
+use Rattle.device.specs.declared.phase.Phase.{Phase}
+use Rattle.device.specs.declared.phase.Phase.the-variants.{Hunting, Opening, Counting, Slice, Passing, Lost}
+use Rattle.device.specs.declared.phase.Sent.the-variants.{Nothing}
+use Rattle.device.specs.declared.registers.Registers.{Registers}
+use Rattle.device.specs.declared.device.Device.{Device}
+use Rattle.device.specs.declared.device.Stepped.{Stepped}
+use Rattle.intake.specs.Intake.{taken, takenFrom, stopped, lowTaken, highTaken, unlessSent, heardAll, headedAll, highsEnd, oneTaken}
+use Rattle.intake.specs.declared.states.Taken.{Taken}
+use Rattle.intake.specs.declared.states.Heard.{Heard}
+use Rattle.intake.specs.declared.states.Headed.{Headed}
+use Rattle.intake.proofs.Lines.{drop-on}
+
+-- ---- the step, by the phase
+
+abbrev by : Registers → ℕ → Phase → Stepped
+by r s p = cond (ltb s 2) (moved r (heard p s)) (stepHigh r p s)
+
+-- a device steps by its phase, whatever other numbers its place has
+pub step-normal : (d : Device) (s : ℕ) → step d s ≡ step (at (d .registers) (phaseOf (d .place))) s
+step-normal d s = sym (ap (by (d .registers) s) (phase-place (phaseOf (d .place)) (phase-small (d .place))))
+
+pub step-high : (r : Registers) (p : Phase) (s : ℕ) → Small p → ltb s 2 ≡ false → step (at r p) s ≡ stepHigh r p s
+step-high r p s h e = ap (by r s) (phase-place p h) ∙ ap (λ (t : Bool). cond t (moved r (heard p s)) (stepHigh r p s)) e
+
+-- ---- one state
+
+pub low-cons : (d : Device) (s : ℕ) (rest : List ℕ) (i : ℕ) → ltb s 2 ≡ true → lowTaken d (s ∷ rest) i ≡ lowTaken (step d s .device) rest (i + 1)
+unfolding lowTaken
+low-cons d s rest i e = ap (λ (t : Bool). cond t (lowTaken (step d s .device) rest (i + 1)) (stopped d i Nothing)) e
+
+pub low-high : (d : Device) (s : ℕ) (rest : List ℕ) (i : ℕ) → ltb s 2 ≡ false → lowTaken d (s ∷ rest) i ≡ stopped d i Nothing
+unfolding lowTaken
+low-high d s rest i e = ap (λ (t : Bool). cond t (lowTaken (step d s .device) rest (i + 1)) (stopped d i Nothing)) e
+
+-- after a step at high load
+abbrev pub after : Stepped → List ℕ → ℕ → Taken
+after x rest i = unlessSent (x .sent) (highTaken (x .device) rest (i + 1)) (stopped (x .device) (i + 1) (x .sent))
+
+pub high-none : (d : Device) (i : ℕ) → highTaken d [] i ≡ stopped d i Nothing
+unfolding highTaken
+high-none d i = refl
+
+pub high-low : (d : Device) (s : ℕ) (rest : List ℕ) (i : ℕ) → ltb s 2 ≡ true → highTaken d (s ∷ rest) i ≡ stopped d i Nothing
+unfolding highTaken
+high-low d s rest i e = ap (λ (t : Bool). cond t (stopped d i Nothing) (after (step d s) rest i)) e
+
+pub high-low-at : (d : Device) (ss : List ℕ) (i : ℕ) → i < length ss → getD ss i 0 < 2 → highTaken d (drop i ss) i ≡ stopped d i Nothing
+high-low-at d ss i h l =
+    ap (λ (rest : List ℕ). highTaken d rest i) (drop-on ss i h) ∙ high-low d (getD ss i 0) (drop (i + 1) ss) i (lt-ltb (getD ss i 0) 2 l)
+
+pub high-cons : (d : Device) (s : ℕ) (rest : List ℕ) (i : ℕ) → ltb s 2 ≡ false → highTaken d (s ∷ rest) i ≡ after (step d s) rest i
+unfolding highTaken
+high-cons d s rest i e = ap (λ (t : Bool). cond t (stopped d i Nothing) (after (step d s) rest i)) e
+
+pub high-at : (r : Registers) (p : Phase) (s : ℕ) (rest : List ℕ) (i : ℕ) → Small p → ltb s 2 ≡ false
+    → highTaken (at r p) (s ∷ rest) i ≡ after (stepHigh r p s) rest i
+high-at r p s rest i h e =
+    high-cons (at r p) s rest i e ∙ ap (λ (x : Stepped). after x rest i) (step-high r p s h e)
+
+pub high-normal : (d : Device) (s : ℕ) (rest : List ℕ) (i : ℕ) → ltb s 2 ≡ false
+    → highTaken d (s ∷ rest) i ≡ highTaken (at (d .registers) (phaseOf (d .place))) (s ∷ rest) i
+high-normal d s rest i e =
+    high-cons d s rest i e ∙ ap (λ (x : Stepped). after x rest i) (step-normal d s)
+    ∙ sym (high-cons (at (d .registers) (phaseOf (d .place))) s rest i e)
+
+-- ---- low states
+
+heard-cons : (w s : ℕ) (rest : List ℕ) (i : ℕ) → ltb s 2 ≡ true → heardAll w (s ∷ rest) i ≡ heardAll (pushed w s 256) rest (i + 1)
+unfolding heardAll
+heard-cons w s rest i e = rw e refl
+
+heard-none : (w s : ℕ) (rest : List ℕ) (i : ℕ) → ltb s 2 ≡ false → heardAll w (s ∷ rest) i ≡ record { window = w; at = i }
+unfolding heardAll
+heard-none w s rest i e = rw e refl
+
+-- what a device is that heard low states
+abbrev pub hunting : Registers → Heard → Taken
+hunting r h = stopped (at r (Hunting (h .window))) (h .at) Nothing
+
+pushed-lt : (w s : ℕ) → pushed w s 256 < 256
+pushed-lt w s = mod-lt (w * 2 + s) (lit< tt)
+
+step-low : (r : Registers) (w s : ℕ) → w < 256 → ltb s 2 ≡ true → step (at r (Hunting w)) s .device ≡ at r (Hunting (pushed w s 256))
+step-low r w s h e =
+    ap (λ (p : Phase). by r s p .device) (phase-place (Hunting w) h)
+    ∙ ap (λ (t : Bool). cond t (moved r (heard (Hunting w) s)) (stepHigh r (Hunting w) s) .device) e
+
+-- a device that hunts takes low states into its window
+pub low-heard : (r : Registers) (rest : List ℕ) (w i : ℕ) → w < 256 → lowTaken (at r (Hunting w)) rest i ≡ hunting r (heardAll w rest i)
+unfolding lowTaken heardAll
+low-heard r [] w i h = refl
+low-heard r (s ∷ rest) w i h = go (ltb s 2) refl (low-heard r rest (pushed w s 256) (i + 1) (pushed-lt w s)) where
+  go : (t : Bool) → ltb s 2 ≡ t → lowTaken (at r (Hunting (pushed w s 256))) rest (i + 1) ≡ hunting r (heardAll (pushed w s 256) rest (i + 1))
+      → lowTaken (at r (Hunting w)) (s ∷ rest) i ≡ hunting r (heardAll w (s ∷ rest) i)
+  go true e ih =
+      low-cons (at r (Hunting w)) s rest i e
+      ∙ ap (λ (d : Device). lowTaken d rest (i + 1)) (step-low r w s h e)
+      ∙ ih
+      ∙ ap (hunting r) (sym (heard-cons w s rest i e))
+  go false e ih = low-high (at r (Hunting w)) s rest i e ∙ ap (hunting r) (sym (heard-none w s rest i e))
+
+-- and so does any device, from the first of them on
+pub low-taken : (d : Device) (s : ℕ) (rest : List ℕ) (i : ℕ) → ltb s 2 ≡ true
+    → lowTaken d (s ∷ rest) i ≡ hunting (d .registers) (heardAll (windowOf (phaseOf (d .place))) (s ∷ rest) i)
+low-taken d s rest i e =
+    let w = windowOf (phaseOf (d .place)) in
+    low-cons d s rest i e
+    ∙ ap (λ (t : Bool). lowTaken (cond t (moved (d .registers) (heard (phaseOf (d .place)) s)) (stepHigh (d .registers) (phaseOf (d .place)) s) .device) rest (i + 1)) e
+    ∙ low-heard (d .registers) rest (pushed w s 256) (i + 1) (pushed-lt w s)
+    ∙ ap (hunting (d .registers)) (sym (heard-cons w s rest i e))
+
+-- ---- the states of a header
+
+-- a bit of a header moves the phase, and nothing is sent
+step-headed : (r : Registers) (p : Phase) (s : ℕ) → inHeader p ≡ true → stepHigh r p s ≡ moved r (headed p (s % 2))
+step-headed r (Hunting w) s h = refl
+step-headed r (Opening n) s h = refl
+step-headed r (Counting c n) s h = refl
+step-headed r (Slice c n t) s h = absurd (true≢false (sym h))
+step-headed r Passing s h = absurd (true≢false (sym h))
+step-headed r Lost s h = absurd (true≢false (sym h))
+
+opened-small : (n : ℕ) → Small (opened n)
+opened-small n =
+    cond-both Small (eqb n 0) _ _ (λ _. lit< tt)
+    (λ _. cond-both Small (eqb n 21) _ _ (λ _. lit< tt)
+    (λ _. cond-both Small (eqb n 42) _ _ (λ _. lit< tt)
+    (λ _. cond-both Small (eqb n 63) _ _ (λ _. lit< tt) (λ _. lit< tt))))
+
+headed-small : (p : Phase) (b : ℕ) → Small p → Small (headed p b)
+headed-small (Hunting w) b h = cond-both Small (eqb w 0xE8) _ _ (λ _. lit< tt) (λ _. lit< tt)
+headed-small (Opening n) b h = cond-both Small (ltb (n * 2 + b) 64) _ _ (λ _. lit< tt) (λ _. opened-small (n * 2 + b - 64))
+headed-small (Counting c n) b h = cond-both Small (ltb (n * 2 + b) 1024) _ _ (λ _. lit< tt) (λ _. lit< tt)
+headed-small (Slice c n t) b h = h
+headed-small Passing b h = h
+headed-small Lost b h = h
+
+headed-none : (p : Phase) (s : ℕ) (rest : List ℕ) (i : ℕ) → inHeader p ≡ false → headedAll p (s ∷ rest) i ≡ record { phase = p; at = i }
+unfolding headedAll
+headed-none p s rest i o = rw o refl
+
+headed-stop : (p : Phase) (s : ℕ) (rest : List ℕ) (i : ℕ) → inHeader p ≡ true → ltb s 2 ≡ true → headedAll p (s ∷ rest) i ≡ record { phase = p; at = i }
+unfolding headedAll
+headed-stop p s rest i o e = rw (o, e) refl
+
+headed-cons : (p : Phase) (s : ℕ) (rest : List ℕ) (i : ℕ) → inHeader p ≡ true → ltb s 2 ≡ false
+    → headedAll p (s ∷ rest) i ≡ headedAll (headed p (s % 2)) rest (i + 1)
+unfolding headedAll
+headed-cons p s rest i o e = rw (o, e) refl
+
+high-headed-cons : (r : Registers) (p : Phase) (s : ℕ) (rest : List ℕ) (i : ℕ) → Small p → inHeader p ≡ true → ltb s 2 ≡ false
+    → highTaken (at r p) (s ∷ rest) i ≡ highTaken (at r (headed p (s % 2))) rest (i + 1)
+high-headed-cons r p s rest i h o e =
+    high-at r p s rest i h e ∙ ap (λ (x : Stepped). after x rest i) (step-headed r p s o)
+
+-- the rest of a list after one more
+pub drop-tail : (ss : List ℕ) (i s : ℕ) (rest : List ℕ) → drop i ss ≡ s ∷ rest → drop (i + 1) ss ≡ rest
+drop-tail ss i s rest e = sym (drop-drop 1 i ss) ∙ ap (λ (l : List ℕ). drop 1 l) e
+
+module _ (r : Registers) (ss : List ℕ) where
+  -- what is left to do after the states of a header
+  abbrev pub onward : Headed → Taken
+  onward h = highTaken (at r (h .phase)) (drop (h .at) ss) (h .at)
+
+  pub high-headed : (rest : List ℕ) (p : Phase) (i : ℕ) → drop i ss ≡ rest → Small p → highTaken (at r p) rest i ≡ onward (headedAll p rest i)
+  unfolding headedAll
+  high-headed [] p i d h = ap (λ (l : List ℕ). highTaken (at r p) l i) (sym d)
+  high-headed (s ∷ rest) p i d h =
+      go (inHeader p) refl (ltb s 2) refl (high-headed rest (headed p (s % 2)) (i + 1) (drop-tail ss i s rest d) (headed-small p (s % 2) h)) where
+        here : highTaken (at r p) (s ∷ rest) i ≡ onward (record { phase = p; at = i })
+        here = ap (λ (l : List ℕ). highTaken (at r p) l i) (sym d)
+
+        go : (o : Bool) → inHeader p ≡ o → (t : Bool) → ltb s 2 ≡ t
+            → highTaken (at r (headed p (s % 2))) rest (i + 1) ≡ onward (headedAll (headed p (s % 2)) rest (i + 1))
+            → highTaken (at r p) (s ∷ rest) i ≡ onward (headedAll p (s ∷ rest) i)
+        go false o t e ih = here ∙ ap onward (sym (headed-none p s rest i o))
+        go true o true e ih = here ∙ ap onward (sym (headed-stop p s rest i o e))
+        go true o false e ih = high-headed-cons r p s rest i h o e ∙ ih ∙ ap onward (sym (headed-cons p s rest i o e))
+
+  -- a header that is not over ends with the states, or at a low one
+  abbrev pub Stops : Headed → Type 0
+  Stops h = inHeader (h .phase) ≡ true → onward h ≡ stopped (at r (h .phase)) (h .at) Nothing
+
+  pub headed-stops : (rest : List ℕ) (p : Phase) (i : ℕ) → drop i ss ≡ rest → Stops (headedAll p rest i)
+  unfolding headedAll
+  headed-stops [] p i d = λ _. ap (λ (l : List ℕ). highTaken (at r p) l i) d ∙ high-none (at r p) i
+  headed-stops (s ∷ rest) p i d =
+      go (inHeader p) refl (ltb s 2) refl (headed-stops rest (headed p (s % 2)) (i + 1) (drop-tail ss i s rest d)) where
+        go : (o : Bool) → inHeader p ≡ o → (t : Bool) → ltb s 2 ≡ t → Stops (headedAll (headed p (s % 2)) rest (i + 1)) → Stops (headedAll p (s ∷ rest) i)
+        go false o t e ih = subst Stops (sym (headed-none p s rest i o)) (λ q. absurd (true≢false (sym q ∙ o)))
+        go true o true e ih =
+            subst Stops (sym (headed-stop p s rest i o e))
+            (λ _. ap (λ (l : List ℕ). highTaken (at r p) l i) d ∙ high-low (at r p) s rest i e)
+        go true o false e ih = subst Stops (sym (headed-cons p s rest i o e)) ih
+
+-- ---- lost, passing, and a slice that is full
+
+high-lost-cons : (s : ℕ) (rest : List ℕ) (i : ℕ) → ltb s 2 ≡ false → highsEnd (s ∷ rest) i ≡ highsEnd rest (i + 1)
+unfolding highsEnd
+high-lost-cons s rest i e = rw e refl
+
+high-lost-low : (s : ℕ) (rest : List ℕ) (i : ℕ) → ltb s 2 ≡ true → highsEnd (s ∷ rest) i ≡ i
+unfolding highsEnd
+high-lost-low s rest i e = rw e refl
+
+pub high-lost : (r : Registers) (rest : List ℕ) (i : ℕ) → highTaken (at r Lost) rest i ≡ stopped (at r Lost) (highsEnd rest i) Nothing
+unfolding highTaken highsEnd
+high-lost r [] i = refl
+high-lost r (s ∷ rest) i = go (ltb s 2) refl (high-lost r rest (i + 1)) where
+  go : (t : Bool) → ltb s 2 ≡ t → highTaken (at r Lost) rest (i + 1) ≡ stopped (at r Lost) (highsEnd rest (i + 1)) Nothing
+      → highTaken (at r Lost) (s ∷ rest) i ≡ stopped (at r Lost) (highsEnd (s ∷ rest) i) Nothing
+  go true e ih = high-low (at r Lost) s rest i e ∙ ap (λ (j : ℕ). stopped (at r Lost) j Nothing) (sym (high-lost-low s rest i e))
+  go false e ih =
+      high-at r Lost s rest i (lit< tt) e ∙ ih ∙ ap (λ (j : ℕ). stopped (at r Lost) j Nothing) (sym (high-lost-cons s rest i e))
+
+-- a device whose next step sends
+high-sends : (r : Registers) (p : Phase) (rest : List ℕ) (i : ℕ) → Small p
+    → ((s : ℕ) → after (stepHigh r p s) (drop 1 rest) i ≡ stopped (stepHigh r p s .device) (i + 1) (stepHigh r p s .sent))
+    → highTaken (at r p) rest i ≡ oneTaken (at r p) rest i
+high-sends r p [] i h f = high-none (at r p) i
+high-sends r p (s ∷ rest) i h f = go (ltb s 2) refl where
+  go : (t : Bool) → ltb s 2 ≡ t → highTaken (at r p) (s ∷ rest) i ≡ oneTaken (at r p) (s ∷ rest) i
+  go true e =
+      high-low (at r p) s rest i e
+      ∙ sym (ap (λ (t : Bool). cond t (stopped (at r p) i Nothing) (stopped (step (at r p) s .device) (i + 1) (step (at r p) s .sent))) e)
+  go false e =
+      high-at r p s rest i h e ∙ f s
+      ∙ ap (λ (x : Stepped). stopped (x .device) (i + 1) (x .sent)) (sym (step-high r p s h e))
+      ∙ sym (ap (λ (t : Bool). cond t (stopped (at r p) i Nothing) (stopped (step (at r p) s .device) (i + 1) (step (at r p) s .sent))) e)
+
+pub high-passing : (r : Registers) (rest : List ℕ) (i : ℕ) → highTaken (at r Passing) rest i ≡ oneTaken (at r Passing) rest i
+high-passing r rest i = high-sends r Passing rest i (lit< tt) (λ s. refl)
+
+pub high-over : (r : Registers) (c : Command) (n t : ℕ) (rest : List ℕ) (i : ℕ) → sliceLength r c ≤ t
+    → highTaken (at r (Slice c n t)) rest i ≡ oneTaken (at r (Slice c n t)) rest i
+high-over r c n t rest i h = high-sends r (Slice c n t) rest i (lit< tt) (λ s. rw (le-ltb (t + 1) (sliceLength r c) (omega arith)) refl)
+
+-- ---- by what the header's states left
+
+pub high-by : (d : Device) (ss : List ℕ) (i : ℕ) (h : Headed) → i < length ss → 2 ≤ getD ss i 0
+    → h ≡ headedAll (phaseOf (d .place)) (drop i ss) i
+    → highTaken d (drop i ss) i ≡ onward (d .registers) ss h
+high-by d ss i h l g e =
+    ap (λ (rest : List ℕ). highTaken d rest i) (drop-on ss i l)
+    ∙ high-normal d (getD ss i 0) (drop (i + 1) ss) i (le-ltb (getD ss i 0) 2 g)
+    ∙ ap (λ (rest : List ℕ). highTaken (at (d .registers) (phaseOf (d .place))) rest i) (sym (drop-on ss i l))
+    ∙ high-headed (d .registers) ss (drop i ss) (phaseOf (d .place)) i refl (phase-small (d .place))
+    ∙ ap (onward (d .registers) ss) (sym e)
+
+pub onward-header : (r : Registers) (ss : List ℕ) (p : Phase) (i : ℕ) (h : Headed) → h ≡ headedAll p (drop i ss) i → inHeader (h .phase) ≡ true
+    → onward r ss h ≡ stopped (at r (h .phase)) (h .at) Nothing
+onward-header r ss p i h e = subst (Stops r ss) (sym e) (headed-stops r ss (drop i ss) p i refl)
+
+pub onward-passing : (r : Registers) (ss : List ℕ) (h : Headed) → h .phase ≡ Passing
+    → onward r ss h ≡ oneTaken (at r (h .phase)) (drop (h .at) ss) (h .at)
+onward-passing r ss h e =
+    ap (λ (p : Phase). highTaken (at r p) (drop (h .at) ss) (h .at)) e
+    ∙ high-passing r (drop (h .at) ss) (h .at)
+    ∙ ap (λ (p : Phase). oneTaken (at r p) (drop (h .at) ss) (h .at)) (sym e)
+
+pub onward-lost : (r : Registers) (ss : List ℕ) (h : Headed) → h .phase ≡ Lost
+    → onward r ss h ≡ stopped (at r (h .phase)) (highsEnd (drop (h .at) ss) (h .at)) Nothing
+onward-lost r ss h e =
+    ap (λ (p : Phase). highTaken (at r p) (drop (h .at) ss) (h .at)) e
+    ∙ high-lost r (drop (h .at) ss) (h .at)
+    ∙ ap (λ (p : Phase). stopped (at r p) (highsEnd (drop (h .at) ss) (h .at)) Nothing) (sym e)
+
+-- ---- from any place on
+
+taken-cons : (d : Device) (ss : List ℕ) (i : ℕ) → i < length ss → taken d ss i ≡ takenFrom d (getD ss i 0 ∷ drop (i + 1) ss) i
+taken-cons d ss i l = ap (λ (rest : List ℕ). takenFrom d rest i) (drop-on ss i l)
+
+abbrev either : Device → ℕ → List ℕ → ℕ → Bool → Taken
+either d s rest i t = cond t (lowTaken d (s ∷ rest) i) (highTaken d (s ∷ rest) i)
+
+pub taken-low : (d : Device) (ss : List ℕ) (i : ℕ) → i < length ss → getD ss i 0 < 2
+    → taken d ss i ≡ hunting (d .registers) (heardAll (windowOf (phaseOf (d .place))) (drop i ss) i)
+taken-low d ss i l g =
+    let e = lt-ltb (getD ss i 0) 2 g in
+    taken-cons d ss i l
+    ∙ ap (either d (getD ss i 0) (drop (i + 1) ss) i) e
+    ∙ low-taken d (getD ss i 0) (drop (i + 1) ss) i e
+    ∙ ap (λ (rest : List ℕ). hunting (d .registers) (heardAll (windowOf (phaseOf (d .place))) rest i)) (sym (drop-on ss i l))
+
+pub taken-high : (d : Device) (ss : List ℕ) (i : ℕ) → i < length ss → 2 ≤ getD ss i 0 → taken d ss i ≡ highTaken d (drop i ss) i
+taken-high d ss i l g =
+    taken-cons d ss i l
+    ∙ ap (either d (getD ss i 0) (drop (i + 1) ss) i) (le-ltb (getD ss i 0) 2 g)
+    ∙ ap (λ (rest : List ℕ). highTaken d rest i) (sym (drop-on ss i l))
+
+pub taken-end : (d : Device) (ss : List ℕ) (i : ℕ) → length ss ≤ i → taken d ss i ≡ stopped d i Nothing
+taken-end d ss i h = ap (λ (rest : List ℕ). takenFrom d rest i) (drop-of-length-le ss h)

@@ -1,0 +1,93 @@
+-- One device takes as many of the states at hand as it can at once: all low ones, or high ones until it sends, a low state or the end.
+-- That this is the run of the step over those states is in proofs/Runs. Below it, what the loops inside do: they keep the phase, the window
+-- or one field of the slice, and no record.
+use Prim.Native.Nat.{ℕ, zero, suc, _+_, _%_}
+use mathlib.Core.Bool.{cond}
+use mathlib.Core.List.{List, [], _∷_}
+use lib.Dec.{ltb, leb}
+use lib.ListN.{drop}
+use Rattle.parts.specs.declared.command.Command.{Command}
+use Rattle.device.specs.Phases.{pushed, inHeader, headed}
+use Rattle.device.specs.Held.{withSlice, stored, fault, raised}
+use Rattle.device.specs.Step.{step, at}
+use Rattle.device.specs.declared.phase.Phase.{Phase}
+use Rattle.device.specs.declared.phase.Phase.the-variants.{Slice, Passing}
+use Rattle.device.specs.declared.phase.Sent.{Sent}
+use Rattle.device.specs.declared.phase.Sent.the-variants.{Nothing, One, Header}
+use Rattle.device.specs.declared.registers.Registers.{Registers}
+use Rattle.device.specs.declared.device.Device.{Device}
+use Rattle.intake.specs.declared.states.Taken.{Taken}
+use Rattle.intake.specs.declared.states.Heard.{Heard}
+use Rattle.intake.specs.declared.states.Headed.{Headed}
+use Rattle.intake.specs.declared.slice.Filled.{Filled}
+
+-- the device, the place of the next state, and what was sent
+abbrev pub stopped : Device → ℕ → Sent → Taken
+stopped d i s = record { device = d; at = i; sent = s }
+
+-- low states as long as they last; i counts along
+unfoldable pub lowTaken : Device → List ℕ → ℕ → Taken
+lowTaken d [] i = stopped d i Nothing
+lowTaken d (s ∷ ss) i = cond (ltb s 2) (lowTaken (step d s .device) ss (i + 1)) (stopped d i Nothing)
+
+-- on where nothing was sent, else stop
+abbrev pub unlessSent : Sent → Taken → Taken → Taken
+unlessSent Nothing on stop = on
+unlessSent (One s) on stop = stop
+unlessSent (Header c n) on stop = stop
+
+-- high states until the device sends, a low state or the end
+unfoldable pub highTaken : Device → List ℕ → ℕ → Taken
+highTaken d [] i = stopped d i Nothing
+highTaken d (s ∷ ss) i =
+    cond (ltb s 2) (stopped d i Nothing)
+    (unlessSent (step d s .sent) (highTaken (step d s .device) ss (i + 1)) (stopped (step d s .device) (i + 1) (step d s .sent)))
+
+abbrev pub takenFrom : Device → List ℕ → ℕ → Taken
+takenFrom d [] i = stopped d i Nothing
+takenFrom d (s ∷ ss) i = cond (ltb s 2) (lowTaken d (s ∷ ss) i) (highTaken d (s ∷ ss) i)
+
+-- from the state at i on
+abbrev pub taken : Device → List ℕ → ℕ → Taken
+taken d ss i = takenFrom d (drop i ss) i
+
+-- ---- the loops inside
+
+-- a window takes low states
+unfoldable pub heardAll : ℕ → List ℕ → ℕ → Heard
+heardAll w [] i = record { window = w; at = i }
+heardAll w (s ∷ ss) i = cond (ltb s 2) (heardAll (pushed w s 256) ss (i + 1)) (record { window = w; at = i })
+
+-- a phase takes the high states of a header
+unfoldable pub headedAll : Phase → List ℕ → ℕ → Headed
+headedAll p [] i = record { phase = p; at = i }
+headedAll p (s ∷ ss) i =
+    cond (inHeader p) (cond (ltb s 2) (record { phase = p; at = i }) (headedAll (headed p (s % 2)) ss (i + 1)))
+    (record { phase = p; at = i })
+
+-- where high states end
+unfoldable pub highsEnd : List ℕ → ℕ → ℕ
+highsEnd [] i = i
+highsEnd (s ∷ ss) i = cond (ltb s 2) i (highsEnd ss (i + 1))
+
+-- a field takes high states, at most b of them
+unfoldable pub filled : ℕ → ℕ → List ℕ → ℕ → Filled
+filled v zero ss i = record { value = v; at = i }
+filled v (suc b) [] i = record { value = v; at = i }
+filled v (suc b) (s ∷ ss) i = cond (ltb s 2) (record { value = v; at = i }) (filled (pushed v (s % 2) 65536) b ss (i + 1))
+
+abbrev pub least : ℕ → ℕ → ℕ
+least a b = cond (leb a b) a b
+
+-- one high state
+abbrev pub oneTaken : Device → List ℕ → ℕ → Taken
+oneTaken d [] i = stopped d i Nothing
+oneTaken d (s ∷ ss) i = cond (ltb s 2) (stopped d i Nothing) (stopped (step d s .device) (i + 1) (step d s .sent))
+
+-- within a slice, whose fields so far are sl; and once it is full
+abbrev pub collecting : Registers → List ℕ → Command → ℕ → ℕ → Device
+collecting r sl c n t = at (withSlice r sl) (Slice c n t)
+
+abbrev pub full : Registers → List ℕ → Command → ℕ → ℕ → Taken
+full r sl c n i =
+    stopped (at (stored (withSlice r sl) c) Passing) i (Header c (raised n (fault (withSlice r sl) c)))

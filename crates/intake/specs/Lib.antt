@@ -1,0 +1,2 @@
+-- As many states as one device can take at once.
+pub mod Intake

@@ -1,0 +1,156 @@
+// The rest of a slice in one call. A field's bits are gathered in a local.
+ghost use mathlib.Core.Path.{_≡_};
+ghost use Prim.Native.Nat.{_-_, _<_, _≤_};
+ghost use lib.ListN.{length, drop};
+ghost use Rattle.device.specs.Held.{withSlice};
+ghost use Rattle.device.specs.Step.{at, sliceLength};
+ghost use Rattle.device.specs.declared.phase.Phase.the-variants.{Slice};
+ghost use Rattle.device.specs.declared.phase.Sent.the-variants.{Nothing};
+ghost use Rattle.intake.specs.Intake.{stopped, collecting, full, highTaken, filled, least};
+use crate::states::Taken;
+use device::Device;
+use device::Phase;
+use device::Registers;
+use device::Sent;
+use parts::Command;
+
+// A field's value, and the place of the next state.
+pub struct Filled {
+    pub value: u16,
+    pub at: usize,
+}
+
+// A device within a slice takes high states.
+pub fn collect(
+    registers: Registers,
+    command: Command,
+    count: u16,
+    taken: u16,
+    states: &[u8],
+    from: usize,
+) -> Taken
+    ensures { λ r. ⌜ r ≡ highTaken (at registers (Slice command count taken)) (drop from (now (states .entry))) from ⌝ }
+{
+    if taken < parts::slice_bits(command, registers.part, registers.configuration) {
+        return gather(registers, command, count, taken, states, from);
+    }
+    crate::states::one(
+        registers,
+        Phase::Slice {
+            command: command,
+            count: count,
+            taken: taken,
+        },
+        states,
+        from,
+    )
+}
+
+// Field by field.
+fn gather(
+    registers: Registers,
+    command: Command,
+    count: u16,
+    taken: u16,
+    states: &[u8],
+    from: usize,
+) -> Taken
+    requires { ⌜ taken < sliceLength registers command ⌝ }
+    ensures { λ r. ⌜ r ≡ highTaken (at registers (Slice command count taken)) (drop from (now (states .entry))) from ⌝ }
+{
+    let part = registers.part;
+    let width = parts::field_width(command, part) as usize;
+    let below = parts::field_limit(command, part);
+    let bits = parts::slice_bits(command, part, registers.configuration) as usize;
+    let mut slice = registers.slice;
+    let mut t = taken as usize;
+    let mut i = from;
+    while i < states.len() {
+        if states[i] < 2 {
+            return part_of(registers, slice, command, count, t as u16, i);
+        }
+        let k = t / width;
+        let v = slice[k];
+        let end = i + smaller(width - t % width, states.len() - i);
+        let f = fill(v, states, i, end);
+        slice[k] = f.value % below;
+        t += f.at - i;
+        i = f.at;
+        if t >= bits {
+            return whole(registers, slice, command, count, i);
+        }
+    }
+    part_of(registers, slice, command, count, t as u16, i)
+}
+
+fn smaller(a: usize, b: usize) -> usize
+    ensures { λ r. ⌜ r ≡ least a b ⌝ }
+{
+    if a <= b { a } else { b }
+}
+
+// A field takes the high states up to a place.
+fn fill(value: u16, states: &[u8], from: usize, end: usize) -> Filled
+    requires { ⌜ (from ≤ end) × (end ≤ length (now states)) ⌝ }
+    ensures { λ r. ⌜ r ≡ filled value (end - from) (drop from (now (states .entry))) from ⌝ }
+{
+    let mut v = value;
+    let mut i = from;
+    while i < end {
+        let s = states[i];
+        if s < 2 {
+            return Filled { value: v, at: i };
+        }
+        v = (((v as u32) * 2 + ((s % 2) as u32)) % 65536) as u16;
+        i += 1;
+    }
+    Filled { value: v, at: i }
+}
+
+// The states end, or a low one comes, within a slice.
+fn part_of(
+    registers: Registers,
+    slice: [u16; 48],
+    command: Command,
+    count: u16,
+    taken: u16,
+    from: usize,
+) -> Taken
+    ensures { λ r. ⌜ r ≡ stopped (collecting registers slice command count taken) from Nothing ⌝ }
+{
+    let mut held = registers;
+    held.slice = slice;
+    Taken {
+        device: Device {
+            registers: held,
+            place: device::place_of(Phase::Slice {
+                command: command,
+                count: count,
+                taken: taken,
+            }),
+        },
+        at: from,
+        sent: Sent::Nothing,
+    }
+}
+
+// The last bit of a slice came.
+fn whole(registers: Registers, slice: [u16; 48], command: Command, count: u16, from: usize) -> Taken
+    ensures { λ r. ⌜ r ≡ full registers slice command count from ⌝ }
+{
+    let mut held = registers;
+    held.slice = slice;
+    let raised = device::raise(count, held.fault_of(command));
+    let stored = held.store(command);
+    Taken {
+        device: Device {
+            registers: stored,
+            place: device::place_of(Phase::Passing),
+        },
+        at: from,
+        sent: Sent::Header {
+            command: command,
+            count: raised,
+        },
+    }
+}

@@ -1,0 +1,120 @@
+-- The frames that the writer writes from a set are the model's frames of each device's slices, state for state: the bytes hold the bits of
+-- the frame, the fields of the frame are those of the slices. So a restore, its parts and the arrival of a slice are the model's; and a
+-- set whose frames the writer accepts is proper. Assumes nothing.
+use mathlib.Core.Path.{_≡_, refl, sym, ap, ap₂, _∙_}
+use mathlib.Core.Bool.{Bool, true, false}
+use mathlib.Core.List.{List, [], _∷_, _++_, map, flatten, map-append}
+use Prim.Native.Nat.{ℕ, suc, _-_, _%_, _<_}
+use native.Mathlib.Omega.{arith}
+use lib.ListN.{length, take, length-map, replicate}
+use lib.Seq.{take-at}
+use borrow.Author.Tests.{ltb-true, eqb-true, not-false}
+use Rattle.bits.specs.Bits.{fields, bytesOf, padded}
+use Rattle.bits.proofs.Laws.{bits-of-bytes}
+use Rattle.parts.specs.Lists.{allBelow}
+use Rattle.parts.specs.Parts.{partOf, limit, subframes, fieldWidth}
+use Rattle.parts.specs.Wire.{stateOf, statesOf, lows, frame, clocked}
+use Rattle.parts.specs.declared.command.Command.{Command}
+use Rattle.parts.specs.declared.command.Command.the-variants.{Individual, Calibration, Global, Configuration}
+use Rattle.line.specs.States as line
+use Rattle.frames.specs.Frames.{tailBits, frameBits, frameOf, frameLength}
+use Rattle.frames.specs.Writing.{settings}
+use Rattle.frames.specs.declared.told.Tail.{Tail}
+use Rattle.frames.proofs.Lengths.{subframes-small}
+use Rattle.frames.proofs.Accepted.{length-given}
+use Rattle.frames.proofs.Accepted as accepted
+use Rattle.frames.proofs.Pieces.{length-frameBits}
+use Rattle.device.proofs.Kept.{below-head}
+use Rattle.model.specs.Lists.{All}
+use Rattle.model.specs.Device.{frameStates}
+use Rattle.model.specs.Set.{Set, Proper, owned, sliceOf, frameFields}
+use Rattle.model.specs.Restore.{restoreOrder, Piece, pieceStates, pieceOf, piecesOf}
+use Rattle.model.specs.Restore as model
+use Rattle.model.proofs.Lists.{take-map}
+use Rattle.model.proofs.Set.{fields-slices, length-owned-slices}
+use Rattle.link.specs.Restore.{told, byteOf, written, Writable, frameSize, framePart, restorePart, restoreStates, before, arrival}
+
+all-below : (m : ℕ) (xs : List ℕ) → allBelow xs m ≡ true → All (λ v. v < m) xs
+all-below m [] h = tt
+all-below m (x ∷ xs) h = let t = below-head x xs m h in (t .0, all-below m xs (t .1))
+
+-- the first bits of bytes are the bits that they were made of
+take-bytes : (bs : List Bool) (n : ℕ) → length bs ≡ n → take n (fields 8 (bytesOf bs)) ≡ bs
+unfolding padded
+take-bytes bs n e = ap (λ (l : List Bool). take n l) (bits-of-bytes bs) ∙ take-at bs (replicate ((8 - length bs % 8) % 8) false) n e
+
+module _ (s : Set) (tail : Command → Tail) (w : Writable s tail) where
+  -- what the writer accepts
+  pub taken : (c : Command) → accepted.Writable (told s c) (tail c) (byteOf s c) (s .calibration) (s .individual) (frameLength (told s c) (tail c))
+  taken c = accepted.writable (told s c) (tail c) (byteOf s c) (s .calibration) (s .individual) (frameLength (told s c) (tail c)) (w .accepted c)
+
+  pub writable-proper : Proper s
+  writable-proper =
+      let g : s .global < subframes (partOf (s .part)) (s .configuration) = ltb-true _ _ (not-false _ (taken Global .value)) in
+      record {
+        configuration = w .configuration;
+        global = omega (arith, subframes-small (s .part) (s .configuration));
+        calibration = all-below 256 (s .calibration) (w .calibration);
+        calibrationLength = eqb-true _ _ (not-false _ (taken Calibration .list));
+        individual = all-below (limit (partOf (s .part))) (s .individual) (not-false _ (taken Individual .value));
+        individualLength = eqb-true _ _ (not-false _ (taken Individual .list));
+      }
+
+  fields-given : (c : Command) → settings (told s c) (byteOf s c) (s .calibration) (s .individual) ≡ frameFields s c
+  fields-given Individual = refl
+  fields-given Calibration = refl
+  fields-given Global = refl
+  fields-given Configuration = refl
+
+  -- the states of the bytes are those of the frame's bits
+  written-states : (c : Command) → line.frameStates (written s c (tail c)) (frameSize s c (tail c)) ≡ statesOf (frame c 0 (fields (fieldWidth (partOf (s .part)) c) (frameFields s c)) (tailBits (tail c)))
+  unfolding line.frameStates frameOf frameBits
+  written-states c =
+      let vs : List ℕ = settings (told s c) (byteOf s c) (s .calibration) (s .individual) in
+      let n = length-given (told s c) c (byteOf s c) (s .calibration) (s .individual) (taken c .list) in
+      ap statesOf (take-bytes (frameBits (told s c) (tail c) vs) (frameSize s c (tail c)) (length-frameBits (told s c) (tail c) vs n))
+      ∙ ap (λ (l : List ℕ). statesOf (frame c 0 (fields (fieldWidth (partOf (s .part)) c) l) (tailBits (tail c)))) (fields-given c)
+
+  module _ (gap : Command → List Bool) where
+    abbrev pub tails : Command → List Bool
+    tails c = tailBits (tail c)
+
+    abbrev piece : Command → Piece
+    piece c = pieceOf (partOf (s .part)) (owned s) gap tails c
+
+    part-states : (c : Command) → framePart s gap tail c ≡ map stateOf (pieceStates (piece c))
+    unfolding framePart pieceStates frameStates
+    part-states c =
+        ap (λ (l : List ℕ). map stateOf (lows (gap c)) ++ l) (written-states c)
+        ∙ ap (λ (bs : List Bool). map stateOf (lows (gap c)) ++ map stateOf (clocked (frame c 0 bs (tails c)))) (fields-slices s writable-proper c)
+        ∙ sym (map-append stateOf (lows (gap c)) (frameStates c 0 (map (sliceOf (partOf (s .part)) c) (owned s)) (tails c)))
+
+    parts-states : (cs : List Command) → flatten (map (framePart s gap tail) cs) ≡ map stateOf (flatten (map pieceStates (map piece cs)))
+    unfolding flatten
+    parts-states [] = refl
+    parts-states (c ∷ cs) =
+        ap₂ (λ (a b : List ℕ). a ++ b) (part-states c) (parts-states cs)
+        ∙ sym (map-append stateOf (pieceStates (piece c)) (flatten (map pieceStates (map piece cs))))
+
+    pub restore-states : restoreStates s gap tail ≡ map stateOf (model.restoreStates (partOf (s .part)) (owned s) gap tails)
+    unfolding piecesOf
+    restore-states = parts-states restoreOrder
+
+    pub restore-part : (j : ℕ) → restorePart s gap tail j ≡ map stateOf (flatten (map pieceStates (take j (piecesOf (partOf (s .part)) (owned s) gap tails))))
+    unfolding piecesOf
+    restore-part j =
+        ap (λ (l : List (List ℕ)). flatten l) (take-map (framePart s gap tail) j restoreOrder)
+        ∙ parts-states (take j restoreOrder)
+        ∙ ap (λ (l : List Piece). map stateOf (flatten (map pieceStates l))) (sym (take-map piece j restoreOrder))
+
+    length-part : (c : Command) → length (framePart s gap tail c) ≡ length (pieceStates (piece c))
+    length-part c = ap (λ (l : List ℕ). length l) (part-states c) ∙ length-map (pieceStates (piece c)) stateOf
+
+    before-same : (c : Command) → before s gap tail c ≡ model.before (partOf (s .part)) (owned s) gap tails c
+    before-same Configuration = refl
+    before-same Calibration = length-part Configuration
+    before-same Global = rw (length-part Configuration, length-part Calibration)
+    before-same Individual = rw (length-part Configuration, length-part Calibration, length-part Global)
+
+    pub arrival-same : (c : Command) (i : ℕ) → i < s .devices → arrival s gap tail c (suc i) ≡ model.arrival (partOf (s .part)) (owned s) gap tails c i
+    arrival-same c i l = rw (before-same c, ← length-owned-slices s writable-proper c (suc i) l)

@@ -1,0 +1,4 @@
+-- The laws behind the proofs of the functions.
+mod Numerals
+mod Putting
+pub mod Restoring

@@ -1,0 +1,185 @@
+-- A loop that replaces element after element of a list by what a function makes of it. After k turns from place `from` on the list is
+-- `sweep f from k`. A loop over a span that is empty where the call is refused leaves what calls/specs/Calls says: by cases of the refusal.
+use mathlib.Core.Path.{_≡_, refl, ap, sym, _∙_}
+use mathlib.Core.Bool.{Bool, true, false, not, _&&_, cond, true≢false}
+use mathlib.Core.List.{List, [], _∷_, _++_, map}
+use Prim.Native.Nat.{ℕ, zero, suc, _+_, _-_, _<_, _≤_}
+use native.Mathlib.Omega.{arith}
+use lib.Dec.{eqb, ltb, leb}
+use lib.ListN.{length, getD, set, replicate, length-set, length-map}
+use lib.Seq.{set-at, getD-at}
+use borrow.Author.Tests.{lt-ltb, le-ltb, leb-true, eqb-true}
+use Rattle.bits.specs.Bits.{digit}
+use Rattle.parts.specs.Refusals.{first, content}
+use Rattle.parts.proofs.Rows.{clear}
+use Rattle.device.specs.Step.{freshDevice, bounded, faulted}
+use Rattle.device.specs.declared.device.Device.{Device}
+use Rattle.calls.specs.Chain.{allFit, blank}
+use Rattle.calls.specs.Calls.{freshRefusal, freshAfter, boundaryRefusal, boundaryAfter, faultTable, faultRefusal, faultAfter}
+use Rattle.turns.specs.declared.judging.Span.{Span}
+use Rattle.turns.specs.Judging.{span}
+
+unfoldable pub sweep : (Device → Device) → ℕ → ℕ → List Device → List Device
+sweep f from zero xs = xs
+sweep f from (suc k) xs = set (sweep f from k xs) (from + k) (f (getD (sweep f from k xs) (from + k) blank))
+
+pub sweep-none : (f : Device → Device) (from : ℕ) (xs : List Device) → sweep f from 0 xs ≡ xs
+unfolding sweep
+sweep-none f from xs = refl
+
+pub sweep-next : (f : Device → Device) (from k : ℕ) (xs : List Device)
+    → set (sweep f from k xs) (from + k) (f (getD (sweep f from k xs) (from + k) blank)) ≡ sweep f from (suc k) xs
+unfolding sweep
+sweep-next f from k xs = refl
+
+pub length-sweep : (f : Device → Device) (from k : ℕ) (xs : List Device) → length (sweep f from k xs) ≡ length xs
+unfolding sweep
+length-sweep f from zero xs = refl
+length-sweep f from (suc k) xs = length-set (sweep f from k xs) (from + k) _ ∙ length-sweep f from k xs
+
+-- a list's last element by itself
+last-of : {A : Type 0} (n : ℕ) (xs : List Device) → length xs ≡ suc n → ((zs : List Device) (z : Device) → xs ≡ zs ++ (z ∷ []) → length zs ≡ n → A) → A
+last-of n [] e k = absurd (omega (arith, e))
+last-of n (x ∷ []) e k = k [] x refl (omega (arith, e))
+last-of zero (x ∷ y ∷ xs) e k = absurd (omega (arith, e))
+last-of (suc n) (x ∷ y ∷ xs) e k =
+    last-of n (y ∷ xs) (omega (arith, e)) (λ zs z p q. k (x ∷ zs) z (ap (λ (r : List Device). x ∷ r) p) (omega (arith, q)))
+
+append-one : (zs : List Device) (z : Device) (ys : List Device) → (zs ++ (z ∷ [])) ++ ys ≡ zs ++ (z ∷ ys)
+append-one [] z ys = refl
+append-one (x ∷ zs) z ys = ap (λ (r : List Device). x ∷ r) (append-one zs z ys)
+
+map-one : (f : Device → Device) (zs : List Device) (z : Device) → map f (zs ++ (z ∷ [])) ≡ map f zs ++ (f z ∷ [])
+map-one f [] z = refl
+map-one f (x ∷ zs) z = ap (λ (r : List Device). f x ∷ r) (map-one f zs z)
+
+-- a sweep of the first n
+sweep-first : (f : Device → Device) (n : ℕ) (xs ys : List Device) → length xs ≡ n → sweep f 0 n (xs ++ ys) ≡ map f xs ++ ys
+unfolding sweep
+sweep-first f zero [] ys e = refl
+sweep-first f zero (x ∷ xs) ys e = absurd (omega (arith, e))
+sweep-first f (suc n) xs ys e =
+    last-of n xs e (λ zs z p q.
+    let s : sweep f 0 n (xs ++ ys) ≡ map f zs ++ (z ∷ ys) =
+    ap (λ (r : List Device). sweep f 0 n (r ++ ys)) p ∙ ap (λ (r : List Device). sweep f 0 n r) (append-one zs z ys) ∙ sweep-first f n zs (z ∷ ys) q in
+    let l : length (map f zs) ≡ 0 + n = length-map zs f ∙ q ∙ sym (zero-plus n) in
+    ap (λ (r : List Device). set r (0 + n) (f (getD r (0 + n) blank))) s
+    ∙ ap (λ (d : Device). set (map f zs ++ (z ∷ ys)) (0 + n) (f d)) (getD-at (map f zs) z ys blank (0 + n) l)
+    ∙ set-at (map f zs) z ys (f z) (0 + n) l
+    ∙ sym (append-one (map f zs) (f z) ys)
+    ∙ ap (λ (r : List Device). r ++ ys) (sym (map-one f zs z) ∙ ap (λ (r : List Device). map f r) (sym p)))
+  where
+    zero-plus : (k : ℕ) → 0 + k ≡ k
+    zero-plus k = omega arith
+
+append-nil : (xs : List Device) → xs ++ [] ≡ xs
+append-nil [] = refl
+append-nil (x ∷ xs) = ap (λ (r : List Device). x ∷ r) (append-nil xs)
+
+sweep-all : (f : Device → Device) (xs : List Device) → sweep f 0 (length xs) xs ≡ map f xs
+sweep-all f xs = ap (λ (r : List Device). sweep f 0 (length xs) r) (sym (append-nil xs)) ∙ sweep-first f (length xs) xs [] refl ∙ append-nil (map f xs)
+
+sweep-one : (f : Device → Device) (i : ℕ) (xs : List Device) → sweep f i 1 xs ≡ set xs i (f (getD xs i blank))
+unfolding sweep
+sweep-one f i xs = let e : i + 0 ≡ i = omega arith in ap (λ (j : ℕ). set xs j (f (getD xs j blank))) e
+
+-- ---- over a span
+
+abbrev pub turnsOf : Span → ℕ
+turnsOf s = s .to - s .from
+
+-- a span within a list
+pub record Within (s : Span) (n : ℕ) : Type 0 where
+  pub order : s .from ≤ s .to
+  pub far : s .to ≤ n
+
+within : (refusal from to n : ℕ) → (eqb refusal 0 ≡ true → (from ≤ to) × (to ≤ n)) → Within (span refusal from to) n
+within refusal from to n h = go (eqb refusal 0) refl
+  where
+    go : (b : Bool) → eqb refusal 0 ≡ b → Within (record { refusal = refusal; from = cond b from 0; to = cond b to 0 }) n
+    go true e = record { order = h e .0; far = h e .1 }
+    go false e = record { order = omega arith; far = omega arith }
+
+swept : (f : Device → Device) (refusal from to : ℕ) (xs after : List Device) → (eqb refusal 0 ≡ true → sweep f from (to - from) xs ≡ after)
+    → sweep f (span refusal from to .from) (turnsOf (span refusal from to)) xs ≡ content refusal xs after
+swept f refusal from to xs after h = go (eqb refusal 0) refl
+  where
+    go : (b : Bool) → eqb refusal 0 ≡ b → sweep f (cond b from 0) (cond b to 0 - cond b from 0) xs ≡ cond b after xs
+    go true e = h e
+    go false e = sweep-none f 0 xs
+
+less-none : (n : ℕ) → n - 0 ≡ n
+less-none n = omega arith
+
+whole : (f : Device → Device) (xs : List Device) → sweep f 0 (length xs - 0) xs ≡ map f xs
+whole f xs = ap (λ (n : ℕ). sweep f 0 n xs) (less-none (length xs)) ∙ sweep-all f xs
+
+-- ---- the three calls
+
+replicated : (d : Device) (xs : List Device) → map (λ _. d) xs ≡ replicate (length xs) d
+replicated d [] = refl
+replicated d (x ∷ xs) = ap (λ (r : List Device). d ∷ r) (replicated d xs)
+
+pub fresh-within : (part : ℕ) (xs : List Device) → Within (span (freshRefusal part (length xs)) 0 (length xs)) (length xs)
+fresh-within part xs = within (freshRefusal part (length xs)) 0 (length xs) (length xs) (λ _. (omega arith, omega arith))
+
+pub fresh-swept : (part : ℕ) (xs : List Device)
+    → sweep (λ _. freshDevice part) (span (freshRefusal part (length xs)) 0 (length xs) .from) (turnsOf (span (freshRefusal part (length xs)) 0 (length xs))) xs ≡ freshAfter part xs
+fresh-swept part xs =
+    swept (λ _. freshDevice part) (freshRefusal part (length xs)) 0 (length xs) xs (replicate (length xs) (freshDevice part))
+    (λ _. whole (λ _. freshDevice part) xs ∙ replicated (freshDevice part) xs)
+
+pub boundary-within : (xs : List Device) → Within (span (boundaryRefusal xs) 0 (length xs)) (length xs)
+boundary-within xs = within (boundaryRefusal xs) 0 (length xs) (length xs) (λ _. (omega arith, omega arith))
+
+pub boundary-swept : (xs : List Device)
+    → sweep bounded (span (boundaryRefusal xs) 0 (length xs) .from) (turnsOf (span (boundaryRefusal xs) 0 (length xs))) xs ≡ boundaryAfter xs
+boundary-swept xs = swept bounded (boundaryRefusal xs) 0 (length xs) xs (map bounded xs) (λ _. whole bounded xs)
+
+and-left : (a b : Bool) → not (a && b) ≡ false → a ≡ true
+and-left true b e = refl
+and-left false b e = absurd (true≢false e)
+
+and-rest : (a b : Bool) → not (a && b) ≡ false → not b ≡ false
+and-rest true b e = e
+and-rest false b e = absurd (true≢false e)
+
+-- an accepted fault setting names a device of the chain
+fault-named : (xs : List Device) (device kind : ℕ) → eqb (faultRefusal xs device kind) 0 ≡ true → (1 ≤ device) × (device ≤ length xs)
+unfolding faultRefusal
+fault-named xs device kind e =
+    let c = clear (faultTable xs device kind) refl (eqb-true (first (faultTable xs device kind)) 0 e) in
+    let t : not (leb 1 device && (leb device (length xs) && (ltb kind 2 && allFit xs))) ≡ false = c .1 .1 .1 .0 in (
+      leb-true 1 device (and-left (leb 1 device) (leb device (length xs) && (ltb kind 2 && allFit xs)) t),
+      leb-true device (length xs) (and-left (leb device (length xs)) (ltb kind 2 && allFit xs) (and-rest (leb 1 device) (leb device (length xs) && (ltb kind 2 && allFit xs)) t)),
+    )
+
+pub fault-within : (xs : List Device) (device kind : ℕ) → Within (span (faultRefusal xs device kind) (device - 1) device) (length xs)
+fault-within xs device kind =
+    within (faultRefusal xs device kind) (device - 1) device (length xs) (λ e. (omega arith, fault-named xs device kind e .1))
+
+pub fault-swept : (xs : List Device) (device kind : ℕ) (flag : Bool)
+    → sweep (λ d. faulted d kind (digit flag)) (span (faultRefusal xs device kind) (device - 1) device .from) (turnsOf (span (faultRefusal xs device kind) (device - 1) device)) xs
+    ≡ faultAfter xs device kind flag
+fault-swept xs device kind flag =
+    swept (λ d. faulted d kind (digit flag)) (faultRefusal xs device kind) (device - 1) device xs _
+    (λ e. let h : 1 ≤ device = fault-named xs device kind e .0 in
+    let one : device - (device - 1) ≡ 1 = omega (arith, h) in
+    ap (λ (n : ℕ). sweep (λ d. faulted d kind (digit flag)) (device - 1) n xs) one ∙ sweep-one (λ d. faulted d kind (digit flag)) (device - 1) xs)
+
+-- ---- a turn of the loop: to antt the code's `i + 1` is not `suc i`
+
+pub at-next : (from k : ℕ) → from + k + 1 ≡ from + suc k
+at-next from k = omega arith
+
+pub at-first : (from : ℕ) → from ≡ from + 0
+at-first from = omega arith
+
+pub test-yes : (i n : ℕ) → i < n → ltb i n ≡ true
+test-yes i n l = lt-ltb i n l
+
+pub test-no : (i n : ℕ) → n ≤ i → ltb i n ≡ false
+test-no i n l = le-ltb i n l
+
+pub one-more : (i : ℕ) → i + 1 ≡ suc i
+one-more i = omega arith

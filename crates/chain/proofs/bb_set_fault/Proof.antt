@@ -1,0 +1,207 @@
+-- `chain::bb_set_fault` meets its contract: a walk of its MIR, by hand. Records are judged once; the loop takes one turn, at the device named, or none.
+use Rattle.chain.proofs.Walk.{_≡_, refl, sym, _∙_, ap, subst, ℕ, zero, suc, _+_, _-_, _*_, _<_, _^_, arith, Bool, not, eqb, List, [], _∷_, length, getD, set, URA, fullShare, Ty, named, erased, mut, imm, w8, w64, tyBool, tyPtr, tyRef, vbool, vint, vptr, Val, SProp, ent, emp, via, fst∗, Lft, GName, Share, ftrue, fat, flft, Memory, Routine, Heap, Out, Env, Wp, WpFn, Tables, afterSeq, afterBlock, afterTurn, atReturn, Atoms, fmOf, Given, Item, ‵, raw, _⊛_, ⋆, anyQ, atRet, _$_, _∵_, !, qed, by, move, use1, drop, split, join, rewrite, fsplit, fjoin, suffices, frame, done, whole, sub, look-in, agg, look, look-raw, store, store-raw, init, forget, stop, hop, fld, from, load, lit, of-opd, and-then, no-more, bin, addr, assigns, assigns-last, land, stays, leaves-loop, exec, returns, enter, alloc1, alloc0, params1, pass1, pass0, free1, free0, Fun, givenOf, tables, tablesOf, yes, owns, pointee, Is, uint-vals, uint-tells, uint-makes, RefT, sliceTy, sliceVal, MutSlice, Room, finally, slice-vals, mut-slice-tells, row, plain, u8, usize, onEntry, tripleOf, Contract, Triple, cited, nothing, owned, heard, says, Stays, gave-slice, stay-dropped, walkOf, ends-at, walked, goes-gave-slice, goes-dropped, word, byte, loop, id⊢}
+use denote.Struct.Laws as LL
+use Rattle.device.specs.declared.device.Device.{Device}
+use Rattle.device.proofs.device.Device.Laws.{mir as dev}
+use Rattle.calls.specs.Chain.{blank}
+use Rattle.bits.specs.Bits.{digit}
+use Rattle.device.specs.Step.{faulted}
+use Rattle.calls.specs.Calls.{faultRefusal, faultAfter}
+use Rattle.turns.specs.Judging.{unjudged, judgedFrom, span, faultSpan}
+use Rattle.turns.proofs.Judged.{fault-refusal-found}
+use Rattle.chain.proofs.Sweep.{fault-within, fault-swept}
+use Rattle.turns.specs.declared.judging.Judged.{Judged}
+use Rattle.turns.proofs.judging.Judged as J
+use Rattle.turns.proofs.judging.Judged.Laws as J′
+use Rattle.chain.proofs.Judges.{jval, jvals, jtells, jmade, JudgeC, to-judge, asks-judge}
+use Rattle.turns.specs.declared.judging.Span.{Span}
+use Rattle.chain.proofs.Dev.{D, val, vals, tells, made, lawful, place-fits, place-at, size, out, into, back}
+use Rattle.chain.proofs.Lent.{ref, sl, Open, opened, final, lends-shared, returned-shared, hold, free, Again, again, loops, calls-plain, calls-val, closes}
+use Rattle.chain.proofs.Sweep.{sweep, sweep-none, sweep-next, length-sweep, turnsOf, Within, at-next, at-first, test-yes, test-no}
+use Rattle.turns.proofs.judging.Span as Sp
+use Rattle.turns.proofs.judging.Span.Laws as Sp′
+use Rattle.turns.proofs.with_fault as step
+use Rattle.turns.proofs.with_fault.Symbol as step-def
+use Rattle.turns.proofs.with_fault.Symbol.{name as #step}
+use Rattle.turns.proofs.with_fault.Met as step-thm
+use Rattle.chain.proofs.judge as judge
+use Rattle.chain.proofs.judge.Symbol as judge-def
+use Rattle.chain.proofs.judge.Symbol.{name as #judge}
+use Rattle.chain.proofs.judge.Met as judge-thm
+use Rattle.turns.proofs.fault_span as spans
+use Rattle.turns.proofs.fault_span.Symbol as spans-def
+use Rattle.turns.proofs.fault_span.Symbol.{name as #spans}
+use Rattle.turns.proofs.fault_span.Met as spans-thm
+use Rattle.chain.proofs.bb_set_fault.Key.{name as #bb-set-fault}
+use Rattle.chain.proofs.bb_set_fault as bb-set-fault
+use Rattle.chain.proofs.bb_set_fault.Statement as stated
+use Rattle.chain.proofs.bb_set_fault.Code as code
+use Rattle.chain.proofs.bb_set_fault.Code.Mir as m
+
+abbrev sliceD : Ty
+sliceD = sliceTy (tyRef (named 0) mut (pointee (D .written)))
+
+abbrev refI : Ty
+refI = tyRef erased imm (pointee (D .written))
+
+abbrev sval : Span → Val
+sval = LL.val Sp.the-type Sp′.the-laws
+
+abbrev SIs : Span → Type 0
+SIs s = Is Sp.the-row s (LL.vals Sp.the-type Sp′.the-laws s)
+
+abbrev stayed : Stays (bb-set-fault.ended .signature .params) (bb-set-fault.ended .kept)
+stayed = (gave-slice (0 ∷ []) tt (plain (λ _. D)), (stay-dropped (plain (λ _. usize)) yes, (stay-dropped (plain (λ _. u8)) yes, (stay-dropped (plain (λ _. u8)) yes, tt))))
+
+abbrev StepC : {M : Type 1} (𝓤 : URA M) (H : Heap 𝓤) (A : Atoms 𝓤) (mem : Memory → SProp 𝓤) (run : Routine → Fun 𝓤) → Contract 𝓤
+StepC 𝓤 H A mem run = tripleOf 𝓤 H A step.signature (step.spec 𝓤 H A mem run)
+
+abbrev SpansC : {M : Type 1} (𝓤 : URA M) (H : Heap 𝓤) (A : Atoms 𝓤) (mem : Memory → SProp 𝓤) (run : Routine → Fun 𝓤) → Contract 𝓤
+SpansC 𝓤 H A mem run = tripleOf 𝓤 H A spans.signature (spans.spec 𝓤 H A mem run)
+
+module _ {M : Type 1} (𝓤 : URA M) (H : Heap 𝓤) (A : Atoms 𝓤) (W : Given 𝓤 H A) (mem : Memory → SProp 𝓤) (run : Routine → Fun 𝓤) (κ : Lft) (q : Share) (b o : ℕ) (γ : GName) (xs : List Device) (device kind flag : ℕ) where
+  abbrev x : RefT (List Device) × (ℕ × (ℕ × (ℕ × Unit {0})))
+  x = (ref b o γ xs, (device, (kind, (flag, tt))))
+
+  abbrev at : List Val × (List Val × (List Val × (List Val × Unit {0})))
+  at = (sl b o (length xs), (vint w64 device ∷ [], (vint w8 kind ∷ [], (vint w8 flag ∷ [], tt))))
+
+  abbrev Post : Val → SProp 𝓤
+  Post = walkOf 𝓤 H A bb-set-fault.ended stayed (bb-set-fault.clauses 𝓤 H A mem run) .post (((κ, tt), (q, tt), tt, x, at), tt)
+
+  abbrev num : ℕ
+  num = faultRefusal xs device kind
+
+  abbrev S : Span
+  S = span (faultRefusal xs device kind) (device - 1) device
+
+  abbrev f : Device → Device
+  f = λ d. faulted d kind (digit (not (eqb flag 0)))
+
+  abbrev last : List Device
+  last = faultAfter xs device kind (not (eqb flag 0))
+
+  last-length : length last ≡ length xs
+  last-length = ap length (sym (fault-swept xs device kind (not (eqb flag 0)))) ∙ length-sweep f (S .from) (turnsOf S) xs
+
+  exits : num < 2 ^ 8 → ent 𝓤 (⋆ 𝓤 H A (‵ (finally D γ last) ∷ ‵ (flft κ q) ∷ [])) (Post (vint w8 num))
+  exits g =
+      qed W (‵ (finally D γ last) ∷ ‵ (flft κ q) ∷ []) ∵
+      suffices ! _ (ends-at 𝓤 H A bb-set-fault.ended stayed (bb-set-fault.clauses 𝓤 H A mem run) W (((κ, tt), (q, tt), tt, x, at), tt) (vint w8 num) num (last, (tt, (tt, (tt, tt)))) (last-length, (tt, (tt, (tt, tt))))) $ says ! (refl, refl) $
+      nothing ! $ move ! (2 ∷ 0 ∷ []) $ join ! $ frame ! $ nothing ! $ nothing ! $ fjoin ! $ nothing ! $ fjoin ! $ nothing ! $ fjoin ! $ move ! (1 ∷ 0 ∷ []) $ fjoin ! $ frame ! $ owned ! u8 (Is u8) (uint-makes 𝓤 H A W w8) num _ (refl, g) $ done !
+
+  module _ (𝓣 : Tables 𝓤 H) (known : Triple 𝓤 (𝓣 .C #step) (StepC 𝓤 H A mem run)) (g : Room D (length xs)) (s-is : SIs S) (device-fits : device < 2 ^ 64) (kind-fits : kind < 2 ^ 8) (flag-fits : flag < 2 ^ 8) (l₀ l₁ l₂ l₃ l₄ l₅ l₆ l₇ l₈ l₉ l₁₀ l₁₁ l₁₂ l₁₃ l₁₄ l₁₅ l₁₆ l₁₇ : ℕ) where
+    abbrev E : Env 𝓤 H
+    E = (byte, l₀) ∷ (sliceD, l₁) ∷ (word, l₂) ∷ (byte, l₃) ∷ (byte, l₄) ∷ (J′.mir, l₅) ∷ (Sp′.mir, l₆) ∷ (word, l₇) ∷ (refI, l₈) ∷ (sliceTy refI, l₉) ∷ (word, l₁₀) ∷ (tyBool, l₁₁) ∷ (dev, l₁₂) ∷ (word, l₁₃) ∷ (tyPtr, l₁₄) ∷ (dev, l₁₅) ∷ (word, l₁₆) ∷ (tyPtr, l₁₇) ∷ []
+
+    -- before turn k, [the row; open; _17, _16, _15, _14, _13, _12, _11, _10, _9, _8, _7, _6, _5, _4, _3, _2, _1, _0]
+    abbrev At : ℕ → List (Item 𝓤)
+    At k = ‵ (row D fullShare (sweep f (S .from) k xs) b o) ∷ ‵ (Open D κ q γ xs b o) ∷
+        free tyPtr l₁₇ (free word l₁₆ (free dev l₁₅ (free tyPtr l₁₄ (free word l₁₃ (free dev l₁₂ (free tyBool l₁₁ (free word l₁₀ (free (sliceTy refI) l₉ (free refI l₈ (hold word l₇ (vint w64 (S .from + k)) (hold Sp′.mir l₆ (sval S) (free J′.mir l₅ (hold byte l₄ (vint w8 flag) (hold byte l₃ (vint w8 kind) (hold word l₂ (vint w64 device) (hold sliceD l₁ (sliceVal (b, o) (length xs)) (free byte l₀ [])))))))))))))))))
+
+    abbrev Ok : ℕ → ℕ → Type 0
+    Ok t k = k + t ≡ turnsOf S
+
+    abbrev Left : Out → SProp 𝓤
+    Left = afterBlock 𝓤 H (afterSeq 𝓤 H (Wp 𝓤 H (𝓣 .C) (𝓣 .Λ) E m.t-8 (atReturn 𝓤 H E Post)) (atReturn 𝓤 H E Post))
+
+    within : Within S (length xs)
+    within = fault-within xs device kind
+
+    more : (k : ℕ) (X : SProp 𝓤) → S .from + k < S .to → ent 𝓤 (⋆ 𝓤 H A (At (suc k))) X → ent 𝓤 (⋆ 𝓤 H A (At k)) (Wp 𝓤 H (𝓣 .C) (𝓣 .Λ) E m.turn-1 (afterTurn 𝓤 H X Left))
+    unfolding afterTurn
+    more k X small then =
+        let ys : List Device = sweep f (S .from) k xs in
+        let i : ℕ = S .from + k in
+        let near : i < length xs = omega (arith, small, within .far) in
+        let l : i < length ys = subst (λ (z : ℕ). i < z) (sym (length-sweep f (S .from) k xs)) near in
+        let at-fits : i * size < 2 ^ 64 = place-fits i (length xs) near (g .1) in
+        let next-fits : i + 1 < 2 ^ 64 = omega (arith, near, g .0) in
+        qed W (At k) ∵ exec ! (𝓣 .C) (𝓣 .Λ) E m.turn-1 (anyQ (afterTurn 𝓤 H X Left)) $
+        assigns ! (bin ! (load ! (from ! (stop !)) (look ! 22 refl)) (load ! (from ! (fld ! refl (stop !))) (look-in ! 24 (sub ! 2 refl (whole !)))) tt) (from ! (stop !)) (init ! 14 refl (tt, tt)) $
+        rewrite ! 14 (λ (t : Bool). ‵ (fat fullShare tyBool l₁₁ 0 (vbool t))) (test-yes i (S .to) small) refl $
+        stays ! (load ! (from ! (stop !)) (look ! 14 refl)) $
+        assigns ! (bin ! (load ! (from ! (stop !)) (look ! 22 refl)) (lit ! tt) (record { fits = at-fits })) (from ! (stop !)) (init ! 10 refl (tt, record { fits = at-fits })) $
+        assigns ! (bin ! (load ! (from ! (fld ! refl (stop !))) (look-in ! 34 (sub ! 0 refl (whole !)))) (load ! (from ! (stop !)) (look ! 10 refl)) tt) (from ! (stop !)) (init ! 8 refl (tt, tt)) $
+        rewrite ! 8 (λ (p : ℕ). ‵ (fat fullShare tyPtr l₁₄ 0 (vptr b p))) (place-at o i) refl $
+        out ! ys i b o l (λ is.
+        assigns ! (of-opd ! (load ! (from ! (hop ! (look ! 9 refl) (stop !))) (look-raw ! 0 refl))) (from ! (stop !)) (init ! 7 refl (lawful 𝓤 H A W .typed (getD ys i blank) _ is .0)) $
+        back ! ys i b o l is $
+        calls-plain ! (fmOf 𝓤 H (W .laws) 𝓣) (step.signature .params) (step.signature .result) (step.ended .kept) (step.clauses 𝓤 H A mem run) known (getD ys i blank, (kind, (flag, tt))) (vals (getD ys i blank), (vint w8 kind ∷ [], (vint w8 flag ∷ [], tt))) (made 𝓤 H A, (uint-makes 𝓤 H A W w8, (uint-makes 𝓤 H A W w8, tt))) (is, ((refl, kind-fits), ((refl, flag-fits), tt))) tt (id⊢ 𝓤 _) val tells
+        (and-then ! (load ! (from ! (stop !)) (look ! 7 refl)) (and-then ! (load ! (from ! (stop !)) (look ! 31 refl)) (and-then ! (load ! (from ! (stop !)) (look ! 29 refl)) (no-more !)))) (λ r ws is′. heard ! (r ≡ f (getD ys i blank)) (λ e.
+        land ! (from ! (stop !)) (init ! 12 refl (lawful 𝓤 H A W .typed r _ is′ .0)) $
+        assigns ! (bin ! (load ! (from ! (stop !)) (look ! 22 refl)) (lit ! tt) (record { fits = at-fits })) (from ! (stop !)) (init ! 4 refl (tt, record { fits = at-fits })) $
+        assigns ! (bin ! (load ! (from ! (fld ! refl (stop !))) (look-in ! 34 (sub ! 0 refl (whole !)))) (load ! (from ! (stop !)) (look ! 4 refl)) tt) (from ! (stop !)) (init ! 2 refl (tt, tt)) $
+        rewrite ! 2 (λ (p : ℕ). ‵ (fat fullShare tyPtr l₁₇ 0 (vptr b p))) (place-at o i) refl $
+        out ! ys i b o l (λ _.
+        assigns ! (of-opd ! (load ! (from ! (stop !)) (look ! 13 refl))) (from ! (hop ! (look ! 3 refl) (stop !))) (store-raw ! 0 refl (lawful 𝓤 H A W .typed r _ is′ .0)) $
+        into ! ys i r b o l is′ $
+        rewrite ! 0 (λ (zs : List Device). ‵ (row D fullShare zs b o)) (ap (set ys i) e ∙ sweep-next f (S .from) k xs) refl $
+        assigns-last ! (bin ! (load ! (from ! (stop !)) (look ! 22 refl)) (lit ! tt) (record { fits = next-fits })) (from ! (stop !)) (store ! 22 refl (tt, record { fits = next-fits })) $
+        forget ! 2 refl $ forget ! 4 refl $ forget ! 6 refl $ forget ! 8 refl $ forget ! 10 refl $ forget ! 12 refl $ forget ! 14 refl $
+        rewrite ! 22 (λ (j : ℕ). ‵ (fat fullShare word l₇ 0 (vint w64 j))) (at-next (S .from) k) refl $ by ! then))))
+
+    ends : (X : SProp 𝓤) (k : ℕ) → k ≡ turnsOf S → ent 𝓤 (⋆ 𝓤 H A (At k)) (Wp 𝓤 H (𝓣 .C) (𝓣 .Λ) E m.turn-1 (afterTurn 𝓤 H X Left))
+    unfolding afterTurn
+    ends X k e =
+        qed W (At k) ∵ exec ! (𝓣 .C) (𝓣 .Λ) E m.turn-1 (anyQ (afterTurn 𝓤 H X Left)) $
+        assigns ! (bin ! (load ! (from ! (stop !)) (look ! 22 refl)) (load ! (from ! (fld ! refl (stop !))) (look-in ! 24 (sub ! 2 refl (whole !)))) tt) (from ! (stop !)) (init ! 14 refl (tt, tt)) $
+        rewrite ! 14 (λ (t : Bool). ‵ (fat fullShare tyBool l₁₁ 0 (vbool t))) (test-no (S .from + k) (S .to) (omega (arith, e, within .order))) refl $
+        leaves-loop ! (load ! (from ! (stop !)) (look ! 14 refl)) $ exec ! (𝓣 .C) (𝓣 .Λ) E m.t-8 (atRet E Post) $
+        rewrite ! 0 (λ (zs : List Device). ‵ (row D fullShare zs b o)) (ap (λ (j : ℕ). sweep f (S .from) j xs) e ∙ (fault-swept xs device kind (not (eqb flag 0)))) refl $
+        assigns ! (of-opd ! (load ! (from ! (fld ! refl (stop !))) (look-in ! 24 (sub ! 0 refl (whole !))))) (from ! (stop !)) (init ! 36 refl (tt, record { fits = num-fits })) $
+        final ! tt D xs last last-length b o $
+        returns ! (look ! 36 refl) $ forget ! 14 refl $ forget ! 22 refl $ forget ! 24 refl $ forget ! 28 refl $ forget ! 30 refl $ forget ! 32 refl $ forget ! 34 refl $ forget ! 36 refl $
+        move ! (36 ∷ 37 ∷ []) $ free1 ! $ move ! (34 ∷ 35 ∷ []) $ free1 ! $ move ! (32 ∷ 33 ∷ []) $ free1 ! $ move ! (30 ∷ 31 ∷ []) $ free1 ! $ move ! (28 ∷ 29 ∷ []) $ free1 ! $ move ! (26 ∷ 27 ∷ []) $ free1 ! $ move ! (24 ∷ 25 ∷ []) $ free1 ! $ move ! (22 ∷ 23 ∷ []) $ free1 ! $ move ! (20 ∷ 21 ∷ []) $ free1 ! $ move ! (18 ∷ 19 ∷ []) $ free1 ! $ move ! (16 ∷ 17 ∷ []) $ free1 ! $ move ! (14 ∷ 15 ∷ []) $ free1 ! $ move ! (12 ∷ 13 ∷ []) $ free1 ! $ move ! (10 ∷ 11 ∷ []) $ free1 ! $ move ! (8 ∷ 9 ∷ []) $ free1 ! $ move ! (6 ∷ 7 ∷ []) $ free1 ! $ move ! (4 ∷ 5 ∷ []) $ free1 ! $ move ! (2 ∷ 3 ∷ []) $ free1 ! $ free0 ! $ by ! (exits num-fits)
+      where
+        num-fits : num < 2 ^ 8
+        num-fits = LL.owed Sp.the-type Sp′.the-laws S _ s-is .0 .1
+
+    turns : (t k : ℕ) → Ok t k → ent 𝓤 (⋆ 𝓤 H A (At k)) (Wp 𝓤 H (𝓣 .C) (𝓣 .Λ) E m.turn-1 (afterTurn 𝓤 H (Again 𝓤 H A Ok At t) Left))
+    turns zero k e = ends (Again 𝓤 H A Ok At zero) k (omega (arith, e))
+    turns (suc t) k e = more k (Again 𝓤 H A Ok At (suc t)) (omega (arith, e, within .order)) (again 𝓤 H A Ok At (suc t) t (suc k) (omega arith) (omega (arith, e)))
+
+    enters : ent 𝓤 (⋆ 𝓤 H A (At 0)) (Wp 𝓤 H (𝓣 .C) (𝓣 .Λ) E (loop m.turn-1) Left)
+    enters = loops 𝓤 H A Ok At W 𝓣 E m.turn-1 Left turns (turnsOf S) 0 (omega arith)
+
+  walk : (𝓣 : Tables 𝓤 H) → Triple 𝓤 (𝓣 .C #step) (StepC 𝓤 H A mem run) → Triple 𝓤 (𝓣 .C #judge) (JudgeC 𝓤 H A mem run) → Triple 𝓤 (𝓣 .C #spans) (SpansC 𝓤 H A mem run) → Room D (length xs) → device < 2 ^ 64 → kind < 2 ^ 8 → flag < 2 ^ 8
+      → ent 𝓤 (onEntry 𝓤 H A bb-set-fault.signature (κ, tt) (q, tt) x at) (WpFn 𝓤 H (𝓣 .C) (𝓣 .Λ) code.function (sliceVal (b, o) (length xs) ∷ vint w64 device ∷ vint w8 kind ∷ vint w8 flag ∷ []) Post)
+  walk 𝓣 known known-judge known-span g device-fits kind-fits flag-fits =
+      qed W ((‵ (flft κ q) ⊛ ‵ ftrue) ∷ ‵ (owns (MutSlice (named 0) κ D ∷ usize ∷ u8 ∷ u8 ∷ []) x at) ∷ []) ∵ enter ! (𝓣 .C) (𝓣 .Λ) code.function (sliceVal (b, o) (length xs) ∷ vint w64 device ∷ vint w8 kind ∷ vint w8 flag ∷ []) _ $
+      alloc1 ! (λ l₀. alloc1 ! {τ = sliceD} (λ l₁. alloc1 ! (λ l₂. alloc1 ! (λ l₃. alloc1 ! (λ l₄. alloc1 ! {τ = J′.mir} (λ l₅. alloc1 ! {τ = Sp′.mir} (λ l₆. alloc1 ! (λ l₇. alloc1 ! {τ = refI} (λ l₈. alloc1 ! {τ = sliceTy refI} (λ l₉. alloc1 ! (λ l₁₀. alloc1 ! (λ l₁₁. alloc1 ! {τ = dev} (λ l₁₂. alloc1 ! (λ l₁₃. alloc1 ! (λ l₁₄. alloc1 ! {τ = dev} (λ l₁₅. alloc1 ! (λ l₁₆. alloc1 ! (λ l₁₇. alloc0 ! $ params1 ! $
+      pass1 ! (init ! 32 refl (tt, (tt, (record { fits = g .0 }, tt)))) $ pass1 ! (init ! 30 refl (tt, record { fits = device-fits })) $ pass1 ! (init ! 28 refl (tt, record { fits = kind-fits })) $ pass1 ! (init ! 26 refl (tt, record { fits = flag-fits })) $ pass0 ! $
+      move ! (36 ∷ 37 ∷ []) $ split ! $ move ! (1 ∷ []) $ drop ! $ move ! (1 ∷ []) $ fsplit ! $ move ! (1 ∷ []) $ drop ! $ opened ! tt D xs b o $
+      -- the records are judged
+      assigns ! (addr ! (from ! (fld ! refl (hop ! (look-in ! 34 (sub ! 0 refl (whole !))) (stop !))))) (from ! (stop !)) (init ! 20 refl (tt, tt)) $
+      assigns ! (agg ! (and-then ! (load ! (from ! (stop !)) (look ! 20 refl)) (and-then ! (load ! (from ! (fld ! refl (stop !))) (look-in ! 34 (sub ! 1 refl (whole !)))) (no-more !)))) (from ! (stop !)) (init ! 18 refl (tt, (tt, (record { fits = g .0 }, tt)))) $
+      lends-shared ! tt D fullShare xs b o g (λ ν δ. join ! $ use1 W (raw (JudgeC 𝓤 H A mem run .pre (to-judge 𝓤 H A mem run b o xs ν δ))) (asks-judge 𝓤 H A W mem run b o xs ν δ) $
+      calls-val ! (fmOf 𝓤 H (W .laws) 𝓣) judge.ended (judge.clauses 𝓤 H A mem run) known-judge (to-judge 𝓤 H A mem run b o xs ν δ) jval jtells (and-then ! (load ! (from ! (stop !)) (look ! 19 refl)) (no-more !)) (λ j zs j-is. heard ! (j ≡ judgedFrom unjudged xs) (λ e.
+      use1 W (‵ (flft (ν ∷ []) fullShare) ⊛ ‵ ftrue) (id⊢ 𝓤 _) $ split ! $ move ! (1 ∷ []) $ drop ! $ move ! (1 ∷ []) $ drop ! $ returned-shared ! tt D fullShare xs b o $
+      land ! (from ! (stop !)) (init ! 26 refl (LL.lawful J.the-type J′.the-laws 𝓤 H A W .typed j _ j-is .0)) $
+      -- the records that change
+      assigns ! (of-opd ! (load ! (from ! (fld ! refl (stop !))) (look-in ! 34 (sub ! 1 refl (whole !))))) (from ! (stop !)) (init ! 16 refl (tt, record { fits = g .0 })) $
+      calls-plain ! (fmOf 𝓤 H (W .laws) 𝓣) (spans.signature .params) (spans.signature .result) (spans.ended .kept) (spans.clauses 𝓤 H A mem run) known-span (j, (length xs, (device, (kind, tt)))) (jvals j, (vint w64 (length xs) ∷ [], (vint w64 device ∷ [], (vint w8 kind ∷ [], tt)))) (jmade 𝓤 H A, (uint-makes 𝓤 H A W w64, (uint-makes 𝓤 H A W w64, (uint-makes 𝓤 H A W w8, tt)))) (j-is, ((refl, g .0), ((refl, device-fits), ((refl, kind-fits), tt)))) tt (id⊢ 𝓤 _) sval (LL.tells Sp.the-type Sp′.the-laws)
+      (and-then ! (load ! (from ! (stop !)) (look ! 27 refl)) (and-then ! (load ! (from ! (stop !)) (look ! 17 refl)) (and-then ! (load ! (from ! (stop !)) (look ! 33 refl)) (and-then ! (load ! (from ! (stop !)) (look ! 31 refl)) (no-more !))))) (λ r ws is′. heard ! (r ≡ faultSpan j (length xs) device kind) (λ e′.
+      let is-S : r ≡ S = e′ ∙ ap (λ (z : Judged). faultSpan z (length xs) device kind) e ∙ ap (λ (z : ℕ). span z (device - 1) device) (fault-refusal-found xs device kind) in
+      let s-is : SIs S = subst SIs is-S is′ in
+      land ! (from ! (stop !)) (init ! 24 refl (LL.lawful Sp.the-type Sp′.the-laws 𝓤 H A W .typed r _ is′ .0)) $
+      rewrite ! 24 (λ (u : Span). ‵ (fat fullShare Sp′.mir l₆ 0 (sval u))) is-S refl $
+      assigns ! (of-opd ! (load ! (from ! (fld ! refl (stop !))) (look-in ! 24 (sub ! 1 refl (whole !))))) (from ! (stop !)) (init ! 22 refl (tt, record { fits = LL.owed Sp.the-type Sp′.the-laws S _ s-is .1 .0 .1 })) $
+      rewrite ! 22 (λ (j : ℕ). ‵ (fat fullShare word l₇ 0 (vint w64 j))) (at-first (S .from)) refl $
+      rewrite ! 0 (λ (zs : List Device). ‵ (row D fullShare zs b o)) (sym (sweep-none f (S .from) xs)) refl $
+      forget ! 16 refl $ forget ! 18 refl $ forget ! 20 refl $ forget ! 26 refl $ by ! (enters 𝓣 known g s-is device-fits kind-fits flag-fits l₀ l₁ l₂ l₃ l₄ l₅ l₆ l₇ l₈ l₉ l₁₀ l₁₁ l₁₂ l₁₃ l₁₄ l₁₅ l₁₆ l₁₇))))))))))))))))))))))))
+
+pub bb-set-fault-spec : {M : Type 1} → stated.statement M
+unfolding code.routine tablesOf
+bb-set-fault-spec 𝓤 H 𝓜 𝓖 𝓡 =
+    let W = givenOf 𝓤 H 𝓜 𝓖 in
+    let 𝓣 : Tables 𝓤 H = tablesOf 𝓤 H 𝓜 (tables 𝓤 H 𝓜 𝓡 code.env) in
+    closes 𝓤 H 𝓜 𝓖 𝓡 bb-set-fault.ended stayed (goes-gave-slice 𝓤 H (𝓖 .A) W 1 0 tt (plain (λ _. D)), (goes-dropped 𝓤 H (𝓖 .A) W 1 (plain (λ _. usize)) yes (λ κs x f. refl), (goes-dropped 𝓤 H (𝓖 .A) W 1 (plain (λ _. u8)) yes (λ κs x f. refl), (goes-dropped 𝓤 H (𝓖 .A) W 1 (plain (λ _. u8)) yes (λ κs x f. refl), tt))))
+    (bb-set-fault.clauses 𝓤 H (𝓖 .A) (𝓜 .mem) (𝓡 .run)) code.env #bb-set-fault code.function (code.unfolded 𝓤 H 𝓜 𝓡)
+    (walked 𝓤 H (𝓖 .A) bb-set-fault.ended stayed (bb-set-fault.clauses 𝓤 H (𝓖 .A) (𝓜 .mem) (𝓡 .run)) (WpFn 𝓤 H (𝓣 .C) (𝓣 .Λ) code.function) (λ κs. (slice-vals, (uint-vals w64, (uint-vals w8, (uint-vals w8, tt))))) (λ κs. (mut-slice-tells (named 0) (κs .0) D, (uint-tells w64, (uint-tells w8, (uint-tells w8, tt)))))
+    (λ κs qs bounds a g are. via 𝓤 _ (fst∗ 𝓤 _ (emp 𝓤))
+    (walk 𝓤 H (𝓖 .A) W (𝓜 .mem) (𝓡 .run) (κs .0) (qs .0) (a .0 .ptr .0) (a .0 .ptr .1) (a .0 .name) (a .0 .now) (a .1 .0) (a .1 .1 .0) (a .1 .1 .1 .0) 𝓣
+    (cited 𝓤 H (StepC 𝓤 H (𝓖 .A) (𝓜 .mem) (𝓡 .run)) 𝓜 𝓡 code.env #step step-def.routine code.calls-turns·with-fault (step-thm.met 𝓤 H 𝓜 𝓖 𝓡))
+    (cited 𝓤 H (JudgeC 𝓤 H (𝓖 .A) (𝓜 .mem) (𝓡 .run)) 𝓜 𝓡 code.env #judge judge-def.routine code.calls-chain·judge (judge-thm.met 𝓤 H 𝓜 𝓖 𝓡))
+    (cited 𝓤 H (SpansC 𝓤 H (𝓖 .A) (𝓜 .mem) (𝓡 .run)) 𝓜 𝓡 code.env #spans spans-def.routine code.calls-turns·fault-span (spans-thm.met 𝓤 H 𝓜 𝓖 𝓡))
+    (are .0 .0 .1) (are .1 .0 .1) (are .1 .1 .0 .1) (are .1 .1 .1 .0 .1))))

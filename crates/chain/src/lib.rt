@@ -1,0 +1,89 @@
+// The four calls on a lent chain of device records, changed in place, for C and Rust. Each function here walks the records; what it does
+// with one of them is by value, in the crates device and turns.
+ghost use mathlib.Core.Path.{_≡_};
+ghost use mathlib.Core.Bool.{not};
+ghost use lib.Dec.{eqb};
+ghost use lib.ListN.{length};
+ghost use Rattle.calls.specs.Calls.{freshRefusal, freshAfter, runAfter, runRoom, boundaryRefusal, boundaryAfter, faultRefusal, faultAfter};
+ghost use Rattle.turns.specs.Entry.{runAnswer};
+ghost use Rattle.turns.specs.Judging.{unjudged, judgedFrom};
+use device::Device;
+use turns::Judged;
+use turns::Ran;
+
+// Makes a chain fresh: told the part, it takes the records whatever they hold. The refusal's number, or 0.
+#[no_mangle]
+pub extern "C" fn bb_fresh(chain: &mut [Device], part: u16) -> u8
+    ensures { λ r. ⌜ (r ≡ freshRefusal part (length (now (chain .entry)))) × (now (chain .exit) ≡ freshAfter part (now (chain .entry))) ⌝ }
+{
+    let span = turns::fresh_span(part, chain.len());
+    let device = Device::fresh(part);
+    let mut i = span.from;
+    while i < span.to {
+        chain[i] = device;
+        i += 1;
+    }
+    span.refusal
+}
+
+// Gives the chain line states, one to a clock, and returns what its last device sends into the lent room. How many states came back, and
+// the refusal's number: one of them is 0.
+#[no_mangle]
+pub extern "C" fn bb_run(chain: &mut [Device], states: &[u8], returned: &mut [u8]) -> Ran
+    ensures { λ r. ⌜ (r ≡ runAnswer (now (chain .entry)) (now (states .entry)) (length (now (returned .entry)))) × (now (chain .exit) ≡ runAfter (now (chain .entry)) (now (states .entry)) (length (now (returned .entry)))) × (now (returned .exit) ≡ runRoom (now (chain .entry)) (now (states .entry)) (now (returned .entry))) ⌝ }
+{
+    let judged = judge(chain);
+    let entry = turns::enter(judged, chain.len(), states, returned.len());
+    let mut cursor = entry.cursor;
+    while cursor.going {
+        let i = cursor.index;
+        let turned = turns::turn(chain[i], cursor, states, returned);
+        chain[i] = turned.device;
+        cursor = turned.cursor;
+    }
+    turns::answer(entry.refusal, cursor.written)
+}
+
+// A frame boundary: waiting values become active. The refusal's number, or 0.
+#[no_mangle]
+pub extern "C" fn bb_boundary(chain: &mut [Device]) -> u8
+    ensures { λ r. ⌜ (r ≡ boundaryRefusal (now (chain .entry))) × (now (chain .exit) ≡ boundaryAfter (now (chain .entry))) ⌝ }
+{
+    let judged = judge(chain);
+    let span = turns::boundary_span(judged, chain.len());
+    let mut i = span.from;
+    while i < span.to {
+        chain[i] = chain[i].boundary();
+        i += 1;
+    }
+    span.refusal
+}
+
+// Sets the fault flag of a kind, 0 overtemperature or 1 open LED, of one device, by its number, 1 to N: 0 takes the flag away, any other
+// number raises it. The refusal's number, or 0.
+#[no_mangle]
+pub extern "C" fn bb_set_fault(chain: &mut [Device], device: usize, kind: u8, flag: u8) -> u8
+    ensures { λ r. ⌜ (r ≡ faultRefusal (now (chain .entry)) device kind) × (now (chain .exit) ≡ faultAfter (now (chain .entry)) device kind (not (eqb flag 0))) ⌝ }
+{
+    let judged = judge(chain);
+    let span = turns::fault_span(judged, chain.len(), device, kind);
+    let mut i = span.from;
+    while i < span.to {
+        chain[i] = turns::with_fault(chain[i], kind, flag);
+        i += 1;
+    }
+    span.refusal
+}
+
+// Each record is judged, once for each call.
+fn judge(chain: &[Device]) -> Judged
+    ensures { λ r. ⌜ r ≡ judgedFrom unjudged (now (chain .entry)) ⌝ }
+{
+    let mut judged = turns::judge_none();
+    let mut i: usize = 0;
+    while i < chain.len() {
+        judged = turns::judge_one(judged, chain[i]);
+        i += 1;
+    }
+    judged
+}

@@ -1,0 +1,136 @@
+-- A header leaves any device before the first bit of its slice, whatever it did before, and nothing is sent. SYNC pushes all that was there out
+-- of the window; the command bits are read as numbers, by cases; the count bits by induction, after a leading one.
+use mathlib.Core.Path.{_≡_, refl, ap, _∙_}
+use mathlib.Core.List.{List, [], _∷_, _++_, append-assoc}
+use Prim.Native.Nat.{ℕ, zero, suc, _+_, _*_, _/_, _%_, _^_, _<_, _≤_}
+use native.Mathlib.Nat.{mod-lt, pow-succ', mul-le-mul-left, mul-assoc, add-mul}
+use native.Mathlib.Omega.{arith}
+use lib.Dec.{lit<}
+use lib.Arith.{mod-mul}
+use lib.Pow.{pow-pos}
+use borrow.Author.Tests.{lt-ltb, le-ltb}
+use Rattle.parts.specs.Parts.{code}
+use Rattle.parts.proofs.Laws.{command-code}
+use Rattle.parts.specs.Wire.{header, statesOf}
+use Rattle.parts.specs.declared.command.Command.{Command}
+use Rattle.parts.specs.declared.command.Command.the-variants.{Individual, Calibration, Global, Configuration}
+use Rattle.device.specs.Phases.{phaseOf, placeOf, windowOf}
+use Rattle.device.specs.Step.{step, stepHigh, sentStates, at}
+use Rattle.device.specs.Run.{run}
+use Rattle.device.specs.declared.phase.Phase.{Phase}
+use Rattle.device.specs.declared.phase.Phase.the-variants.{Hunting, Counting, Slice}
+use Rattle.device.specs.declared.registers.Registers.{Registers}
+use Rattle.device.specs.declared.device.Device.{Device}
+use Rattle.turns.specs.Front.{sliceStart}
+use Rattle.turns.proofs.Lines.{bitStates, header-parts}
+
+-- a run of two lists is the run of the first and then of the second
+pub run-append : (d : Device) (xs ys : List ℕ) → run d (xs ++ ys) ≡ (run (run d xs .0) ys .0, run d xs .1 ++ run (run d xs .0) ys .1)
+unfolding run
+run-append d [] ys = refl
+run-append d (x ∷ xs) ys =
+    rw append-assoc
+    (ap (λ (p : Device × List ℕ). (p .0, sentStates (step d x .sent) ++ p .1)) (run-append (step d x .device) xs ys))
+
+pub run-then : (d : Device) (xs ys : List ℕ) {e f : Device} {ss ts : List ℕ} → run d xs ≡ (e, ss) → run e ys ≡ (f, ts) → run d (xs ++ ys) ≡ (f, ss ++ ts)
+run-then d xs ys p q = run-append d xs ys ∙ rw (p, q)
+
+-- ---- SYNC
+
+-- the window that a record holds is kept below 256
+again : (m s : ℕ) → (m % 256 % 256 * 2 + s) % 256 ≡ (m % 256 * 2 + s) % 256
+again m s = omega arith
+
+-- eight bits push all that was there out of the window
+eight : (w : ℕ) → ((((((((w * 2 + 1) % 256 * 2 + 1) % 256 * 2 + 1) % 256 * 2 + 0) % 256 * 2 + 1) % 256 * 2 + 0) % 256 * 2 + 0) % 256 * 2 + 0) % 256 ≡ 232
+eight w = omega arith
+
+abbrev hunting : Registers → ℕ → Device
+hunting r w = at r (Hunting w)
+
+-- a run over a low state
+hears : (r : Registers) (m : ℕ) (xs : List ℕ) (s : ℕ) → s < 2 → run (hunting r (m % 256)) (s ∷ xs) ≡ run (hunting r ((m % 256 * 2 + s) % 256)) xs
+unfolding run
+hears r m xs s h = rw (lt-ltb s 2 h, again m s) refl
+
+first-hears : (d : Device) (xs : List ℕ) → run d (1 ∷ xs) ≡ run (hunting (d .registers) ((windowOf (phaseOf (d .place)) * 2 + 1) % 256)) xs
+unfolding run
+first-hears d xs = refl
+
+synced : (d : Device) (xs : List ℕ) → run d (1 ∷ 1 ∷ 1 ∷ 0 ∷ 1 ∷ 0 ∷ 0 ∷ 0 ∷ xs) ≡ run (hunting (d .registers) 0xE8) xs
+synced d xs =
+    let r = d .registers in
+    let w = windowOf (phaseOf (d .place)) in
+    let m1 : ℕ = w * 2 + 1 in
+    let m2 : ℕ = m1 % 256 * 2 + 1 in
+    let m3 : ℕ = m2 % 256 * 2 + 1 in
+    let m4 : ℕ = m3 % 256 * 2 + 0 in
+    let m5 : ℕ = m4 % 256 * 2 + 1 in
+    let m6 : ℕ = m5 % 256 * 2 + 0 in
+    let m7 : ℕ = m6 % 256 * 2 + 0 in
+    first-hears d (1 ∷ 1 ∷ 0 ∷ 1 ∷ 0 ∷ 0 ∷ 0 ∷ xs)
+    ∙ hears r m1 (1 ∷ 0 ∷ 1 ∷ 0 ∷ 0 ∷ 0 ∷ xs) 1 (lit< tt)
+    ∙ hears r m2 (0 ∷ 1 ∷ 0 ∷ 0 ∷ 0 ∷ xs) 1 (lit< tt)
+    ∙ hears r m3 (1 ∷ 0 ∷ 0 ∷ 0 ∷ xs) 0 (lit< tt)
+    ∙ hears r m4 (0 ∷ 0 ∷ 0 ∷ xs) 1 (lit< tt)
+    ∙ hears r m5 (0 ∷ 0 ∷ xs) 0 (lit< tt)
+    ∙ hears r m6 (0 ∷ xs) 0 (lit< tt)
+    ∙ hears r m7 xs 0 (lit< tt)
+    ∙ ap (λ (n : ℕ). run (hunting r n) xs) (eight w)
+
+-- ---- the command
+
+commanded : (r : Registers) (c : Command) (xs : List ℕ)
+    → run (hunting r 0xE8) ((code c / 2 % 2 + 2) ∷ (code c / 1 % 2 + 2) ∷ (code c / 2 % 2 + 2) ∷ (code c / 1 % 2 + 2) ∷ (code c / 2 % 2 + 2) ∷ (code c / 1 % 2 + 2) ∷ xs) ≡ run (at r (Counting c 1)) xs
+unfolding run
+commanded r Individual xs = refl
+commanded r Calibration xs = refl
+commanded r Global xs = refl
+commanded r Configuration xs = refl
+
+-- ---- the count
+
+high-bit : (b : ℕ) → b < 2 → (b + 2) % 2 ≡ b
+high-bit b h = omega arith
+
+count-place : (c : Command) (m : ℕ) → phaseOf (placeOf (Counting c m)) ≡ Counting c m
+count-place c m = rw (command-code c)
+
+-- the low bits of a number: its next bit and the bits below
+next-bit : (n k : ℕ) → n % 2 ^ suc k ≡ n / 2 ^ k % 2 * 2 ^ k + n % 2 ^ k
+next-bit n k = rw (pow-succ' 2 k) (mod-mul n (lit< tt) (pow-pos k))
+
+high-load : (r : Registers) (p : Phase) (b : ℕ) → phaseOf (placeOf p) ≡ p → step (at r p) (b + 2) ≡ stepHigh r p (b + 2)
+high-load r p b e = let h : 2 ≤ b + 2 = omega arith in rw (le-ltb (b + 2) 2 h, e)
+
+-- the count bits that are left, after m
+counted : (k : ℕ) (r : Registers) (c : Command) (n m v : ℕ) → v ≡ m * 2 ^ suc k + n % 2 ^ suc k → 1024 ≤ v → v < 2048
+    → run (at r (Counting c m)) (bitStates (suc k) n) ≡ (at r (Slice c (v % 1024) 0), [])
+unfolding run bitStates
+counted zero r c n m v e l u =
+    let b : n / 2 ^ 0 % 2 < 2 = mod-lt (n / 2 ^ 0) (lit< tt) in
+    let f : v ≡ m * 2 + n / 2 ^ 0 % 2 = omega arith in
+    let g : 1024 ≤ m * 2 + n / 2 ^ 0 % 2 = omega arith in
+    rw (high-load r (Counting c m) (n / 2 ^ 0 % 2) (count-place c m), high-bit (n / 2 ^ 0 % 2) b, le-ltb (m * 2 + n / 2 ^ 0 % 2) 1024 g, f)
+counted (suc k) r c n m v e l u =
+    let x = n / 2 ^ suc k % 2 in
+    let p = 2 ^ suc k in
+    let b : x < 2 = mod-lt (n / p) (lit< tt) in
+    let f : v ≡ (m * 2 + x) * p + n % p =
+    let e′ = rw (next-bit n (suc k), pow-succ' 2 (suc k)) at e in
+    rw (add-mul (m * 2) x p, mul-assoc m 2 p) (omega arith) in
+    let two : 2 ≤ p = rw (pow-succ' 2 k) (omega (arith, pow-pos k)) in
+    let g : m * 2 + x < 1024 = omega (arith, mul-le-mul-left (m * 2 + x) two) in
+    rw (high-load r (Counting c m) x (count-place c m), high-bit x b, lt-ltb (m * 2 + x) 1024 g)
+    (counted k r c n (m * 2 + x) v f l u)
+
+all-count : (n : ℕ) → n < 1024 → 1024 + n ≡ 1 * 2 ^ 10 + n % 2 ^ 10
+all-count n h = omega arith
+
+low-count : (n : ℕ) → n < 1024 → (1024 + n) % 1024 ≡ n
+low-count n h = omega arith
+
+pub run-header : (d : Device) (c : Command) (n : ℕ) → n < 1024 → run d (statesOf (header c n)) ≡ (sliceStart d c n, [])
+run-header d c n h =
+    ap (λ (ss : List ℕ). run d ss) (header-parts c n) ∙ synced d _ ∙ commanded (d .registers) c (bitStates 10 n)
+    ∙ (rw (low-count n h) at (counted 9 (d .registers) c n 1 (1024 + n) (all-count n h) (omega arith) (omega arith)))

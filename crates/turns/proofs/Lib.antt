@@ -1,0 +1,10 @@
+-- Laws under the calls on a lent chain.
+pub mod Judged
+pub mod Lines
+pub mod Header
+pub mod Taking
+pub mod Turns
+pub mod Resuming
+pub mod Same
+pub mod Room
+pub mod Whole

@@ -1,0 +1,508 @@
+-- A run by its front is the plain chain: each turn leaves what is still to come as it was. Between turns the devices are those before the
+-- front, which pass, and the rest; what the first ones send of the states left, after a header under way, goes into the rest.
+use mathlib.Core.Path.{_≡_, refl, ap, sym, _∙_, subst}
+use mathlib.Core.Bool.{Bool, true, false, not, _&&_, cond, true≢false}
+use mathlib.Core.List.{List, [], _∷_, _++_, append-assoc}
+use Prim.Native.Nat.{ℕ, zero, suc, _+_, _<_, _≤_}
+use native.Mathlib.Omega.{arith}
+use lib.Dec.{ltb, leb, eqb}
+use lib.ListN.{length, getD, set, take, drop, length-append, take-append-drop}
+use lib.Seq.{set-at, set-getD, getD-at, drop-drop, drop-append-seam, length-take-le}
+use borrow.Author.Tests.{ltb-true, ltb-false, leb-true, leb-false, eqb-true, eq-eqb}
+use Rattle.parts.specs.Wire.{header, statesOf}
+use Rattle.parts.specs.declared.command.Command.{Command}
+use Rattle.device.specs.Phases.{phaseOf, placeOf}
+use Rattle.device.specs.Step.{sentStates}
+use Rattle.device.specs.Judgement.{fits, placeFits}
+use Rattle.device.specs.Run.{run}
+use Rattle.device.specs.declared.phase.Place.{Place}
+use Rattle.device.specs.declared.phase.Phase.{Phase}
+use Rattle.device.specs.declared.phase.Phase.the-variants.{Hunting, Opening, Counting, Slice, Passing, Lost}
+use Rattle.device.specs.declared.phase.Sent.{Sent}
+use Rattle.device.specs.declared.phase.Sent.the-variants.{Nothing, One, Header}
+use Rattle.device.specs.declared.registers.Registers.{Registers}
+use Rattle.device.specs.declared.device.Device.{Device}
+use Rattle.device.proofs.Places.{place-phase}
+use Rattle.intake.specs.Intake.{stopped}
+use Rattle.intake.specs.declared.states.Taken.{Taken}
+use Rattle.calls.specs.Chain.{through, allFit, blank}
+use Rattle.turns.specs.declared.cursor.Cursor.{Cursor}
+use Rattle.turns.specs.declared.turning.Turned.{Turned}
+use Rattle.turns.specs.Front.{isPassing, passes, untilSent, frontTaken, sliceStart, deviceTaken, putAll, putEnd, highs, indexOf, cursor, facing, aimed, frontAfter, lineCursor, lineOut, deviceTurn, lineTurn, turnWithin, turnedOut, Running, turning, turns, started, enough, frontRun}
+use Rattle.turns.proofs.Lines.{put-full, length-put, put-append, highs-fit, length-header-states}
+use Rattle.turns.proofs.Header.{run-then, run-header}
+use Rattle.turns.proofs.Taking.{by-test, through-append, High, AllPass, none, also, passer, through-high, Takes, takes-none, takes, Ending, quiet, sent, endings, ending-low}
+use Rattle.turns.proofs.Turns.{no-way, owed, low-front, turned-is, turned-out-is, Good, measure, good-start, good-next, nearer-next, turns-on, turns-stop, near-start}
+
+abbrev Whole : Type 0
+Whole = List Device × List ℕ
+
+-- what is written, and where it ends
+abbrev wrote : List ℕ → ℕ → List ℕ → List ℕ × ℕ
+wrote ws w xs = (putAll ws w xs, putEnd (length ws) w (length xs))
+
+abbrev headerStates : Command → ℕ → List ℕ
+headerStates c n = statesOf (header c n)
+
+-- the states of a header that is under way
+abbrev underWay : Sent → List ℕ
+underWay Nothing = []
+underWay (One b) = []
+underWay (Header c n) = headerStates c n
+
+-- the devices a has run; what it sent, after q, goes into qs
+abbrev joined : Whole → List Device → List ℕ → Whole
+joined a qs q = (a .0 ++ through qs (q ++ a .1) .0, through qs (q ++ a .1) .1)
+
+abbrev mid : Whole → Device → List ℕ → List Device → Whole
+mid a e q qs = (a .0 ++ (run e (a .1) .0 ∷ through qs (q ++ run e (a .1) .1) .0), through qs (q ++ run e (a .1) .1) .1)
+
+here : (a : Whole) (e : Device) (qs : List Device) → joined a (e ∷ qs) [] ≡ mid a e [] qs
+unfolding through
+here a e qs = refl
+
+one-device : (e : Device) (ss : List ℕ) → through (e ∷ []) ss ≡ (run e ss .0 ∷ [], run e ss .1)
+unfolding through
+one-device e ss = refl
+
+moves-on : (ps : List Device) (e : Device) (qs : List Device) (q rest : List ℕ) → joined (through (ps ++ (e ∷ [])) rest) qs q ≡ mid (through ps rest) e q qs
+moves-on ps e qs q rest =
+    ap (λ (a : Whole). joined a qs q) (through-append ps (e ∷ []) rest)
+    ∙ ap (λ (b : Whole). joined (through ps rest .0 ++ b .0, b .1) qs q) (one-device e (through ps rest .1))
+    ∙ ap (λ (ds : List Device). (ds, through qs (q ++ run e (through ps rest .1) .1) .1)) (append-assoc (through ps rest .0) (run e (through ps rest .1) .0 ∷ []) (through qs (q ++ run e (through ps rest .1) .1) .0))
+
+-- the states that a device takes go by the devices before it, which pass: there are none, or the states are high
+goes-by : (first : Bool) (ps : List Device) (d : Device) (ss : List ℕ) (k : ℕ) (t : Taken) → AllPass ps → (first ≡ true → ps ≡ []) → (x : Takes first d ss k t)
+    → through ps (x .own ++ x .rest) ≡ (through ps (x .rest) .0, x .own ++ through ps (x .rest) .1)
+unfolding through
+goes-by true ps d ss k t a h x =
+    subst (λ (bs : List Device). through bs (x .own ++ x .rest) ≡ (through bs (x .rest) .0, x .own ++ through bs (x .rest) .1)) (sym (h refl)) refl
+goes-by false ps d ss k t a h x = through-high ps (x .own) (x .rest) a (x .high refl)
+
+-- a device takes the header that is under way and then states
+takes-on : (first : Bool) (ps qs : List Device) (d d0 : Device) (ins rest : List ℕ) (k : ℕ) (t : Taken) → AllPass ps → (first ≡ true → ps ≡ []) → run d ins ≡ (d0, []) → (x : Takes first d0 rest k t)
+    → joined (through ps rest) (d ∷ qs) ins ≡ mid (through ps (x .rest)) (t .device) (sentStates (t .sent)) qs
+unfolding through
+takes-on first ps qs d d0 ins rest k t a f h x =
+    ap (λ (r : List ℕ). joined (through ps r) (d ∷ qs) ins) (x .whole)
+    ∙ ap (λ (b : Whole). joined b (d ∷ qs) ins) (goes-by first ps d0 rest k t a f x)
+    ∙ ap (λ (y : Device × List ℕ). (through ps (x .rest) .0 ++ (y .0 ∷ through qs (y .1) .0), through qs (y .1) .1))
+    (run-then d ins (x .own ++ through ps (x .rest) .1) h (run-then d0 (x .own) (through ps (x .rest) .1) (x .runs) refl))
+
+-- ---- what holds between turns
+-- a record that passes has the numbers of that phase alone
+abbrev pub Neat : Device → Type 0
+Neat d = passes d ≡ true → d ≡ passer (d .registers)
+
+abbrev pub AllNeat : List Device → Type 0
+AllNeat [] = Unit {0}
+AllNeat (d ∷ ds) = Neat d × AllNeat ds
+
+neat-append : (ps qs : List Device) → AllPass ps → AllNeat qs → AllNeat (ps ++ qs)
+neat-append [] qs none h = h
+neat-append (d ∷ ps) qs (also a) h = (λ _. refl, neat-append ps qs a h)
+
+no-more : (qs : List Device) → length qs ≡ 0 → qs ≡ []
+no-more [] e = refl
+no-more (q ∷ qs) e = absurd (omega (arith, e))
+
+Small : Sent → Type 0
+Small Nothing = Unit {0}
+Small (One b) = Unit {0}
+Small (Header c n) = n < 1024
+
+module _ (ss : List ℕ) (fin : List Device × (List ℕ × ℕ)) where
+  record Holds (ys : List Device) (ws : List ℕ) (f at w : ℕ) (p : Sent) : Type 0 where
+    pub ps : List Device
+    pub qs : List Device
+    pub split : ys ≡ ps ++ qs
+    pub count : length ps ≡ f
+    pub passing : AllPass ps
+    pub neat : AllNeat qs
+    pub small : Small p
+    pub devices : joined (through ps (drop at ss)) qs (underWay p) .0 ≡ fin .0
+    pub out : wrote ws w (joined (through ps (drop at ss)) qs (underWay p) .1) ≡ fin .1
+
+  pass-more : (ps : List Device) (r : Registers) → AllPass ps → AllPass (ps ++ (passer r ∷ []))
+  pass-more [] r a = also a
+  pass-more (d ∷ ps) r (also a) = also (pass-more ps r a)
+
+  left : (at k : ℕ) (hs rest : List ℕ) → drop at ss ≡ hs ++ rest → k ≡ at + length hs → drop k ss ≡ rest
+  left at k hs rest e h =
+      ap (λ (n : ℕ). drop n ss) h ∙ sym (drop-drop (length hs) at ss) ∙ ap (λ (xs : List ℕ). drop (length hs) xs) e ∙ drop-append-seam hs rest
+
+  -- the front device d, with what is under way, becomes e and sends nothing
+  stays : (first : Bool) (ps qs : List Device) (d d0 e : Device) (ws : List ℕ) (f at k w : ℕ) (ins : List ℕ) → length ps ≡ f → AllPass ps → (first ≡ true → ps ≡ []) → AllNeat (e ∷ qs) → run d ins ≡ (d0, []) → Takes first d0 (drop at ss) at (stopped e k Nothing)
+      → joined (through ps (drop at ss)) (d ∷ qs) ins .0 ≡ fin .0 → wrote ws w (joined (through ps (drop at ss)) (d ∷ qs) ins .1) ≡ fin .1
+      → Holds (set (ps ++ d ∷ qs) f e) ws f k w Nothing
+  unfolding Small
+  stays first ps qs d d0 e ws f at k w ins l a z ne h x u v =
+      let m : joined (through ps (drop at ss)) (d ∷ qs) ins ≡ joined (through ps (drop k ss)) (e ∷ qs) [] =
+      takes-on first ps qs d d0 ins (drop at ss) at (stopped e k Nothing) a z h x ∙ sym (here (through ps (x .rest)) e qs) ∙ ap (λ (r : List ℕ). joined (through ps r) (e ∷ qs) []) (sym (left at k (x .own) (x .rest) (x .whole) (x .far))) in
+      record {
+        ps = ps;
+        qs = e ∷ qs;
+        split = set-at ps d qs e f l;
+        count = l;
+        passing = a;
+        neat = ne;
+        small = tt;
+        devices = sym (ap (λ (b : Whole). b .0) m) ∙ u;
+        out = sym (ap (λ (b : Whole). wrote ws w (b .1)) m) ∙ v;
+      }
+
+  -- the front device d, with what is under way, becomes t's
+  after : (first : Bool) (ps qs : List Device) (d d0 : Device) (ws : List ℕ) (f at w : ℕ) (ins : List ℕ) (t : Taken) → length ps ≡ f → AllPass ps → (first ≡ true → ps ≡ []) → AllNeat qs → run d ins ≡ (d0, []) → Takes first d0 (drop at ss) at t → Ending t
+      → joined (through ps (drop at ss)) (d ∷ qs) ins .0 ≡ fin .0 → wrote ws w (joined (through ps (drop at ss)) (d ∷ qs) ins .1) ≡ fin .1
+      → Holds (set (ps ++ d ∷ qs) f (t .device)) ws (frontAfter f (t .sent)) (t .at) w (t .sent)
+  unfolding Small
+  after first ps qs d d0 ws f at w ins t l a z ne h x (quiet {d = e} {k} p) u v = stays first ps qs d d0 e ws f at k w ins l a z ((λ q. absurd (true≢false (sym q ∙ p))), ne) h x u v
+  after first ps qs d d0 ws f at w ins t l a z ne h x (sent {r} {k} {c} {n} few) u v =
+      let m : joined (through ps (drop at ss)) (d ∷ qs) ins ≡ joined (through (ps ++ (passer r ∷ [])) (drop k ss)) qs (headerStates c n) =
+      takes-on first ps qs d d0 ins (drop at ss) at (stopped (passer r) k (Header c n)) a z h x ∙ sym (moves-on ps (passer r) qs (headerStates c n) (x .rest)) ∙ ap (λ (y : List ℕ). joined (through (ps ++ (passer r ∷ [])) y) qs (headerStates c n)) (sym (left at k (x .own) (x .rest) (x .whole) (x .far))) in
+      record {
+        ps = ps ++ (passer r ∷ []);
+        qs = qs;
+        split = set-at ps d qs (passer r) f l ∙ sym (append-assoc ps (passer r ∷ []) qs);
+        count = length-append ps (passer r ∷ []) ∙ ap (λ (y : ℕ). y + 1) l;
+        passing = pass-more ps r a;
+        neat = ne;
+        small = few;
+        devices = sym (ap (λ (b : Whole). b .0) m) ∙ u;
+        out = sym (ap (λ (b : Whole). wrote ws w (b .1)) m) ∙ v;
+      }
+
+  -- ---- the turn of a device, by what comes next
+
+  nothing-in : (d : Device) → run d [] ≡ (d, [])
+  unfolding run
+  nothing-in d = refl
+
+  first-none : (f : ℕ) (ps : List Device) → length ps ≡ f → eqb f 0 ≡ true → ps ≡ []
+  first-none f ps l e = no-more ps (l ∙ eqb-true f 0 e)
+
+  HoldsTaken : List Device → List Device → Device → List ℕ → ℕ → ℕ → Taken → Type 0
+  HoldsTaken ps qs d ws f w t = Holds (set (ps ++ d ∷ qs) f (t .device)) ws (frontAfter f (t .sent)) (t .at) w (t .sent)
+
+  fronts : (ps qs : List Device) (d : Device) (ws : List ℕ) (f at w : ℕ) (rest : List ℕ) → drop at ss ≡ rest → length ps ≡ f → AllPass ps → AllNeat (d ∷ qs)
+      → ((s : ℕ) (xs : List ℕ) → rest ≡ s ∷ xs → ltb s 2 ≡ true → f ≡ 0)
+      → joined (through ps (drop at ss)) (d ∷ qs) [] .0 ≡ fin .0 → wrote ws w (joined (through ps (drop at ss)) (d ∷ qs) [] .1) ≡ fin .1
+      → HoldsTaken ps qs d ws f w (frontTaken (eqb f 0) d rest at)
+  unfolding HoldsTaken Small
+  fronts ps qs d ws f at w [] e l a ne z u v =
+      stays (eqb f 0) ps qs d d d ws f at at w [] l a (first-none f ps l) ne (nothing-in d) (takes-none (eqb f 0) d (drop at ss) at) u v
+  fronts ps qs d ws f at w (s ∷ xs) e l a ne z u v = go (passes d) refl (ltb s 2) refl
+    where
+      passing : d ≡ passer (d .registers) → Holds (set (ps ++ d ∷ qs) f d) ws (f + 1) at w (One 0)
+      passing g =
+          let m : joined (through ps (drop at ss)) (d ∷ qs) [] ≡ joined (through (ps ++ (d ∷ [])) (drop at ss)) qs [] = here (through ps (drop at ss)) d qs ∙ sym (moves-on ps d qs [] (drop at ss)) in
+          record {
+            ps = ps ++ (d ∷ []);
+            qs = qs;
+            split = set-at ps d qs d f l ∙ sym (append-assoc ps (d ∷ []) qs);
+            count = length-append ps (d ∷ []) ∙ ap (λ (y : ℕ). y + 1) l;
+            passing = subst (λ (y : Device). AllPass (ps ++ (y ∷ []))) (sym g) (pass-more ps (d .registers) a);
+            neat = ne .1;
+            small = tt;
+            devices = sym (ap (λ (b : Whole). b .0) m) ∙ u;
+            out = sym (ap (λ (b : Whole). wrote ws w (b .1)) m) ∙ v;
+          }
+
+      taking : Ending (untilSent (eqb f 0) d (s ∷ xs) at) → HoldsTaken ps qs d ws f w (untilSent (eqb f 0) d (s ∷ xs) at)
+      taking end =
+          after (eqb f 0) ps qs d d ws f at w [] (untilSent (eqb f 0) d (s ∷ xs) at) l a (first-none f ps l) (ne .1) (nothing-in d)
+          (subst (λ (r : List ℕ). Takes (eqb f 0) d r at (untilSent (eqb f 0) d (s ∷ xs) at)) (sym e) (takes (eqb f 0) d (s ∷ xs) at)) end u v
+
+      go : (p : Bool) → passes d ≡ p → (low : Bool) → ltb s 2 ≡ low → HoldsTaken ps qs d ws f w (cond (p && not low) (stopped d at (One 0)) (untilSent (eqb f 0) d (s ∷ xs) at))
+      go true g false h = passing (ne .0 g)
+      go false g low h = taking (endings (eqb f 0) d (s ∷ xs) at g)
+      go true g true h =
+          taking (subst (λ (b : Bool). Ending (untilSent b d (s ∷ xs) at)) (sym (eq-eqb f 0 (z s xs refl h))) (ending-low d s xs at h))
+
+  -- the front device's turn, whatever is under way
+  serves : (ps qs : List Device) (d : Device) (ws : List ℕ) (f at w : ℕ) (p : Sent) → length ps ≡ f → AllPass ps → AllNeat (d ∷ qs) → Small p
+      → ((s : ℕ) (xs : List ℕ) → drop at ss ≡ s ∷ xs → owed p ≡ 0 → ltb s 2 ≡ true → f ≡ 0)
+      → joined (through ps (drop at ss)) (d ∷ qs) (underWay p) .0 ≡ fin .0 → wrote ws w (joined (through ps (drop at ss)) (d ∷ qs) (underWay p) .1) ≡ fin .1
+      → HoldsTaken ps qs d ws f w (deviceTaken (eqb f 0) d p (drop at ss) at)
+  unfolding HoldsTaken Small
+  serves ps qs d ws f at w Nothing l a ne k z u v = fronts ps qs d ws f at w (drop at ss) refl l a ne (λ s xs e h. z s xs e refl h) u v
+  serves ps qs d ws f at w (One b) l a ne k z u v = fronts ps qs d ws f at w (drop at ss) refl l a ne (λ s xs e h. z s xs e refl h) u v
+  serves ps qs d ws f at w (Header c n) l a ne k z u v =
+      after false ps qs d (sliceStart d c n) ws f at w (headerStates c n) (untilSent false (sliceStart d c n) (drop at ss) at) l a (λ e. absurd (true≢false (sym e))) (ne .1) (run-header d c n k) (takes false (sliceStart d c n) (drop at ss) at) (endings false (sliceStart d c n) (drop at ss) at refl) u v
+
+  -- ---- the cursor is aimed
+  reset : (ys : List Device) (ws : List ℕ) (f at w : ℕ) → Holds ys ws f at w Nothing → Holds ys ws 0 at w Nothing
+  unfolding Small through
+  reset ys ws f at w h =
+      let m : joined (through (h .ps) (drop at ss)) (h .qs) [] ≡ through ys (drop at ss) = sym (through-append (h .ps) (h .qs) (drop at ss)) ∙ ap (λ (b : List Device). through b (drop at ss)) (sym (h .split)) in
+      record {
+        ps = [];
+        qs = ys;
+        split = refl;
+        count = refl;
+        passing = none;
+        neat = subst AllNeat (sym (h .split)) (neat-append (h .ps) (h .qs) (h .passing) (h .neat));
+        small = tt;
+        devices = sym (ap (λ (b : Whole). b .0) m) ∙ h .devices;
+        out = sym (ap (λ (b : Whole). wrote ws w (b .1)) m) ∙ h .out;
+      }
+
+  abbrev HoldsAt : List Device → List ℕ → Cursor → Type 0
+  HoldsAt ys ws c = Holds ys ws (c .front) (c .at) (c .written) (c .pending)
+
+  facing-holds : (n : ℕ) (ys : List Device) (ws : List ℕ) (f at w : ℕ) (rest : List ℕ) → Holds ys ws f at w Nothing → HoldsAt ys ws (facing n f at w rest)
+  facing-holds n ys ws f at w [] h = h
+  facing-holds n ys ws f at w (s ∷ xs) h = by-test (ltb s 2) (cursor n 0 0 at w Nothing true) (cursor n f (indexOf n f) at w Nothing true) (HoldsAt ys ws) (reset ys ws f at w h) h
+
+  one-none : (ys : List Device) (ws : List ℕ) (f at w b : ℕ) → Holds ys ws f at w (One b) → Holds ys ws f at w Nothing
+  unfolding Small
+  one-none ys ws f at w b h = record { ps = h .ps; qs = h .qs; split = h .split; count = h .count; passing = h .passing; neat = h .neat; small = tt; devices = h .devices; out = h .out }
+
+  aim-holds : (n : ℕ) (ys : List Device) (ws : List ℕ) (f at w : ℕ) (p : Sent) (rest : List ℕ) → Holds ys ws f at w p → HoldsAt ys ws (aimed n f at w p rest)
+  aim-holds n ys ws f at w Nothing rest h = facing-holds n ys ws f at w rest h
+  aim-holds n ys ws f at w (One b) rest h = facing-holds n ys ws f at w rest (one-none ys ws f at w b h)
+  aim-holds n ys ws f at w (Header c k) rest h = h
+
+  -- ---- the line's turn
+  full-or-not : (room w k : ℕ) (P : ℕ → Type 0) → (w + k ≤ room → P (w + k)) → (room < w + k → P room) → P (putEnd room w k)
+  full-or-not room w k P a b = go (leb (w + k) room) refl
+    where
+      go : (t : Bool) → leb (w + k) room ≡ t → P (cond t (w + k) room)
+      go true e = a (leb-true (w + k) room e)
+      go false e = b (leb-false (w + k) room e)
+
+  fill-put : (ws : List ℕ) (room w k : ℕ) (xs : List ℕ) → length ws ≡ room → putAll ws (w + k) xs ≡ putAll ws (putEnd room w k) xs
+  fill-put ws room w k xs e =
+      full-or-not room w k (λ (n : ℕ). putAll ws (w + k) xs ≡ putAll ws n xs) (λ h. refl)
+      (λ h. put-full ws (w + k) xs (omega (arith, e, h)) ∙ sym (put-full ws room xs (omega (arith, e))))
+
+  fill-fill : (room w a b : ℕ) → putEnd room w (a + b) ≡ putEnd room (putEnd room w a) b
+  fill-fill room w a b =
+      full-or-not room w a (λ (n : ℕ). putEnd room w (a + b) ≡ putEnd room n b)
+      (λ h. full-or-not room w (a + b) (λ (x : ℕ). x ≡ putEnd room (w + a) b)
+      (λ g. full-or-not room (w + a) b (λ (y : ℕ). w + (a + b) ≡ y) (λ i. omega arith) (λ i. omega (arith, g, i)))
+      (λ g. full-or-not room (w + a) b (λ (y : ℕ). room ≡ y) (λ i. omega (arith, g, i)) (λ i. refl)))
+      (λ h. full-or-not room w (a + b) (λ (x : ℕ). x ≡ putEnd room room b)
+      (λ g. absurd (omega (arith, g, h)))
+      (λ g. full-or-not room room b (λ (y : ℕ). room ≡ y) (λ i. omega (arith, i)) (λ i. refl)))
+
+  wrote-append : (ws : List ℕ) (w : ℕ) (xs ys : List ℕ) (k : ℕ) → length xs ≡ k → wrote ws w (xs ++ ys) ≡ wrote (putAll ws w xs) (putEnd (length ws) w k) ys
+  wrote-append ws w xs ys k e =
+      ap (λ (zs : List ℕ). (zs, putEnd (length ws) w (length (xs ++ ys)))) (put-append ws w xs ys ∙ ap (λ (n : ℕ). putAll (putAll ws w xs) (w + n) ys) e ∙ fill-put (putAll ws w xs) (length ws) w k ys (length-put ws w xs))
+      ∙ ap (λ (n : ℕ). (putAll (putAll ws w xs) (putEnd (length ws) w k) ys, putEnd (length ws) w n)) (length-append xs ys ∙ ap (λ (n : ℕ). n + length ys) e)
+      ∙ ap (λ (n : ℕ). (putAll (putAll ws w xs) (putEnd (length ws) w k) ys, n)) (fill-fill (length ws) w k (length ys))
+      ∙ ap (λ (n : ℕ). (putAll (putAll ws w xs) (putEnd (length ws) w k) ys, putEnd n (putEnd (length ws) w k) (length ys))) (sym (length-put ws w xs))
+
+  last-out : (a : Whole) (q : List ℕ) → joined a [] q ≡ (a .0 ++ [], q ++ a .1)
+  unfolding through
+  last-out a q = refl
+
+  leaves : (ys : List Device) (ws : List ℕ) (f at w : ℕ) (c : Command) (n : ℕ) → (h : Holds ys ws f at w (Header c n)) → h .qs ≡ [] → Holds ys (putAll ws w (headerStates c n)) f at (putEnd (length ws) w 24) Nothing
+  unfolding Small
+  leaves ys ws f at w c n h e =
+      let A : Whole = through (h .ps) (drop at ss) in
+      let m : joined (through (h .ps) (drop at ss)) (h .qs) (headerStates c n) ≡ (through (h .ps) (drop at ss) .0 ++ [], headerStates c n ++ through (h .ps) (drop at ss) .1) = ap (λ (b : List Device). joined (through (h .ps) (drop at ss)) b (headerStates c n)) e ∙ last-out (through (h .ps) (drop at ss)) (headerStates c n) in
+      let k : joined (through (h .ps) (drop at ss)) (h .qs) [] ≡ (through (h .ps) (drop at ss) .0 ++ [], through (h .ps) (drop at ss) .1) = ap (λ (b : List Device). joined (through (h .ps) (drop at ss)) b []) e ∙ last-out (through (h .ps) (drop at ss)) [] in
+      record {
+        ps = h .ps;
+        qs = h .qs;
+        split = h .split;
+        count = h .count;
+        passing = h .passing;
+        neat = h .neat;
+        small = tt;
+        devices = ap (λ (b : Whole). b .0) k ∙ sym (ap (λ (b : Whole). b .0) m) ∙ h .devices;
+        out = ap (λ (b : Whole). wrote (putAll ws w (headerStates c n)) (putEnd (length ws) w 24) (b .1)) k ∙ sym (wrote-append ws w (headerStates c n) (through (h .ps) (drop at ss) .1) 24 (length-header-states c n)) ∙ sym (ap (λ (b : Whole). wrote ws w (b .1)) m) ∙ h .out;
+      }
+
+  highs-high : (xs : List ℕ) → High (take (highs xs) xs)
+  unfolding highs
+  highs-high [] = none
+  highs-high (x ∷ xs) = go (highs-high xs) (ltb x 2) refl
+    where
+      go : High (take (highs xs) xs) → (t : Bool) → ltb x 2 ≡ t → High (take (cond t 0 (highs xs + 1)) (x ∷ xs))
+      go r true e = none
+      go r false e = subst (λ (n : ℕ). High (take n (x ∷ xs))) (one (highs xs)) (also e r)
+        where
+          one : (n : ℕ) → suc n ≡ n + 1
+          one n = omega arith
+
+  all-pass : (ys : List Device) (ws : List ℕ) (f at w : ℕ) → (h : Holds ys ws f at w Nothing) → h .qs ≡ []
+      → Holds ys (putAll ws w (take (highs (drop at ss)) (drop at ss))) f (at + highs (drop at ss)) (putEnd (length ws) w (highs (drop at ss))) Nothing
+  unfolding Small
+  all-pass ys ws f at w h e =
+      let R : List ℕ = drop at ss in
+      let hs : List ℕ = take (highs (drop at ss)) (drop at ss) in
+      let rest-is : drop (at + highs (drop at ss)) ss ≡ drop (highs (drop at ss)) (drop at ss) = sym (drop-drop (highs (drop at ss)) at ss) in
+      let B : Whole = through (h .ps) (drop (at + highs (drop at ss)) ss) in
+      let whole : drop at ss ≡ hs ++ drop (at + highs (drop at ss)) ss = sym (take-append-drop (highs (drop at ss)) (drop at ss)) ∙ ap (λ (r : List ℕ). take (highs (drop at ss)) (drop at ss) ++ r) (sym rest-is) in
+      let m : joined (through (h .ps) (drop at ss)) (h .qs) [] ≡ (B .0 ++ [], hs ++ B .1) =
+      ap (λ (b : List Device). joined (through (h .ps) (drop at ss)) b []) e ∙ last-out (through (h .ps) (drop at ss)) []
+      ∙ ap (λ (a : Whole). (a .0 ++ [], a .1)) (ap (λ (r : List ℕ). through (h .ps) r) whole ∙ through-high (h .ps) hs (drop (at + highs (drop at ss)) ss) (h .passing) (highs-high (drop at ss))) in
+      let k : joined B (h .qs) [] ≡ (B .0 ++ [], B .1) = ap (λ (b : List Device). joined B b []) e ∙ last-out B [] in
+      record {
+        ps = h .ps;
+        qs = h .qs;
+        split = h .split;
+        count = h .count;
+        passing = h .passing;
+        neat = h .neat;
+        small = tt;
+        devices = ap (λ (b : Whole). b .0) k ∙ sym (ap (λ (b : Whole). b .0) m) ∙ h .devices;
+        out = ap (λ (b : Whole). wrote (putAll ws w hs) (putEnd (length ws) w (highs (drop at ss))) (b .1)) k
+            ∙ sym (wrote-append ws w hs (B .1) (highs (drop at ss)) (length-take-le (highs (drop at ss)) (drop at ss) (highs-fit (drop at ss)))) ∙ sym (ap (λ (b : Whole). wrote ws w (b .1)) m) ∙ h .out;
+      }
+
+  -- ---- a whole turn
+  abbrev Aim : ℕ → ℕ → ℕ → ℕ → ℕ → Sent → Bool → List ℕ → Type 0
+  Aim n f i at w p g rest = cursor n f i at w p g ≡ aimed n f at w p rest
+
+  index-facing : (n f i at w : ℕ) (p : Sent) (g : Bool) (rest : List ℕ) → cursor n f i at w p g ≡ facing n f at w rest → ltb f n ≡ true → g ≡ true → i ≡ f
+  index-facing n f i at w p g [] e l v = absurd (no-way (sym (ap (λ (c : Cursor). c .going) e) ∙ v))
+  index-facing n f i at w p g (s ∷ xs) e l v = go (ltb s 2) refl
+    where
+      go : (t : Bool) → ltb s 2 ≡ t → i ≡ f
+      go true h =
+          let q : cursor n f i at w p g ≡ cursor n 0 0 at w Nothing true = e ∙ ap (λ (t : Bool). cond t (cursor n 0 0 at w Nothing true) (cursor n f (indexOf n f) at w Nothing true)) h in
+          ap (λ (c : Cursor). c .index) q ∙ sym (ap (λ (c : Cursor). c .front) q)
+      go false h =
+          let q : cursor n f i at w p g ≡ cursor n f (indexOf n f) at w Nothing true = e ∙ ap (λ (t : Bool). cond t (cursor n 0 0 at w Nothing true) (cursor n f (indexOf n f) at w Nothing true)) h in
+          ap (λ (c : Cursor). c .index) q ∙ ap (λ (t : Bool). cond t f 0) l
+
+  index-is : (n f i at w : ℕ) (p : Sent) (g : Bool) (rest : List ℕ) → Aim n f i at w p g rest → ltb f n ≡ true → g ≡ true → i ≡ f
+  index-is n f i at w Nothing g rest e l v = index-facing n f i at w Nothing g rest e l v
+  index-is n f i at w (One b) g rest e l v = index-facing n f i at w (One b) g rest e l v
+  index-is n f i at w (Header c m) g rest e l v = ap (λ (c : Cursor). c .index) e ∙ ap (λ (t : Bool). cond t f 0) l
+
+  device-holds : (ys : List Device) (ws : List ℕ) (n f i at w : ℕ) (p : Sent) (g : Bool) → (h : Holds ys ws f at w p) → Aim n f i at w p g (drop at ss) → i ≡ f → (qs : List Device) → h .qs ≡ qs → 0 < length qs
+      → HoldsAt (set ys i (deviceTurn (getD ys i blank) (cursor n f i at w p g) ss .device)) ws (deviceTurn (getD ys i blank) (cursor n f i at w p g) ss .cursor)
+  unfolding HoldsTaken
+  device-holds ys ws n f i at w p g h e j [] q l = absurd (omega (arith, l))
+  device-holds ys ws n f i at w p g h e j (d ∷ qs) q l =
+      let sp : ys ≡ h .ps ++ d ∷ qs = h .split ∙ ap (λ (b : List Device). h .ps ++ b) q in
+      let dd : getD ys i blank ≡ d = ap (λ (k : ℕ). getD ys k blank) j ∙ ap (λ (b : List Device). getD b f blank) sp ∙ getD-at (h .ps) d qs blank f (h .count) in
+      let t : Taken = deviceTaken (eqb f 0) d p (drop at ss) at in
+      let served : Holds (set (h .ps ++ d ∷ qs) f (t .device)) ws (frontAfter f (t .sent)) (t .at) w (t .sent) =
+      serves (h .ps) qs d ws f at w p (h .count) (h .passing) (subst AllNeat q (h .neat)) (h .small) (λ s xs r k u. low-front n f i at w p g s xs (e ∙ ap (λ (y : List ℕ). aimed n f at w p y) r) k u)
+      (ap (λ (b : List Device). joined (through (h .ps) (drop at ss)) b (underWay p) .0) (sym q) ∙ h .devices) (ap (λ (b : List Device). wrote ws w (joined (through (h .ps) (drop at ss)) b (underWay p) .1)) (sym q) ∙ h .out) in
+      let aims : HoldsAt (set (h .ps ++ d ∷ qs) f (t .device)) ws (deviceTurn d (cursor n f i at w p g) ss .cursor) =
+      aim-holds n (set (h .ps ++ d ∷ qs) f (t .device)) ws (frontAfter f (t .sent)) (t .at) w (t .sent) (drop (t .at) ss) served in
+      subst (λ (x : Device). HoldsAt (set ys i (deviceTurn x (cursor n f i at w p g) ss .device)) ws (deviceTurn x (cursor n f i at w p g) ss .cursor)) (sym dd)
+      (subst (λ (k : ℕ). HoldsAt (set ys k (deviceTurn d (cursor n f i at w p g) ss .device)) ws (deviceTurn d (cursor n f i at w p g) ss .cursor)) (sym j)
+      (subst (λ (b : List Device). HoldsAt (set b f (deviceTurn d (cursor n f i at w p g) ss .device)) ws (deviceTurn d (cursor n f i at w p g) ss .cursor)) (sym sp) aims))
+
+  line-holds : (ys : List Device) (ws : List ℕ) (n f i at w : ℕ) (p : Sent) (g : Bool) → (h : Holds ys ws f at w p) → h .qs ≡ []
+      → HoldsAt ys (lineOut (cursor n f i at w p g) ss ws) (lineCursor p (cursor n f i at w p g) ss (length ws))
+  unfolding one-none
+  line-holds ys ws n f i at w Nothing g h e = aim-holds n ys _ f (at + highs (drop at ss)) _ Nothing (drop (at + highs (drop at ss)) ss) (all-pass ys ws f at w h e)
+  line-holds ys ws n f i at w (One b) g h e = aim-holds n ys _ f (at + highs (drop at ss)) _ Nothing (drop (at + highs (drop at ss)) ss) (all-pass ys ws f at w (one-none ys ws f at w b h) (one-qs ys ws f at w b h e))
+    where
+      one-qs : (ys : List Device) (ws : List ℕ) (f at w b : ℕ) (h : Holds ys ws f at w (One b)) → h .qs ≡ [] → one-none ys ws f at w b h .qs ≡ []
+      one-qs ys ws f at w b h e = e
+  line-holds ys ws n f i at w (Header c m) g h e = aim-holds n ys _ f at _ Nothing (drop at ss) (leaves ys ws f at w c m h e)
+
+  turn-holds : (ys : List Device) (ws : List ℕ) (n f i at w : ℕ) (p : Sent) (g : Bool) → length ys ≡ n → Holds ys ws f at w p → Aim n f i at w p g (drop at ss) → g ≡ true
+      → HoldsAt (set ys i (turnWithin (getD ys i blank) (cursor n f i at w p g) ss (length ws) .device)) (cond (ltb f n) ws (lineOut (cursor n f i at w p g) ss ws)) (turnWithin (getD ys i blank) (cursor n f i at w p g) ss (length ws) .cursor)
+  turn-holds ys ws n f i at w p g l h e v = go (ltb f n) refl
+    where
+      long : length (h .ps) + length (h .qs) ≡ n
+      long = sym (length-append (h .ps) (h .qs)) ∙ sym (ap length (h .split)) ∙ l
+
+      go : (t : Bool) → ltb f n ≡ t → HoldsAt (set ys i (cond t (deviceTurn (getD ys i blank) (cursor n f i at w p g) ss) (lineTurn (getD ys i blank) (cursor n f i at w p g) ss (length ws)) .device)) (cond t ws (lineOut (cursor n f i at w p g) ss ws)) (cond t (deviceTurn (getD ys i blank) (cursor n f i at w p g) ss) (lineTurn (getD ys i blank) (cursor n f i at w p g) ss (length ws)) .cursor)
+      go true q = device-holds ys ws n f i at w p g h e (index-is n f i at w p g (drop at ss) e q v) (h .qs) refl (omega (arith, long, h .count, ltb-true f n q))
+      go false q =
+          subst (λ (b : List Device). HoldsAt b (lineOut (cursor n f i at w p g) ss ws) (lineCursor p (cursor n f i at w p g) ss (length ws))) (sym (set-getD ys i blank))
+          (line-holds ys ws n f i at w p g h (no-more (h .qs) (omega (arith, long, h .count, ltb-false f n q))))
+
+  -- ---- the end
+  through-none : (ds : List Device) → through ds [] ≡ (ds, [])
+  unfolding through run
+  through-none [] = refl
+  through-none (d ∷ ds) = ap (λ (r : Whole). (d ∷ r .0, r .1)) (through-none ds)
+
+  abbrev Ended : List Device → List ℕ → ℕ → Type 0
+  Ended ys ws w = (ys ≡ fin .0) × ((ws, w) ≡ fin .1)
+
+  ends-empty : (ys : List Device) (ws : List ℕ) (f at w : ℕ) → Holds ys ws f at w Nothing → drop at ss ≡ [] → w ≤ length ws → Ended ys ws w
+  unfolding putAll
+  ends-empty ys ws f at w h e l =
+      let m : joined (through (h .ps) (drop at ss)) (h .qs) [] ≡ (h .ps ++ h .qs, []) = ap (λ (r : List ℕ). joined (through (h .ps) r) (h .qs) []) e ∙ ap (λ (a : Whole). joined a (h .qs) []) (through-none (h .ps)) ∙ ap (λ (b : Whole). (h .ps ++ b .0, b .1)) (through-none (h .qs)) in (
+        h .split ∙ sym (ap (λ (b : Whole). b .0) m) ∙ h .devices,
+        ap (λ (k : ℕ). (ws, k)) (full-or-not (length ws) w 0 (λ (k : ℕ). w ≡ k) (λ g. omega arith) (λ g. absurd (omega (arith, g, l)))) ∙ sym (ap (λ (b : Whole). wrote ws w (b .1)) m) ∙ h .out,
+      )
+
+  ends-facing : (ys : List Device) (ws : List ℕ) (n f i at w : ℕ) (p : Sent) (g : Bool) (rest : List ℕ) → Holds ys ws f at w Nothing → drop at ss ≡ rest → cursor n f i at w p g ≡ facing n f at w rest → g ≡ false → w ≤ length ws → Ended ys ws w
+  ends-facing ys ws n f i at w p g [] h r e v l = ends-empty ys ws f at w h r l
+  ends-facing ys ws n f i at w p g (s ∷ xs) h r e v l =
+      absurd (no-way (sym v ∙ ap (λ (c : Cursor). c .going) e ∙ by-test (ltb s 2) (cursor n 0 0 at w Nothing true) (cursor n f (indexOf n f) at w Nothing true) (λ (c : Cursor). c .going ≡ true) refl refl))
+
+  end-holds : (ys : List Device) (ws : List ℕ) (n f i at w : ℕ) (p : Sent) (g : Bool) → Holds ys ws f at w p → Aim n f i at w p g (drop at ss) → g ≡ false → w ≤ length ws → Ended ys ws w
+  end-holds ys ws n f i at w Nothing g h e v l = ends-facing ys ws n f i at w Nothing g (drop at ss) h refl e v l
+  end-holds ys ws n f i at w (One b) g h e v l = ends-facing ys ws n f i at w (One b) g (drop at ss) (one-none ys ws f at w b h) refl e v l
+  end-holds ys ws n f i at w (Header c m) g h e v l = absurd (no-way (sym v ∙ ap (λ (c : Cursor). c .going) e))
+
+  -- ---- turn after turn
+  abbrev Same : Running → Type 0
+  Same r = Ended (r .devices) (r .out) (r .cursor .written)
+
+  finish : (t n room : ℕ) (r : Running) → Good n ss room r → HoldsAt (r .devices) (r .out) (r .cursor) → r .cursor .going ≡ false → Same (turns t ss r)
+  finish t n room r good h e =
+      subst Same (sym (turns-stop t ss r e))
+      (end-holds (r .devices) (r .out) (r .cursor .count) (r .cursor .front) (r .cursor .index) (r .cursor .at) (r .cursor .written) (r .cursor .pending) (r .cursor .going) h (good .aim) e (subst (λ (m : ℕ). r .cursor .written ≤ m) (sym (good .out)) (good .written)))
+
+  turns-same : (n room : ℕ) (r : Running) → Good n ss room r → HoldsAt (r .devices) (r .out) (r .cursor) → r .cursor .going ≡ true → HoldsAt (turning ss r .devices) (turning ss r .out) (turning ss r .cursor)
+  turns-same n room r good h e =
+      let d : Device = getD (r .devices) (r .cursor .index) blank in
+      let w : r .cursor .written ≤ length (r .out) = subst (λ (m : ℕ). r .cursor .written ≤ m) (sym (good .out)) (good .written) in
+      subst (λ (t : Turned). HoldsAt (set (r .devices) (r .cursor .index) (t .device)) (turnedOut (r .cursor) ss (r .out)) (t .cursor)) (sym (turned-is d (r .cursor) ss (length (r .out)) (good .at) w))
+      (subst (λ (os : List ℕ). HoldsAt (set (r .devices) (r .cursor .index) (turnWithin d (r .cursor) ss (length (r .out)) .device)) os (turnWithin d (r .cursor) ss (length (r .out)) .cursor)) (sym (turned-out-is (r .cursor) ss (r .out) (good .at) w))
+      (turn-holds (r .devices) (r .out) (r .cursor .count) (r .cursor .front) (r .cursor .index) (r .cursor .at) (r .cursor .written) (r .cursor .pending) (r .cursor .going) (good .devices ∙ sym (good .count)) h (good .aim) e))
+
+  by-going : (t n room : ℕ) (r : Running) → 0 < n → n < 1024 → Good n ss room r → HoldsAt (r .devices) (r .out) (r .cursor) → (g : Bool) → r .cursor .going ≡ g → (r .cursor .going ≡ true → Same (turns t ss r)) → Same (turns t ss r)
+  by-going t n room r some few good h false e k = finish t n room r good h e
+  by-going t n room r some few good h true e k = k e
+
+  turns-all : (t n room : ℕ) (r : Running) → 0 < n → n < 1024 → Good n ss room r → measure (length ss) n (r .cursor) ≤ t → HoldsAt (r .devices) (r .out) (r .cursor) → Same (turns t ss r)
+  turns-all zero n room r some few good near h = by-going zero n room r some few good h (r .cursor .going) refl (λ e. absurd (omega (arith, near, nearer-next n ss room r some few good e)))
+  turns-all (suc t) n room r some few good near h =
+      by-going (suc t) n room r some few good h (r .cursor .going) refl (λ e. subst Same (sym (turns-on t ss r e))
+      (turns-all t n room (turning ss r) some few (good-next n ss room r some good) (omega (arith, near, nearer-next n ss room r some few good e)) (turns-same n room r good h e)))
+
+-- records that fit are neat
+fits-neat : (d : Device) → fits d ≡ true → Neat d
+fits-neat d h p =
+    let q : placeOf (phaseOf (d .place)) ≡ d .place = place-phase (d .place) (d .registers) (and-left (placeFits (d .place) (d .registers)) _ h) in
+    ap (λ (x : Place). record { registers = d .registers; place = x }) (sym q ∙ ap placeOf (is-passing (phaseOf (d .place)) p))
+  where
+    and-left : (a b : Bool) → (a && b) ≡ true → a ≡ true
+    and-left true b e = refl
+    and-left false b e = absurd (true≢false (sym e))
+
+    is-passing : (p : Phase) → isPassing p ≡ true → p ≡ Passing
+    is-passing (Hunting x) e = absurd (no-way e)
+    is-passing (Opening x) e = absurd (no-way e)
+    is-passing (Counting x y) e = absurd (no-way e)
+    is-passing (Slice x y z) e = absurd (no-way e)
+    is-passing Passing e = refl
+    is-passing Lost e = absurd (no-way e)
+
+pub all-neat : (ds : List Device) → allFit ds ≡ true → AllNeat ds
+all-neat [] h = tt
+all-neat (d ∷ ds) h = (fits-neat d (both d ds h .0), all-neat ds (both d ds h .1))
+  where
+    both : (d : Device) (ds : List Device) → (fits d && allFit ds) ≡ true → (fits d ≡ true) × (allFit ds ≡ true)
+    both d ds e = go (fits d) (allFit ds) e
+      where
+        go : (a b : Bool) → (a && b) ≡ true → (a ≡ true) × (b ≡ true)
+        go true b e = (refl, e)
+        go false b e = absurd (true≢false (sym e))
+
+-- a run by its front: the devices, what is written, and where it ends are the plain chain's
+pub front-run-same : (ds : List Device) (ss os : List ℕ) → 0 < length ds → length ds < 1024 → AllNeat ds
+    → (frontRun ds ss os .devices ≡ through ds ss .0) × (frontRun ds ss os .out ≡ putAll os 0 (through ds ss .1)) × (frontRun ds ss os .cursor .written ≡ putEnd (length os) 0 (length (through ds ss .1)))
+unfolding frontRun through Small
+front-run-same ds ss os some few ne =
+    let fin : List Device × (List ℕ × ℕ) = (through ds ss .0, (putAll os 0 (through ds ss .1), putEnd (length os) 0 (length (through ds ss .1)))) in
+    let all = turns-all ss fin (enough ss) (length ds) (length os) (started ds ss os) some few (good-start ds ss os some) (near-start ds ss few)
+    (aim-holds ss fin (length ds) ds os 0 0 0 Nothing ss (record { ps = []; qs = ds; split = refl; count = refl; passing = none; neat = ne; small = tt; devices = refl; out = refl })) in
+    (all .0, ap (λ (x : List ℕ × ℕ). x .0) (all .1), ap (λ (x : List ℕ × ℕ). x .1) (all .1))

@@ -1,0 +1,354 @@
+-- Each turn keeps the cursor in range and takes a run nearer to its end: it takes a state, or moves the front on, or the header under way is
+-- taken. The measure is 2048 for each state left, 1024 for a header under way, and the devices after the front.
+use mathlib.Core.Path.{_≡_, refl, ap, sym, _∙_, subst}
+use mathlib.Core.Bool.{Bool, true, false, not, _&&_, cond, true≢false}
+use mathlib.Core.List.{List, [], _∷_}
+use Prim.Native.Nat.{ℕ, zero, suc, _+_, _-_, _*_, _<_, _≤_}
+use native.Mathlib.Omega.{arith}
+use lib.Dec.{eqb, ltb, leb}
+use lib.ListN.{length, getD, drop, length-set, length-drop}
+use borrow.Author.Tests.{ltb-true, ltb-false, leb-true, le-leb, eq-eqb}
+use Rattle.device.specs.Step.{step}
+use Rattle.device.specs.declared.phase.Sent.{Sent}
+use Rattle.device.specs.declared.phase.Sent.the-variants.{Nothing, One, Header}
+use Rattle.device.specs.declared.device.Device.{Device}
+use Rattle.intake.specs.Intake.{stopped, unlessSent}
+use Rattle.intake.specs.declared.states.Taken.{Taken}
+use Rattle.calls.specs.Chain.{blank}
+use Rattle.turns.specs.declared.cursor.Cursor.{Cursor}
+use Rattle.turns.specs.declared.turning.Turned.{Turned}
+use Rattle.turns.specs.Front.{passes, untilSent, frontTaken, sliceStart, deviceTaken, putEnd, highs, indexOf, cursor, facing, aimed, frontAfter, haltedAt, leaving, isFirst, lineCursor, lineOut, deviceTurn, lineTurn, turnWithin, within, turned, turnedOut, Running, turnAt, turning, turns, started, begun, enough}
+use Rattle.turns.proofs.Lines.{highs-within, length-put}
+use Rattle.turns.proofs.Taking.{by-test}
+
+pub no-way : false ≡ true → ⊥
+no-way e = true≢false (sym e)
+
+-- ---- what a cursor that was aimed is
+abbrev pub owed : Sent → ℕ
+owed Nothing = 0
+owed (One b) = 0
+owed (Header c n) = 1
+
+abbrev pub measure : ℕ → ℕ → Cursor → ℕ
+measure len n c = 2048 * (len - c .at) + 1024 * owed (c .pending) + (n - c .front)
+
+-- what holds of both ways that the next state can go, holds
+facing-has : (n f at w : ℕ) (rest : List ℕ) (P : Cursor → Type 0) → P (cursor n f 0 at w Nothing false) → P (cursor n 0 0 at w Nothing true) → P (cursor n f (indexOf n f) at w Nothing true) → P (facing n f at w rest)
+facing-has n f at w [] P a b c = a
+facing-has n f at w (s ∷ ss) P a b c = by-test (ltb s 2) (cursor n 0 0 at w Nothing true) (cursor n f (indexOf n f) at w Nothing true) P b c
+
+loose : (len n f at w : ℕ) (p : Sent) (rest : List ℕ) → measure len n (aimed n f at w p rest) ≤ 2048 * (len - at) + 1024 * owed p + n
+loose len n f at w Nothing rest = facing-has n f at w rest (λ (c : Cursor). measure len n c ≤ 2048 * (len - at) + 0 + n) (omega arith) (omega arith) (omega arith)
+loose len n f at w (One b) rest = facing-has n f at w rest (λ (c : Cursor). measure len n c ≤ 2048 * (len - at) + 0 + n) (omega arith) (omega arith) (omega arith)
+loose len n f at w (Header c k) rest = omega arith
+
+index-within : (n f : ℕ) → 0 < n → indexOf n f < n
+index-within n f h = go (ltb f n) refl
+  where
+    go : (t : Bool) → ltb f n ≡ t → cond t f 0 < n
+    go true e = ltb-true f n e
+    go false e = h
+
+-- what every aimed cursor has
+record Kept (n k w : ℕ) (c : Cursor) : Type 0 where
+  pub count : c .count ≡ n
+  pub index : c .index < n
+  pub at : c .at ≡ k
+  pub written : c .written ≡ w
+
+aimed-kept : (n f at w : ℕ) (p : Sent) (rest : List ℕ) → 0 < n → Kept n at w (aimed n f at w p rest)
+aimed-kept n f at w Nothing rest h = facing-has n f at w rest (Kept n at w) (record { count = refl; index = h; at = refl; written = refl }) (record { count = refl; index = h; at = refl; written = refl }) (record { count = refl; index = index-within n f h; at = refl; written = refl })
+aimed-kept n f at w (One b) rest h = facing-has n f at w rest (Kept n at w) (record { count = refl; index = h; at = refl; written = refl }) (record { count = refl; index = h; at = refl; written = refl }) (record { count = refl; index = index-within n f h; at = refl; written = refl })
+aimed-kept n f at w (Header c k) rest h = record { count = refl; index = index-within n f h; at = refl; written = refl }
+
+-- an aimed cursor is aimed by its own numbers
+abbrev pub again : Cursor → List ℕ → Cursor
+again c rest = aimed (c .count) (c .front) (c .at) (c .written) (c .pending) rest
+
+facing-self : (n f at w : ℕ) (rest : List ℕ) → again (facing n f at w rest) rest ≡ facing n f at w rest
+facing-self n f at w [] = refl
+facing-self n f at w (s ∷ ss) = go (ltb s 2) refl
+  where
+    go : (t : Bool) → ltb s 2 ≡ t
+        → again (cond t (cursor n 0 0 at w Nothing true) (cursor n f (indexOf n f) at w Nothing true)) (s ∷ ss) ≡ cond t (cursor n 0 0 at w Nothing true) (cursor n f (indexOf n f) at w Nothing true)
+    go true e = ap (λ (u : Bool). cond u (cursor n 0 0 at w Nothing true) (cursor n 0 (indexOf n 0) at w Nothing true)) e
+    go false e = ap (λ (u : Bool). cond u (cursor n 0 0 at w Nothing true) (cursor n f (indexOf n f) at w Nothing true)) e
+
+aimed-self : (n f at w : ℕ) (p : Sent) (rest : List ℕ) → again (aimed n f at w p rest) rest ≡ aimed n f at w p rest
+aimed-self n f at w Nothing rest = facing-self n f at w rest
+aimed-self n f at w (One b) rest = facing-self n f at w rest
+aimed-self n f at w (Header c k) rest = refl
+
+-- ---- a device takes at least what it owes
+
+by-sent : (s : Sent) (t : Taken) (d : Device) (k : ℕ) (P : Taken → Type 0) → P t → ((x : Sent) → P (stopped d k x)) → P (unlessSent s t (stopped d k s))
+by-sent Nothing t d k P a b = a
+by-sent (One x) t d k P a b = b (One x)
+by-sent (Header c n) t d k P a b = b (Header c n)
+
+owed-one : (s : Sent) → owed s ≤ 1
+owed-one Nothing = omega arith
+owed-one (One b) = omega arith
+owed-one (Header c n) = omega arith
+
+-- between what it owes and the states at hand
+record Far (ss : List ℕ) (k : ℕ) (t : Taken) : Type 0 where
+  pub owes : k + owed (t .sent) ≤ t .at
+  pub ends : t .at ≤ k + length ss
+
+until-far : (first : Bool) (d : Device) (ss : List ℕ) (k : ℕ) → Far ss k (untilSent first d ss k)
+unfolding untilSent
+until-far first d [] k = record { owes = omega arith; ends = omega arith }
+until-far first d (s ∷ ss) k =
+    let next : Far ss (k + 1) (untilSent first (step d s .device) ss (k + 1)) = until-far first (step d s .device) ss (k + 1) in
+    by-test (ltb s 2 && not first) (stopped d k Nothing) (unlessSent (step d s .sent) (untilSent first (step d s .device) ss (k + 1)) (stopped (step d s .device) (k + 1) (step d s .sent))) (Far (s ∷ ss) k)
+    (record { owes = omega arith; ends = omega arith })
+    (by-sent (step d s .sent) (untilSent first (step d s .device) ss (k + 1)) (step d s .device) (k + 1) (Far (s ∷ ss) k)
+    (record { owes = omega (arith, next .owes); ends = omega (arith, next .ends) }) (λ x. record { owes = omega (arith, owed-one x); ends = omega arith }))
+
+-- a state that does not stop the device is taken
+pub until-on : (first : Bool) (d : Device) (s : ℕ) (ss : List ℕ) (k : ℕ) → (ltb s 2 && not first) ≡ false → k + 1 ≤ untilSent first d (s ∷ ss) k .at
+unfolding untilSent
+until-on first d s ss k e =
+    subst (λ (u : Bool). k + 1 ≤ cond u (stopped d k Nothing) (unlessSent (step d s .sent) (untilSent first (step d s .device) ss (k + 1)) (stopped (step d s .device) (k + 1) (step d s .sent))) .at) (sym e)
+    (by-sent (step d s .sent) (untilSent first (step d s .device) ss (k + 1)) (step d s .device) (k + 1) (λ (t : Taken). k + 1 ≤ t .at) (omega (arith, until-far first (step d s .device) ss (k + 1) .owes)) (λ x. omega arith))
+
+front-far : (first : Bool) (d : Device) (ss : List ℕ) (k : ℕ) → Far ss k (frontTaken first d ss k)
+front-far first d [] k = record { owes = omega arith; ends = omega arith }
+front-far first d (s ∷ ss) k =
+    by-test (passes d && not (ltb s 2)) (stopped d k (One 0)) (untilSent first d (s ∷ ss) k) (Far (s ∷ ss) k) (record { owes = omega arith; ends = omega arith }) (until-far first d (s ∷ ss) k)
+
+device-far : (first : Bool) (d : Device) (p : Sent) (ss : List ℕ) (k : ℕ) → Far ss k (deviceTaken first d p ss k)
+device-far first d Nothing ss k = front-far first d ss k
+device-far first d (One b) ss k = front-far first d ss k
+device-far first d (Header c n) ss k = until-far false (sliceStart d c n) ss k
+
+device-at : (first : Bool) (d : Device) (p : Sent) (ss : List ℕ) (k : ℕ) → k ≤ length ss → deviceTaken first d p (drop k ss) k .at ≤ length ss
+device-at first d p ss k h = omega (arith, device-far first d p (drop k ss) k .ends, length-drop k ss)
+
+-- ---- a run that turns well
+pub record Good (n : ℕ) (ss : List ℕ) (room : ℕ) (r : Running) : Type 0 where
+  pub devices : length (r .devices) ≡ n
+  pub out : length (r .out) ≡ room
+  pub count : r .cursor .count ≡ n
+  pub index : r .cursor .index < n
+  pub at : r .cursor .at ≤ length ss
+  pub written : r .cursor .written ≤ room
+  pub aim : r .cursor ≡ again (r .cursor) (drop (r .cursor .at) ss)
+
+out-length : (c : Cursor) (ss os : List ℕ) → length (turnedOut c ss os) ≡ length os
+unfolding turnedOut
+out-length c ss os =
+    by-test (within c ss (length os)) (cond (ltb (c .front) (c .count)) os (lineOut c ss os)) os (λ (xs : List ℕ). length xs ≡ length os)
+    (by-test (ltb (c .front) (c .count)) os (lineOut c ss os) (λ (xs : List ℕ). length xs ≡ length os) refl (length-put os (c .written) (leaving (c .pending) (drop (c .at) ss)))) refl
+
+putEnd-within : (room w k : ℕ) → putEnd room w k ≤ room
+putEnd-within room w k = go (leb (w + k) room) refl
+  where
+    go : (t : Bool) → leb (w + k) room ≡ t → cond t (w + k) room ≤ room
+    go true e = leb-true (w + k) room e
+    go false e = omega arith
+
+-- a cursor that a turn leaves: aimed, in range
+record Fit (n : ℕ) (ss : List ℕ) (room : ℕ) (c : Cursor) : Type 0 where
+  pub count : c .count ≡ n
+  pub index : c .index < n
+  pub at : c .at ≤ length ss
+  pub written : c .written ≤ room
+  pub aim : c ≡ again c (drop (c .at) ss)
+
+aimed-fit : (n f at w room : ℕ) (p : Sent) (ss : List ℕ) → 0 < n → at ≤ length ss → w ≤ room → Fit n ss room (aimed n f at w p (drop at ss))
+aimed-fit n f at w room p ss h a b =
+    let k : Kept n at w (aimed n f at w p (drop at ss)) = aimed-kept n f at w p (drop at ss) h in
+    record {
+      count = k .count;
+      index = k .index;
+      at = subst (λ (x : ℕ). x ≤ length ss) (sym (k .at)) a;
+      written = subst (λ (x : ℕ). x ≤ room) (sym (k .written)) b;
+      aim = sym (aimed-self n f at w p (drop at ss)) ∙ ap (λ (x : ℕ). again (aimed n f at w p (drop at ss)) (drop x ss)) (sym (k .at));
+    }
+
+line-fit : (p : Sent) (c : Cursor) (ss : List ℕ) (room : ℕ) → 0 < c .count → c .at ≤ length ss → c .written ≤ room → Fit (c .count) ss room (lineCursor p c ss room)
+line-fit Nothing c ss room h a b = aimed-fit (c .count) (c .front) _ _ room Nothing ss h (highs-within ss (c .at) a) (putEnd-within room (c .written) _)
+line-fit (One x) c ss room h a b = aimed-fit (c .count) (c .front) _ _ room Nothing ss h (highs-within ss (c .at) a) (putEnd-within room (c .written) _)
+line-fit (Header k m) c ss room h a b = aimed-fit (c .count) (c .front) (c .at) _ room Nothing ss h a (putEnd-within room (c .written) _)
+
+within-fit : (d : Device) (c : Cursor) (ss : List ℕ) (room : ℕ) → 0 < c .count → c .at ≤ length ss → c .written ≤ room → Fit (c .count) ss room (turnWithin d c ss room .cursor)
+within-fit d c ss room h a b =
+    let t : Taken = deviceTaken (isFirst c) d (c .pending) (drop (c .at) ss) (c .at) in
+    by-test (ltb (c .front) (c .count)) (deviceTurn d c ss) (lineTurn d c ss room) (λ (u : Turned). Fit (c .count) ss room (u .cursor))
+    (aimed-fit (c .count) (frontAfter (c .front) (t .sent)) (t .at) (c .written) room (t .sent) ss h (device-at (isFirst c) d (c .pending) ss (c .at) a) b)
+    (line-fit (c .pending) c ss room h a b)
+
+-- a cursor within the states and the room
+within-is : (c : Cursor) (ss : List ℕ) (room : ℕ) → c .at ≤ length ss → c .written ≤ room → within c ss room ≡ true
+within-is c ss room a b = rw (le-leb (c .at) (length ss) a, le-leb (c .written) room b)
+
+pub turned-is : (d : Device) (c : Cursor) (ss : List ℕ) (room : ℕ) → c .at ≤ length ss → c .written ≤ room → turned d c ss room ≡ turnWithin d c ss room
+unfolding turned
+turned-is d c ss room a b = ap (λ (t : Bool). cond t (turnWithin d c ss room) (haltedAt d)) (within-is c ss room a b)
+
+pub turned-out-is : (c : Cursor) (ss os : List ℕ) → c .at ≤ length ss → c .written ≤ length os → turnedOut c ss os ≡ cond (ltb (c .front) (c .count)) os (lineOut c ss os)
+unfolding turnedOut
+turned-out-is c ss os a b = ap (λ (t : Bool). cond t (cond (ltb (c .front) (c .count)) os (lineOut c ss os)) os) (within-is c ss (length os) a b)
+
+turned-fit : (d : Device) (c : Cursor) (ss : List ℕ) (room : ℕ) → 0 < c .count → c .at ≤ length ss → c .written ≤ room → Fit (c .count) ss room (turned d c ss room .cursor)
+turned-fit d c ss room h a b =
+    subst (λ (t : Turned). Fit (c .count) ss room (t .cursor)) (sym (turned-is d c ss room a b)) (within-fit d c ss room h a b)
+
+pub good-next : (n : ℕ) (ss : List ℕ) (room : ℕ) (r : Running) → 0 < n → Good n ss room r → Good n ss room (turning ss r)
+good-next n ss room r h g =
+    let f : Fit n ss room (turnAt (r .devices) (r .cursor) ss (r .out) .cursor) =
+    subst (λ (m : ℕ). Fit m ss room (turnAt (r .devices) (r .cursor) ss (r .out) .cursor)) (g .count)
+    (subst (λ (m : ℕ). Fit (r .cursor .count) ss m (turnAt (r .devices) (r .cursor) ss (r .out) .cursor)) (g .out)
+    (turned-fit (getD (r .devices) (r .cursor .index) blank) (r .cursor) ss (length (r .out)) (subst (λ (m : ℕ). 0 < m) (sym (g .count)) h) (g .at) (subst (λ (m : ℕ). r .cursor .written ≤ m) (sym (g .out)) (g .written)))) in
+    record {
+      devices = length-set (r .devices) (r .cursor .index) _ ∙ g .devices;
+      out = out-length (r .cursor) ss (r .out) ∙ g .out;
+      count = f .count;
+      index = f .index;
+      at = f .at;
+      written = f .written;
+      aim = f .aim;
+    }
+
+pub good-start : (ds : List Device) (ss os : List ℕ) → 0 < length ds → Good (length ds) ss (length os) (started ds ss os)
+good-start ds ss os h =
+    let f : Fit (length ds) ss (length os) (begun (length ds) ss) = aimed-fit (length ds) 0 0 0 (length os) Nothing ss h (omega arith) (omega arith) in
+    record { devices = refl; out = refl; count = f .count; index = f .index; at = f .at; written = f .written; aim = f .aim }
+
+-- ---- a turn takes a run nearer to its end
+Live : Sent → List ℕ → Type 0
+Live Nothing [] = ⊥
+Live Nothing (s ∷ ss) = Unit {0}
+Live (One b) [] = ⊥
+Live (One b) (s ∷ ss) = Unit {0}
+Live (Header c n) rest = Unit {0}
+
+lives : (n f i at w : ℕ) (p : Sent) (g : Bool) (rest : List ℕ) → cursor n f i at w p g ≡ aimed n f at w p rest → g ≡ true → Live p rest
+unfolding Live
+lives n f i at w Nothing g [] e h = no-way (sym (ap (λ (c : Cursor). c .going) e) ∙ h)
+lives n f i at w Nothing g (s ∷ ss) e h = tt
+lives n f i at w (One b) g [] e h = no-way (sym (ap (λ (c : Cursor). c .going) e) ∙ h)
+lives n f i at w (One b) g (s ∷ ss) e h = tt
+lives n f i at w (Header c k) g rest e h = tt
+
+module _ (first : Bool) (d : Device) (n f at w : ℕ) (ss : List ℕ) (far : at ≤ length ss) (few : n < 1024) where
+  Nearer : ℕ → Taken → Type 0
+  Nearer o t = measure (length ss) n (aimed n (frontAfter f (t .sent)) (t .at) w (t .sent) (drop (t .at) ss)) < 2048 * (length ss - at) + 1024 * o + (n - f)
+
+  nearer : (o : ℕ) (t : Taken) → at + owed (t .sent) ≤ t .at → t .at ≤ length ss → (o ≡ 1) → Nearer o t
+  unfolding Nearer
+  nearer o t a b one = omega (arith, few, far, loose (length ss) n (frontAfter f (t .sent)) (t .at) w (t .sent) (drop (t .at) ss))
+
+  nearer-on : (t : Taken) → at + 1 ≤ t .at → t .at ≤ length ss → Nearer 0 t
+  unfolding Nearer
+  nearer-on t a b = omega (arith, few, far, owed-one (t .sent), loose (length ss) n (frontAfter f (t .sent)) (t .at) w (t .sent) (drop (t .at) ss))
+
+  moves-on : (s : ℕ) (rest : List ℕ) → drop at ss ≡ s ∷ rest → ltb s 2 ≡ false → f < n → Nearer 0 (stopped d at (One 0))
+  unfolding Nearer
+  moves-on s rest e h l =
+      subst (λ (r : List ℕ). measure (length ss) n (facing n (f + 1) at w r) < 2048 * (length ss - at) + 1024 * 0 + (n - f)) (sym e)
+      (subst (λ (t : Bool). measure (length ss) n (cond t (cursor n 0 0 at w Nothing true) (cursor n (f + 1) (indexOf n (f + 1)) at w Nothing true)) < 2048 * (length ss - at) + 1024 * 0 + (n - f)) (sym h) (omega (arith, l)))
+
+  some-left : (s : ℕ) (rest : List ℕ) → drop at ss ≡ s ∷ rest → at + 1 + length rest ≡ length ss
+  some-left s rest e = omega (arith, far, sym (length-drop at ss) ∙ ap length e)
+
+  -- a passing device moves the front on at a high state; any other takes it, and a low one is the first device's
+  front-nearer : (s : ℕ) (rest : List ℕ) → drop at ss ≡ s ∷ rest → f < n → (ltb s 2 ≡ true → first ≡ true) → Nearer 0 (frontTaken first d (s ∷ rest) at)
+  front-nearer s rest e l own = go (passes d && not (ltb s 2)) refl
+    where
+      not-low : (a b : Bool) → (a && not b) ≡ true → b ≡ false
+      not-low true true h = absurd (true≢false (sym h))
+      not-low true false h = refl
+      not-low false b h = absurd (true≢false (sym h))
+
+      taken : (b f : Bool) → (b ≡ true → f ≡ true) → (b && not f) ≡ false
+      taken true f h = ap not (h refl)
+      taken false f h = refl
+
+      go : (t : Bool) → (passes d && not (ltb s 2)) ≡ t → Nearer 0 (cond t (stopped d at (One 0)) (untilSent first d (s ∷ rest) at))
+      go true h = moves-on s rest e (not-low (passes d) (ltb s 2) h) l
+      go false h =
+          nearer-on (untilSent first d (s ∷ rest) at) (until-on first d s rest at (taken (ltb s 2) first own)) (omega (arith, some-left s rest e, until-far first d (s ∷ rest) at .ends))
+
+  device-nearer : (p : Sent) (rest : List ℕ) → drop at ss ≡ rest → Live p rest → f < n → ((s : ℕ) (xs : List ℕ) → rest ≡ s ∷ xs → owed p ≡ 0 → ltb s 2 ≡ true → first ≡ true)
+      → Nearer (owed p) (deviceTaken first d p (drop at ss) at)
+  unfolding Live
+  device-nearer Nothing [] e v l own = absurd v
+  device-nearer Nothing (s ∷ rest) e v l own = subst (λ (r : List ℕ). Nearer 0 (frontTaken first d r at)) (sym e) (front-nearer s rest e l (own s rest refl refl))
+  device-nearer (One b) [] e v l own = absurd v
+  device-nearer (One b) (s ∷ rest) e v l own = subst (λ (r : List ℕ). Nearer 0 (frontTaken first d r at)) (sym e) (front-nearer s rest e l (own s rest refl refl))
+  device-nearer (Header c k) rest e v l own =
+      nearer 1 (untilSent false (sliceStart d c k) (drop at ss) at) (until-far false (sliceStart d c k) (drop at ss) at .owes) (device-at first d (Header c k) ss at far) refl
+
+high-turns : (s : ℕ) (rest : List ℕ) → ltb s 2 ≡ false → 1 ≤ highs (s ∷ rest)
+unfolding highs
+high-turns s rest h = subst (λ (t : Bool). 1 ≤ cond t 0 (highs rest + 1)) (sym h) (omega arith)
+
+low-facing : (n f i at w : ℕ) (p : Sent) (g : Bool) (s : ℕ) (xs : List ℕ) → cursor n f i at w p g ≡ facing n f at w (s ∷ xs) → ltb s 2 ≡ true → f ≡ 0
+low-facing n f i at w p g s xs e h = ap (λ (c : Cursor). c .front) (e ∙ ap (λ (t : Bool). cond t (cursor n 0 0 at w Nothing true) (cursor n f (indexOf n f) at w Nothing true)) h)
+
+-- where all devices pass, a state that comes next is high
+line-high : (n f i at w : ℕ) (g : Bool) (s : ℕ) (rest : List ℕ) → cursor n f i at w Nothing g ≡ facing n f at w (s ∷ rest) → 0 < n → n ≤ f → ltb s 2 ≡ false
+line-high n f i at w g s rest e h l = go (ltb s 2) refl
+  where
+    go : (t : Bool) → ltb s 2 ≡ t → t ≡ false
+    go false q = refl
+    go true q =
+        let z : f ≡ 0 = ap (λ (c : Cursor). c .front) (e ∙ ap (λ (t : Bool). cond t (cursor n 0 0 at w Nothing true) (cursor n f (indexOf n f) at w Nothing true)) q) in
+        absurd (omega (arith, z, h, l))
+
+line-nearer : (n f i at w : ℕ) (p : Sent) (g : Bool) (ss rest : List ℕ) (room : ℕ) → at ≤ length ss → 0 < n → n < 1024 → drop at ss ≡ rest → cursor n f i at w p g ≡ aimed n f at w p rest → g ≡ true → n ≤ f
+    → measure (length ss) n (lineCursor p (cursor n f i at w p g) ss room) < 2048 * (length ss - at) + 1024 * owed p + (n - f)
+line-nearer n f i at w Nothing g ss [] room far h few e q v l = absurd (no-way (sym (ap (λ (c : Cursor). c .going) q) ∙ v))
+line-nearer n f i at w Nothing g ss (s ∷ rest) room far h few e q v l =
+    let one : 1 ≤ highs (drop at ss) = subst (λ (r : List ℕ). 1 ≤ highs r) (sym e) (high-turns s rest (line-high n f i at w g s rest q h l)) in
+    omega (arith, few, one, highs-within ss at far, loose (length ss) n f (at + highs (drop at ss)) (putEnd room w (highs (drop at ss))) Nothing (drop (at + highs (drop at ss)) ss))
+line-nearer n f i at w (One b) g ss [] room far h few e q v l = absurd (no-way (sym (ap (λ (c : Cursor). c .going) q) ∙ v))
+line-nearer n f i at w (One b) g ss (s ∷ rest) room far h few e q v l = absurd (no-one (cursor n f i at w (One b) g) b refl (subst (λ (c : Cursor). c .pending ≡ Nothing) (sym q) (facing-has n f at w (s ∷ rest) (λ (c : Cursor). c .pending ≡ Nothing) refl refl refl)))
+  where
+    no-one : (c : Cursor) (b : ℕ) → c .pending ≡ One b → c .pending ≡ Nothing → ⊥
+    no-one c b x y = let z : _≡_ {A = ℕ} 0 1 = cc in omega (arith, z)
+line-nearer n f i at w (Header c k) g ss rest room far h few e q v l =
+    omega (arith, few, loose (length ss) n f at (putEnd room w 24) Nothing (drop at ss))
+
+-- a low state next, and no header under way: the front is the first device
+pub low-front : (n f i at w : ℕ) (p : Sent) (g : Bool) (s : ℕ) (xs : List ℕ) → cursor n f i at w p g ≡ aimed n f at w p (s ∷ xs) → owed p ≡ 0 → ltb s 2 ≡ true → f ≡ 0
+low-front n f i at w Nothing g s xs e k h = low-facing n f i at w Nothing g s xs e h
+low-front n f i at w (One b) g s xs e k h = low-facing n f i at w (One b) g s xs e h
+low-front n f i at w (Header c m) g s xs e k h = absurd (omega (arith, k))
+
+turned-nearer : (d : Device) (n f i at w : ℕ) (p : Sent) (g : Bool) (ss : List ℕ) (room : ℕ) → at ≤ length ss → 0 < n → n < 1024 → cursor n f i at w p g ≡ aimed n f at w p (drop at ss) → g ≡ true
+    → measure (length ss) n (turnWithin d (cursor n f i at w p g) ss room .cursor) < measure (length ss) n (cursor n f i at w p g)
+unfolding Nearer
+turned-nearer d n f i at w p g ss room far h few q v = go (ltb f n) refl
+  where
+    go : (t : Bool) → ltb f n ≡ t → measure (length ss) n (cond t (deviceTurn d (cursor n f i at w p g) ss) (lineTurn d (cursor n f i at w p g) ss room) .cursor) < measure (length ss) n (cursor n f i at w p g)
+    go true e =
+        device-nearer (eqb f 0) d n f at w ss far few p (drop at ss) refl (lives n f i at w p g (drop at ss) q v) (ltb-true f n e)
+        (λ s xs r k t. eq-eqb f 0 (low-front n f i at w p g s xs (q ∙ ap (λ (y : List ℕ). aimed n f at w p y) r) k t))
+    go false e = line-nearer n f i at w p g ss (drop at ss) room far h few refl q v (ltb-false f n e)
+
+pub nearer-next : (n : ℕ) (ss : List ℕ) (room : ℕ) (r : Running) → 0 < n → n < 1024 → Good n ss room r → r .cursor .going ≡ true
+    → measure (length ss) n (turning ss r .cursor) < measure (length ss) n (r .cursor)
+nearer-next n ss room r h few good v =
+    let c : Cursor = r .cursor in
+    let w : r .cursor .written ≤ length (r .out) = subst (λ (m : ℕ). r .cursor .written ≤ m) (sym (good .out)) (good .written) in
+    subst (λ (t : Turned). measure (length ss) n (t .cursor) < measure (length ss) n (r .cursor)) (sym (turned-is (getD (r .devices) (r .cursor .index) blank) (r .cursor) ss (length (r .out)) (good .at) w))
+    (subst (λ (m : ℕ). measure (length ss) m (turnWithin (getD (r .devices) (r .cursor .index) blank) (r .cursor) ss (length (r .out)) .cursor) < measure (length ss) m (r .cursor)) (good .count)
+    (turned-nearer (getD (r .devices) (r .cursor .index) blank) (r .cursor .count) (r .cursor .front) (r .cursor .index) (r .cursor .at) (r .cursor .written) (r .cursor .pending) (r .cursor .going) ss (length (r .out)) (good .at)
+    (subst (λ (m : ℕ). 0 < m) (sym (good .count)) h) (subst (λ (m : ℕ). m < 1024) (sym (good .count)) few) (good .aim) v))
+
+pub turns-on : (t : ℕ) (ss : List ℕ) (r : Running) → r .cursor .going ≡ true → turns (suc t) ss r ≡ turns t ss (turning ss r)
+unfolding turns
+turns-on t ss r e = ap (λ (b : Bool). cond b (turns t ss (turning ss r)) r) e
+
+pub turns-stop : (t : ℕ) (ss : List ℕ) (r : Running) → r .cursor .going ≡ false → turns t ss r ≡ r
+unfolding turns
+turns-stop zero ss r e = refl
+turns-stop (suc t) ss r e = ap (λ (b : Bool). cond b (turns t ss (turning ss r)) r) e
+
+pub near-start : (ds : List Device) (ss : List ℕ) → length ds < 1024 → measure (length ss) (length ds) (begun (length ds) ss) ≤ enough ss
+near-start ds ss few = omega (arith, few, loose (length ss) (length ds) 0 0 0 Nothing ss)

@@ -1,0 +1,196 @@
+-- A run through a lent chain by its front, the first device that is not passing: only that device can change. What one turn does, and turn
+-- after turn. These definitions are what the functions inside a run answer; that the whole is the plain chain of calls/specs/Chain is in
+-- proofs/Same, and no call's contract speaks of them.
+use Prim.Native.Nat.{ℕ, zero, suc, _+_, _*_}
+use mathlib.Core.Bool.{Bool, true, false, not, _&&_, cond}
+use mathlib.Core.List.{List, [], _∷_}
+use lib.Dec.{eqb, ltb, leb}
+use lib.ListN.{length, getD, set, take, drop}
+use Rattle.parts.specs.Wire.{header, statesOf}
+use Rattle.parts.specs.declared.command.Command.{Command}
+use Rattle.device.specs.Phases.{phaseOf}
+use Rattle.device.specs.Step.{step, at}
+use Rattle.device.specs.declared.phase.Phase.{Phase}
+use Rattle.device.specs.declared.phase.Phase.the-variants.{Hunting, Opening, Counting, Slice, Passing, Lost}
+use Rattle.device.specs.declared.phase.Sent.{Sent}
+use Rattle.device.specs.declared.phase.Sent.the-variants.{Nothing, One, Header}
+use Rattle.device.specs.declared.device.Device.{Device}
+use Rattle.intake.specs.Intake.{stopped, unlessSent}
+use Rattle.intake.specs.declared.states.Taken.{Taken}
+use Rattle.calls.specs.Chain.{blank}
+use Rattle.turns.specs.declared.cursor.Cursor.{Cursor}
+use Rattle.turns.specs.declared.turning.Turned.{Turned}
+
+-- ---- one device
+
+abbrev pub isPassing : Phase → Bool
+isPassing (Hunting window) = false
+isPassing (Opening read) = false
+isPassing (Counting c read) = false
+isPassing (Slice c count taken) = false
+isPassing Passing = true
+isPassing Lost = false
+
+abbrev pub passes : Device → Bool
+passes d = isPassing (phaseOf (d .place))
+
+-- states until the device sends or they end; low ones are the first device's alone, and any other stops before one
+unfoldable pub untilSent : Bool → Device → List ℕ → ℕ → Taken
+untilSent first d [] i = stopped d i Nothing
+untilSent first d (s ∷ ss) i =
+    cond (ltb s 2 && not first) (stopped d i Nothing)
+    (unlessSent (step d s .sent) (untilSent first (step d s .device) ss (i + 1)) (stopped (step d s .device) (i + 1) (step d s .sent)))
+
+-- the front device, no header being under way. A passing one takes no high state: `One 0` says that the front moves on
+abbrev pub frontTaken : Bool → Device → List ℕ → ℕ → Taken
+frontTaken first d [] i = stopped d i Nothing
+frontTaken first d (s ∷ ss) i = cond (passes d && not (ltb s 2)) (stopped d i (One 0)) (untilSent first d (s ∷ ss) i)
+
+-- after a header any device stands before the first bit of its slice
+abbrev pub sliceStart : Device → Command → ℕ → Device
+sliceStart d c n = at (d .registers) (Slice c n 0)
+
+abbrev pub deviceTaken : Bool → Device → Sent → List ℕ → ℕ → Taken
+deviceTaken first d (Header c n) ss i = untilSent false (sliceStart d c n) ss i
+deviceTaken first d Nothing ss i = frontTaken first d ss i
+deviceTaken first d (One s) ss i = frontTaken first d ss i
+
+-- ---- the cursor
+
+-- the device of the next turn; where all pass, the first one, which then stays as it is
+abbrev pub indexOf : ℕ → ℕ → ℕ
+indexOf count front = cond (ltb front count) front 0
+
+abbrev pub cursor : ℕ → ℕ → ℕ → ℕ → ℕ → Sent → Bool → Cursor
+cursor count front index at written pending going =
+    record { count = count; front = front; index = index; at = at; written = written; pending = pending; going = going }
+
+-- no header is under way: the next state says whose turn it is, and a low one is the first device's
+abbrev pub facing : ℕ → ℕ → ℕ → ℕ → List ℕ → Cursor
+facing count front at written [] = cursor count front 0 at written Nothing false
+facing count front at written (s ∷ ss) =
+    cond (ltb s 2) (cursor count 0 0 at written Nothing true)
+    (cursor count front (indexOf count front) at written Nothing true)
+
+abbrev pub aimed : ℕ → ℕ → ℕ → ℕ → Sent → List ℕ → Cursor
+aimed count front at written (Header c n) ss = cursor count front (indexOf count front) at written (Header c n) true
+aimed count front at written Nothing ss = facing count front at written ss
+aimed count front at written (One s) ss = facing count front at written ss
+
+-- a device that sent, or passes, is no longer the front
+abbrev pub frontAfter : ℕ → Sent → ℕ
+frontAfter front Nothing = front
+frontAfter front (One s) = front + 1
+frontAfter front (Header c n) = front + 1
+
+abbrev pub halted : Cursor
+halted = cursor 0 0 0 0 0 Nothing false
+
+-- ---- what is returned
+
+-- states are written from place w on, and those past the end are dropped
+unfoldable pub putAll : List ℕ → ℕ → List ℕ → List ℕ
+putAll os w [] = os
+putAll os w (x ∷ xs) = putAll (set os w x) (w + 1) xs
+
+-- where k states written from place w on end
+abbrev pub putEnd : ℕ → ℕ → ℕ → ℕ
+putEnd room w k = cond (leb (w + k) room) (w + k) room
+
+-- how many high states stand at the front
+unfoldable pub highs : List ℕ → ℕ
+highs [] = 0
+highs (s ∷ ss) = cond (ltb s 2) 0 (highs ss + 1)
+
+-- what leaves a chain whose devices all pass: a header that the last one sent, or the high states
+abbrev pub leaving : Sent → List ℕ → List ℕ
+leaving (Header c n) ss = statesOf (header c n)
+leaving Nothing ss = take (highs ss) ss
+leaving (One s) ss = take (highs ss) ss
+
+-- ---- a turn
+
+abbrev pub isFirst : Cursor → Bool
+isFirst c = eqb (c .front) 0
+
+abbrev pub afterTaken : Cursor → Taken → List ℕ → Turned
+afterTaken c t ss =
+    record {
+      device = t .device;
+      cursor = aimed (c .count) (frontAfter (c .front) (t .sent)) (t .at) (c .written) (t .sent) (drop (t .at) ss);
+    }
+
+-- the front device takes what is its own
+abbrev pub deviceTurn : Device → Cursor → List ℕ → Turned
+deviceTurn d c ss = afterTaken c (deviceTaken (isFirst c) d (c .pending) (drop (c .at) ss) (c .at)) ss
+
+-- the cursor after k states left the chain, the next state being at a place
+abbrev pub lineTo : Cursor → ℕ → ℕ → List ℕ → ℕ → Cursor
+lineTo c at k ss room = aimed (c .count) (c .front) at (putEnd room (c .written) k) Nothing (drop at ss)
+
+abbrev pub passedTo : Cursor → List ℕ → ℕ → Cursor
+passedTo c ss room = lineTo c (c .at + highs (drop (c .at) ss)) (highs (drop (c .at) ss)) ss room
+
+abbrev pub lineCursor : Sent → Cursor → List ℕ → ℕ → Cursor
+lineCursor (Header k n) c ss room = lineTo c (c .at) 24 ss room
+lineCursor Nothing c ss room = passedTo c ss room
+lineCursor (One s) c ss room = passedTo c ss room
+
+abbrev pub lineTurn : Device → Cursor → List ℕ → ℕ → Turned
+lineTurn d c ss room = record { device = d; cursor = lineCursor (c .pending) c ss room }
+
+abbrev pub lineOut : Cursor → List ℕ → List ℕ → List ℕ
+lineOut c ss os = putAll os (c .written) (leaving (c .pending) (drop (c .at) ss))
+
+abbrev pub turnWithin : Device → Cursor → List ℕ → ℕ → Turned
+turnWithin d c ss room = cond (ltb (c .front) (c .count)) (deviceTurn d c ss) (lineTurn d c ss room)
+
+-- the cursor is within the states and the room
+abbrev pub within : Cursor → List ℕ → ℕ → Bool
+within c ss room = leb (c .at) (length ss) && leb (c .written) room
+
+abbrev pub haltedAt : Device → Turned
+haltedAt d = record { device = d; cursor = halted }
+
+-- a turn of any device with any cursor; one that is not within halts
+unfoldable pub turned : Device → Cursor → List ℕ → ℕ → Turned
+turned d c ss room = cond (within c ss room) (turnWithin d c ss room) (haltedAt d)
+
+unfoldable pub turnedOut : Cursor → List ℕ → List ℕ → List ℕ
+turnedOut c ss os = cond (within c ss (length os)) (cond (ltb (c .front) (c .count)) os (lineOut c ss os)) os
+
+-- ---- turn after turn
+
+abbrev pub begun : ℕ → List ℕ → Cursor
+begun count ss = facing count 0 0 0 ss
+
+pub record Running : Type 0 where
+  pub devices : List Device
+  pub cursor : Cursor
+  pub out : List ℕ
+
+abbrev pub nowAt : List Device → Cursor → List ℕ → Running
+nowAt ds c os = record { devices = ds; cursor = c; out = os }
+
+abbrev pub turnAt : List Device → Cursor → List ℕ → List ℕ → Turned
+turnAt ds c ss os = turned (getD ds (c .index) blank) c ss (length os)
+
+abbrev pub turning : List ℕ → Running → Running
+turning ss r =
+    nowAt (set (r .devices) (r .cursor .index) (turnAt (r .devices) (r .cursor) ss (r .out) .device))
+    (turnAt (r .devices) (r .cursor) ss (r .out) .cursor) (turnedOut (r .cursor) ss (r .out))
+
+-- at most k turns
+unfoldable pub turns : ℕ → List ℕ → Running → Running
+turns zero ss r = r
+turns (suc k) ss r = cond (r .cursor .going) (turns k ss (turning ss r)) r
+
+abbrev pub started : List Device → List ℕ → List ℕ → Running
+started ds ss os = nowAt ds (begun (length ds) ss) os
+
+-- enough turns: two for each state, and one for each device before each of them
+abbrev pub enough : List ℕ → ℕ
+enough ss = 2048 * length ss + 1024
+
+unfoldable pub frontRun : List Device → List ℕ → List ℕ → Running
+frontRun ds ss os = turns (enough ss) ss (started ds ss os)

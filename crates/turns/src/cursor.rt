@@ -1,0 +1,133 @@
+// Where a run stands, and whose turn is next.
+ghost use mathlib.Core.Path.{_≡_};
+ghost use lib.ListN.{drop};
+ghost use Prim.Native.Nat.{_<_, _+_, _^_};
+ghost use Rattle.turns.specs.Front.{indexOf, facing, aimed, frontAfter, halted};
+use device::Sent;
+
+pub struct Cursor {
+    // The number of devices.
+    pub count: usize,
+    // Every device before it is passing.
+    pub front: usize,
+    // The device of the next turn.
+    pub index: usize,
+    // The next state.
+    pub at: usize,
+    // The states returned so far.
+    pub written: usize,
+    // A header that is on its way to the front device, or out of the chain.
+    pub pending: Sent,
+    pub going: bool,
+}
+
+// By the header under way, or by the next state.
+pub fn aim(
+    count: usize,
+    front: usize,
+    at: usize,
+    written: usize,
+    pending: Sent,
+    states: &[u8],
+) -> Cursor
+    ensures { λ r. ⌜ r ≡ aimed count front at written pending (drop at (now (states .entry))) ⌝ }
+{
+    match pending {
+        Sent::Nothing => face(count, front, at, written, states),
+        Sent::One(_) => face(count, front, at, written, states),
+        Sent::Header {
+            command,
+            count: sum,
+        } => {
+            let index = index_of(count, front);
+            Cursor {
+                count: count,
+                front: front,
+                index: index,
+                at: at,
+                written: written,
+                pending: Sent::Header {
+                    command: command,
+                    count: sum,
+                },
+                going: true,
+            }
+        }
+    }
+}
+
+// By the next state: a low one is the first device's.
+pub fn face(count: usize, front: usize, at: usize, written: usize, states: &[u8]) -> Cursor
+    ensures { λ r. ⌜ r ≡ facing count front at written (drop at (now (states .entry))) ⌝ }
+{
+    if at < states.len() {
+        if states[at] < 2 {
+            Cursor {
+                count: count,
+                front: 0,
+                index: 0,
+                at: at,
+                written: written,
+                pending: Sent::Nothing,
+                going: true,
+            }
+        } else {
+            let index = index_of(count, front);
+            Cursor {
+                count: count,
+                front: front,
+                index: index,
+                at: at,
+                written: written,
+                pending: Sent::Nothing,
+                going: true,
+            }
+        }
+    } else {
+        Cursor {
+            count: count,
+            front: front,
+            index: 0,
+            at: at,
+            written: written,
+            pending: Sent::Nothing,
+            going: false,
+        }
+    }
+}
+
+// At its end from the start.
+pub fn halt() -> Cursor
+    ensures { λ r. ⌜ r ≡ halted ⌝ }
+{
+    Cursor {
+        count: 0,
+        front: 0,
+        index: 0,
+        at: 0,
+        written: 0,
+        pending: Sent::Nothing,
+        going: false,
+    }
+}
+
+fn index_of(count: usize, front: usize) -> usize
+    ensures { λ r. ⌜ r ≡ indexOf count front ⌝ }
+{
+    if front < count { front } else { 0 }
+}
+
+// A device that sent, or passes, is no longer the front.
+pub fn front_after(front: usize, sent: Sent) -> usize
+    requires { ⌜ front + 1 < 2 ^ 64 ⌝ }
+    ensures { λ r. ⌜ r ≡ frontAfter front sent ⌝ }
+{
+    match sent {
+        Sent::Nothing => front,
+        Sent::One(_) => front + 1,
+        Sent::Header {
+            command: _,
+            count: _,
+        } => front + 1,
+    }
+}

@@ -1,0 +1,66 @@
+// Where a run begins, and its answer.
+ghost use mathlib.Core.Path.{_≡_};
+ghost use Rattle.parts.specs.Refusals.{first};
+ghost use Rattle.turns.specs.Judging.{runRows};
+ghost use Rattle.turns.specs.Entry.{entryUnder, ran};
+use crate::cursor::Cursor;
+use crate::judging::Judged;
+
+// The refusal's number, or 0, and where the run begins: a refused one is at its end.
+pub struct Entry {
+    pub refusal: u8,
+    pub cursor: Cursor,
+}
+
+// How many states were returned, and the refusal's number: one of them is 0.
+#[repr(C)]
+pub struct Ran {
+    pub returned: usize,
+    pub refusal: u8,
+}
+
+// A run of a chain of n records, with room for some states.
+pub fn enter(judged: Judged, n: usize, states: &[u8], room: usize) -> Entry
+    ensures { λ r. ⌜ r ≡ entryUnder (first (runRows judged n (now (states .entry)) room)) n (now (states .entry)) ⌝ }
+{
+    enter_under(
+        crate::judging::run_refusal(judged, n, states, room),
+        n,
+        states,
+    )
+}
+
+fn enter_under(refusal: u8, n: usize, states: &[u8]) -> Entry
+    ensures { λ r. ⌜ r ≡ entryUnder refusal n (now (states .entry)) ⌝ }
+{
+    if refusal == 0 {
+        let cursor = crate::cursor::face(n, 0, 0, 0, states);
+        Entry {
+            refusal: refusal,
+            cursor: cursor,
+        }
+    } else {
+        let cursor = crate::cursor::halt();
+        Entry {
+            refusal: refusal,
+            cursor: cursor,
+        }
+    }
+}
+
+// The answer of a run under a refusal, or 0, that returned n states.
+pub fn answer(refusal: u8, n: usize) -> Ran
+    ensures { λ r. ⌜ r ≡ ran refusal n ⌝ }
+{
+    if refusal == 0 {
+        Ran {
+            returned: n,
+            refusal: refusal,
+        }
+    } else {
+        Ran {
+            returned: 0,
+            refusal: refusal,
+        }
+    }
+}

@@ -1,0 +1,133 @@
+// What leaves the chain: the 24 states of a header, and the high states that every device passes.
+ghost use mathlib.Core.Path.{_≡_};
+ghost use mathlib.Core.Bool.{cond};
+ghost use Prim.Native.Nat.{_<_, _≤_, _+_, _/_, _%_};
+ghost use lib.Dec.{leb};
+ghost use lib.ListN.{length, drop, take};
+ghost use Rattle.parts.specs.Wire.{header, statesOf};
+ghost use Rattle.device.specs.declared.phase.Sent.the-variants.{Nothing};
+ghost use Rattle.turns.specs.Front.{putAll, putEnd, highs, aimed, passedTo, lineCursor, lineOut};
+use crate::cursor::Cursor;
+use device::Sent;
+use parts::Command;
+
+// A header that the last device sent, or the high states.
+pub fn line(cursor: Cursor, states: &[u8], returned: &mut [u8]) -> Cursor
+    requires { ⌜ (cursor .at ≤ length (now states)) × (cursor .written ≤ length (now returned)) ⌝ }
+    ensures { λ r. ⌜ (r ≡ lineCursor (cursor .pending) cursor (now (states .entry)) (length (now (returned .entry)))) × (now (returned .exit) ≡ lineOut cursor (now (states .entry)) (now (returned .entry))) ⌝ }
+{
+    let pending = cursor.pending;
+    match pending {
+        Sent::Nothing => pass(cursor, states, returned),
+        Sent::One(_) => pass(cursor, states, returned),
+        Sent::Header { command, count } => leave(cursor, command, count, states, returned),
+    }
+}
+
+// A header leaves the chain.
+fn leave(cursor: Cursor, command: Command, count: u16, states: &[u8], returned: &mut [u8]) -> Cursor
+    requires { ⌜ cursor .written ≤ length (now returned) ⌝ }
+    ensures { λ r. ⌜ (r ≡ aimed (cursor .count) (cursor .front) (cursor .at) (putEnd (length (now (returned .entry))) (cursor .written) 24) Nothing (drop (cursor .at) (now (states .entry)))) × (now (returned .exit) ≡ putAll (now (returned .entry)) (cursor .written) (statesOf (header command count))) ⌝ }
+{
+    let h = header_states(command, count);
+    let from = cursor.written;
+    let w = append(returned, from, &h);
+    crate::cursor::aim(
+        cursor.count,
+        cursor.front,
+        cursor.at,
+        w,
+        Sent::Nothing,
+        states,
+    )
+}
+
+// The high states leave the chain.
+fn pass(cursor: Cursor, states: &[u8], returned: &mut [u8]) -> Cursor
+    requires { ⌜ (cursor .at ≤ length (now states)) × (cursor .written ≤ length (now returned)) ⌝ }
+    ensures { λ r. ⌜ (r ≡ passedTo cursor (now (states .entry)) (length (now (returned .entry)))) × (now (returned .exit) ≡ putAll (now (returned .entry)) (cursor .written) (take (highs (drop (cursor .at) (now (states .entry)))) (drop (cursor .at) (now (states .entry))))) ⌝ }
+{
+    let at = cursor.at;
+    let from = cursor.written;
+    let end = highs_end(states, at);
+    let w = append(returned, from, &states[at..end]);
+    crate::cursor::aim(cursor.count, cursor.front, end, w, Sent::Nothing, states)
+}
+
+// States are written from a place on, as many as there is room for.
+fn append(returned: &mut [u8], from: usize, states: &[u8]) -> usize
+    requires { ⌜ from ≤ length (now returned) ⌝ }
+    ensures { λ r. ⌜ (r ≡ putEnd (length (now (returned .entry))) from (length (now (states .entry)))) × (now (returned .exit) ≡ putAll (now (returned .entry)) from (now (states .entry))) ⌝ }
+{
+    let n = smaller(states.len(), returned.len() - from);
+    let mut i: usize = 0;
+    while i < n {
+        returned[from + i] = states[i];
+        i += 1;
+    }
+    from + n
+}
+
+// Where the high states from a place on end.
+fn highs_end(states: &[u8], at: usize) -> usize
+    requires { ⌜ at ≤ length (now states) ⌝ }
+    ensures { λ r. ⌜ r ≡ at + highs (drop at (now (states .entry))) ⌝ }
+{
+    let mut i = at;
+    while i < states.len() {
+        if states[i] < 2 {
+            return i;
+        }
+        i += 1;
+    }
+    i
+}
+
+fn smaller(a: usize, b: usize) -> usize
+    ensures { λ r. ⌜ r ≡ cond (leb a b) a b ⌝ }
+{
+    if a <= b { a } else { b }
+}
+
+// The 24 states of a header: SYNC at low load, command and count at high.
+fn header_states(command: Command, count: u16) -> [u8; 24]
+    ensures { λ r. ⌜ r ≡ statesOf (header command count) ⌝ }
+{
+    let c = parts::number_of(command) as u16;
+    let a = high_bit(c, 2);
+    let b = high_bit(c, 1);
+    [
+        1,
+        1,
+        1,
+        0,
+        1,
+        0,
+        0,
+        0,
+        a,
+        b,
+        a,
+        b,
+        a,
+        b,
+        high_bit(count, 512),
+        high_bit(count, 256),
+        high_bit(count, 128),
+        high_bit(count, 64),
+        high_bit(count, 32),
+        high_bit(count, 16),
+        high_bit(count, 8),
+        high_bit(count, 4),
+        high_bit(count, 2),
+        high_bit(count, 1),
+    ]
+}
+
+// A data bit of a number, at high load.
+fn high_bit(n: u16, below: u16) -> u8
+    requires { ⌜ 0 < below ⌝ }
+    ensures { λ r. ⌜ r ≡ n / below % 2 + 2 ⌝ }
+{
+    ((n / below) % 2) as u8 + 2
+}

@@ -1,4 +1,7 @@
 // Frames a to f and h: written from their settings, compared, and read back.
+use crate::lists::both;
+use crate::lists::least;
+use crate::lists::same_values;
 use crate::print;
 use crate::told::frame_of;
 use crate::told::no_tail;
@@ -111,12 +114,11 @@ fn frame_case(
             print::verdict(false);
         }
         Written::Bytes(n) => {
-            if n <= 64 {
-                let frame = &out[..n];
-                print::bytes(frame);
-                let back = is_read_back(told, tail, frame, byte, bytes, values);
-                print::verdict(both(check::same(frame, should), back));
-            }
+            let end = least(n, 64);
+            let frame = &out[..end];
+            print::bytes(frame);
+            let back = is_read_back(told, tail, frame, byte, bytes, values);
+            print::verdict(both(check::same(frame, should), back));
         }
     }
 }
@@ -144,22 +146,4 @@ fn is_read_back(
         print::text(b", NOT read back");
     }
     back
-}
-
-fn same_values(a: &[u16], b: &[u16]) -> bool {
-    if a.len() != b.len() {
-        return false;
-    }
-    let mut i: usize = 0;
-    while i < a.len() {
-        if a[i] != b[i] {
-            return false;
-        }
-        i += 1;
-    }
-    true
-}
-
-fn both(a: bool, b: bool) -> bool {
-    if a { b } else { false }
 }

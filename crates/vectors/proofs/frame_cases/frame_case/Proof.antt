@@ -1,4 +1,4 @@
--- A written frame of n bytes, at most 64, is a part of the output of that length.
+-- A written frame, at most 64 bytes, is a part of the array of that length.
 use mathlib.Core.Path.{sym}
 use lib.Seq.{length-take-le}
 use borrow.Author.Needs.{needs}
@@ -41,6 +41,9 @@ verdict-requires c κs = search needs
 enum-known-n : tie.Need-enum-known-n
 enum-known-n c = search needs
 
+least-requires : tie.Need-least-requires
+least-requires c κs = search needs
+
 array-share-prefix-out : tie.Need-array-share-prefix-out
 array-share-prefix-out c = search needs
 
@@ -68,9 +71,6 @@ returns c = search needs
 returns-2 : tie.Need-returns-2
 returns-2 c = search needs
 
-returns-3 : tie.Need-returns-3
-returns-3 c = search needs
-
 pub frame-case-spec : {M : Type 1} → statement M
 frame-case-spec =
     tie.close
@@ -87,6 +87,7 @@ frame-case-spec =
     refusal-requires
     verdict-requires
     enum-known-n
+    least-requires
     array-share-prefix-out
     slice-aggregate-frame
     bytes-requires-2
@@ -95,5 +96,4 @@ frame-case-spec =
     both-requires
     verdict-requires-2
     returns
-    returns-2
-    returns-3)
+    returns-2)

@@ -3,8 +3,8 @@ use Prim.Native.Nat.{_≤_, _-_}
 use mathlib.Core.Path.{_≡_}
 use lib.ListN.{length}
 use borrow.Author.Needs.{needs}
-use Rattle.vectors.proofs.frame_cases.same_values.Statement.{statement}
-use Rattle.vectors.proofs.frame_cases.same_values.Tie as tie
+use Rattle.vectors.proofs.lists.same_values.Statement.{statement}
+use Rattle.vectors.proofs.lists.same_values.Tie as tie
 
 abbrev Inv-loop : tie.InvT-loop
 Inv-loop a b i₀ i = (i ≤ length a) × (length a ≡ length b)

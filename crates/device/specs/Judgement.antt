@@ -1,7 +1,7 @@
 -- The judgement of a record: what document 01's table says of one under numbers 1 and 13, and the judged step.
 use Prim.Native.Nat.{ℕ}
 use mathlib.Core.Bool.{Bool, true, _&&_, not}
-use mathlib.Core.List.{List, [], _∷_, _++_}
+use mathlib.Core.List.{List, [], _∷_}
 use lib.Dec.{eqb, ltb, leb}
 use Rattle.parts.specs.Parts.{partOf, known, limit}
 use Rattle.parts.specs.Lists.{allBelow}
@@ -57,7 +57,7 @@ judgement d = (1 when not (known (d .registers .part))) ∷ (13 when not (fits d
 
 -- a step's rows
 abbrev pub stepRefusals : Device → ℕ → List Row
-stepRefusals d s = judgement d ++ (13 when not (ltb s 4)) ∷ []
+stepRefusals d s = (1 when not (known (d .registers .part))) ∷ (13 when not (fits d && ltb s 4)) ∷ []
 
 abbrev pub taken : Stepped → Answer
 taken s = record { refusal = 0; device = s .device; sent = s .sent }

@@ -1,4 +1,5 @@
-//! The proved library beside plain Rust, in one run: times, ratios, and the limits that were asked for.
+//! The proved library beside plain Rust, in one run: times, ratios, and the limits that were asked for. Arguments choose
+//! among `packing`, `frames`, `steps`, `chains` and `compare`.
 
 mod chains;
 mod compare;
@@ -15,6 +16,7 @@ const TIMED: &str = if cfg!(feature = "standin") {
 };
 
 fn main() {
+    let wanted: Vec<String> = std::env::args().skip(1).collect();
     println!("Best of many rounds; in a round both sides have their turn, on the same input.");
     println!(
         "Both sides are first shown to give the same. Output memory is not cleared before a call:"
@@ -25,9 +27,16 @@ fn main() {
         "{:64} {:>10} {:>10} {:12} {:>6}",
         "", TIMED, "Rust", "in", "ratio"
     );
-    packing::races();
-    frames::races();
-    steps::races();
-    chains::races();
-    compare::races();
+    let kinds: [(&str, fn()); 5] = [
+        ("packing", packing::races),
+        ("frames", frames::races),
+        ("steps", steps::races),
+        ("chains", chains::races),
+        ("compare", compare::races),
+    ];
+    for (name, races) in kinds {
+        if wanted.is_empty() || wanted.iter().any(|word| word == name) {
+            races();
+        }
+    }
 }

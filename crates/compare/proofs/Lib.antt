@@ -1,5 +1,5 @@
--- Laws of the comparison: its refusal, where two lists first differ, one device group by group, the search from device to device, and the
--- claims.
+-- Laws of the comparison: its refusal, where two lists first differ, one device group by group, the search from device to device, and
+-- what a device holds.
 pub mod Refusal
 pub mod Judged
 pub mod Differs
@@ -7,5 +7,3 @@ pub mod Groups
 pub mod Found
 pub mod Lists
 pub mod Holding
-pub mod Claims
-pub mod Restored

@@ -1,4 +1,4 @@
--- The claims of specs/Claims. By induction on the devices: the first either names its own first difference, or holds what is its own, and then
+-- The claims about a comparison. By induction on the devices: the first either names its own first difference, or holds what is its own, and then
 -- the answer is that of the devices after it.
 use mathlib.Core.Path.{_≡_, refl, ap, sym, subst, _∙_}
 use mathlib.Core.Bool.{Bool, true, false, cond}
@@ -15,14 +15,15 @@ use Rattle.calls.specs.Chain.{blank}
 use Rattle.model.specs.Lists.{All, Both}
 use Rattle.model.specs.Set.{Set, Own, owned}
 use Rattle.model.proofs.Set.{length-owned}
-use Rattle.link.specs.Claims.{Holds}
+use Rattle.link.specs.Records.{Holds}
 use Rattle.compare.specs.declared.compared.Compared.{Compared}
 use Rattle.compare.specs.Compare.{differsAt, Pair, groups, inGroups, compared, same, difference, compareRefusal, comparison}
 use Rattle.compare.specs.Search.{given}
-use Rattle.compare.specs.Claims.{Arrays, SameHolds, HoldsSame, Named, ofSet, ofDevice, DiffersFirst, FirstDifference}
+use Rattle.compare.specs.Differences.{Arrays, ofSet, ofDevice, DiffersFirst, FirstDifference}
+use Rattle.claims.specs.Claims.{SameHolds, HoldsSame, Named}
 use Rattle.compare.proofs.Lists.{differs-first}
 use Rattle.compare.proofs.Holding.{Sized, dealt-sized, sides, equal-holds, holds-groups, groups-equal, GroupAt, group-named, nowhere}
 use Rattle.compare.proofs.Found.{inGroups-none, begin-live}
 
 -- ---- the devices
 

@@ -21,14 +21,14 @@ use Rattle.calls.specs.History.{Call, fresh, run, boundary, fault, refusalOf, a
 use Rattle.model.specs.Lists.{All}
 use Rattle.model.specs.Set.{Set}
 use Rattle.link.specs.Restore.{Writable}
-use Rattle.link.specs.Claims.{start}
+use Rattle.link.specs.Records.{start}
 use Rattle.link.proofs.View.{Sound}
 use Rattle.link.proofs.Calls.{Whole, partBy, partAfter, whole-calls, whole-start, length-afterCalls}
 use Rattle.link.proofs.Frames.{taken, writable-proper}
-use Rattle.link.proofs.Claims.{restored}
+use Rattle.claims.proofs.Demand.{restored}
 use Rattle.compare.specs.Compare.{compareTable, compareRefusal}
-use Rattle.compare.specs.Claims.{RestoredSame}
-use Rattle.compare.proofs.Claims.{holds-same}
+use Rattle.claims.specs.Claims.{RestoredSame}
+use Rattle.claims.proofs.Compared.{holds-same}
 
 -- ---- the part
 

@@ -37,9 +37,10 @@ pub extern "C" fn bb_run(chain: &mut [Device], states: &[u8], returned: &mut [u8
     let mut cursor = entry.cursor;
     while cursor.going {
         let i = cursor.index;
-        let turned = turns::turn(chain[i], cursor, states, returned);
-        chain[i] = turned.device;
-        cursor = turned.cursor;
+        let taken = turns::take_turn(chain[i], cursor, states);
+        let next = turns::turn_after(cursor, taken.at, taken.sent, states, returned);
+        chain[i] = taken.device;
+        cursor = next;
     }
     turns::answer(entry.refusal, cursor.written)
 }

@@ -15,17 +15,17 @@ abbrev table : Bool → Bool → List Row
 table k f = (1 when not k) ∷ (13 when not f) ∷ []
 
 -- a record that is refused refuses its step
-pub first-sooner : (k f s : Bool) (n : ℕ) → n ≡ first (table k f) → (n ≡ 0 → ⊥) → n ≡ first (table k (f && s))
-first-sooner false f s n e h = e
-first-sooner true false s n e h = e
-first-sooner true true s n e h = absurd (h e)
+pub first-record : (k f s : Bool) (n : ℕ) → n ≡ first (table k f) → (n ≡ 0 → ⊥) → n ≡ first (table k (f && s))
+first-record false f s n e h = e
+first-record true false s n e h = e
+first-record true true s n e h = absurd (h e)
 
 -- one that is not leaves it to the state
-pub first-later : (k f s : Bool) (n : ℕ) → n ≡ first (table k f) → n ≡ 0 → cond s 0 13 ≡ first (table k (f && s))
-first-later false f s n e h = absurd (omega arith)
-first-later true false s n e h = absurd (omega arith)
-first-later true true true n e h = refl
-first-later true true false n e h = refl
+pub first-state : (k f s : Bool) (n : ℕ) → n ≡ first (table k f) → n ≡ 0 → cond s 0 13 ≡ first (table k (f && s))
+first-state false f s n e h = absurd (omega arith)
+first-state true false s n e h = absurd (omega arith)
+first-state true true true n e h = refl
+first-state true true false n e h = refl
 
 pub judgement-lowest : (d : Device) → (first (judgement d) ≡ 0 → ⊥) → Lowest (first (judgement d)) (judgement d)
 judgement-lowest d h = lowest (judgement d) refl h

@@ -27,12 +27,11 @@ use Rattle.intake.specs.Intake.{stopped}
 use Rattle.intake.specs.declared.states.Taken.{Taken}
 use Rattle.calls.specs.Chain.{through, allFit, blank}
 use Rattle.turns.specs.declared.cursor.Cursor.{Cursor}
-use Rattle.turns.specs.declared.turning.Turned.{Turned}
-use Rattle.turns.specs.Front.{isPassing, passes, untilSent, frontTaken, sliceStart, deviceTaken, putAll, putEnd, highs, indexOf, cursor, facing, aimed, frontAfter, lineCursor, lineOut, deviceTurn, lineTurn, turnWithin, turnedOut, Running, turning, turns, started, enough, frontRun}
+use Rattle.turns.specs.Front.{isPassing, passes, untilSent, frontTaken, sliceStart, deviceTaken, putAll, putEnd, highs, indexOf, cursor, facing, aimed, frontAfter, lineCursor, lineOut, deviceTurn, turnedOut, Running, turning, turns, started, enough, frontRun, Turned}
 use Rattle.turns.proofs.Lines.{put-full, length-put, put-append, highs-fit, length-header-states}
 use Rattle.turns.proofs.Header.{run-then, run-header}
 use Rattle.turns.proofs.Taking.{by-test, through-append, High, AllPass, none, also, passer, through-high, Takes, takes-none, takes, Ending, quiet, sent, endings, ending-low}
-use Rattle.turns.proofs.Turns.{no-way, owed, low-front, turned-is, turned-out-is, Good, measure, good-start, good-next, nearer-next, turns-on, turns-stop, near-start}
+use Rattle.turns.proofs.Turns.{no-way, owed, low-front, lineTurn, turnWithin, turned-is, turned-out-is, Good, measure, good-start, good-next, nearer-next, turns-on, turns-stop, near-start}
 
 abbrev Whole : Type 0
 Whole = List Device × List ℕ

@@ -16,8 +16,7 @@ use Rattle.intake.specs.Intake.{stopped, unlessSent}
 use Rattle.intake.specs.declared.states.Taken.{Taken}
 use Rattle.calls.specs.Chain.{blank}
 use Rattle.turns.specs.declared.cursor.Cursor.{Cursor}
-use Rattle.turns.specs.declared.turning.Turned.{Turned}
-use Rattle.turns.specs.Front.{passes, untilSent, frontTaken, sliceStart, deviceTaken, putEnd, highs, indexOf, cursor, facing, aimed, frontAfter, haltedAt, leaving, isFirst, lineCursor, lineOut, deviceTurn, lineTurn, turnWithin, within, turned, turnedOut, Running, turnAt, turning, turns, started, begun, enough}
+use Rattle.turns.specs.Front.{passes, untilSent, frontTaken, sliceStart, deviceTaken, putEnd, highs, indexOf, cursor, facing, aimed, frontAfter, leaving, isFirst, lineCursor, lineOut, deviceTurn, within, turned, turnedOut, Running, turnAt, turning, turns, started, begun, enough, Turned, turnTaken, cursorTo, cursorAfter, lineAfter, lineRoom, halted}
 use Rattle.turns.proofs.Lines.{highs-within, length-put}
 use Rattle.turns.proofs.Taking.{by-test}
 
@@ -140,8 +139,8 @@ pub record Good (n : ℕ) (ss : List ℕ) (room : ℕ) (r : Running) : Type 0 wh
 out-length : (c : Cursor) (ss os : List ℕ) → length (turnedOut c ss os) ≡ length os
 unfolding turnedOut
 out-length c ss os =
-    by-test (within c ss (length os)) (cond (ltb (c .front) (c .count)) os (lineOut c ss os)) os (λ (xs : List ℕ). length xs ≡ length os)
-    (by-test (ltb (c .front) (c .count)) os (lineOut c ss os) (λ (xs : List ℕ). length xs ≡ length os) refl (length-put os (c .written) (leaving (c .pending) (drop (c .at) ss)))) refl
+    by-test (ltb (c .front) (c .count)) os (lineRoom c ss os) (λ (xs : List ℕ). length xs ≡ length os) refl
+    (by-test (within c ss (length os)) (lineOut c ss os) os (λ (xs : List ℕ). length xs ≡ length os) (length-put os (c .written) (leaving (c .pending) (drop (c .at) ss))) refl)
 
 putEnd-within : (room w k : ℕ) → putEnd room w k ≤ room
 putEnd-within room w k = go (leb (w + k) room) refl
@@ -174,6 +173,13 @@ line-fit Nothing c ss room h a b = aimed-fit (c .count) (c .front) _ _ room Noth
 line-fit (One x) c ss room h a b = aimed-fit (c .count) (c .front) _ _ room Nothing ss h (highs-within ss (c .at) a) (putEnd-within room (c .written) _)
 line-fit (Header k m) c ss room h a b = aimed-fit (c .count) (c .front) (c .at) _ room Nothing ss h a (putEnd-within room (c .written) _)
 
+-- a turn whose cursor is within the states and the room
+abbrev pub lineTurn : Device → Cursor → List ℕ → ℕ → Turned
+lineTurn d c ss room = record { device = d; cursor = lineCursor (c .pending) c ss room }
+
+abbrev pub turnWithin : Device → Cursor → List ℕ → ℕ → Turned
+turnWithin d c ss room = cond (ltb (c .front) (c .count)) (deviceTurn d c ss) (lineTurn d c ss room)
+
 within-fit : (d : Device) (c : Cursor) (ss : List ℕ) (room : ℕ) → 0 < c .count → c .at ≤ length ss → c .written ≤ room → Fit (c .count) ss room (turnWithin d c ss room .cursor)
 within-fit d c ss room h a b =
     let t : Taken = deviceTaken (isFirst c) d (c .pending) (drop (c .at) ss) (c .at) in
@@ -187,11 +193,32 @@ within-is c ss room a b = rw (le-leb (c .at) (length ss) a, le-leb (c .written) 
 
 pub turned-is : (d : Device) (c : Cursor) (ss : List ℕ) (room : ℕ) → c .at ≤ length ss → c .written ≤ room → turned d c ss room ≡ turnWithin d c ss room
 unfolding turned
-turned-is d c ss room a b = ap (λ (t : Bool). cond t (turnWithin d c ss room) (haltedAt d)) (within-is c ss room a b)
+turned-is d c ss room a b =
+    ap (λ (t : Bool). cond (ltb (c .front) (c .count)) (deviceTurn d c ss) (record { device = d; cursor = cond t (lineCursor (c .pending) c ss room) halted })) (within-is c ss room a b)
 
 pub turned-out-is : (c : Cursor) (ss os : List ℕ) → c .at ≤ length ss → c .written ≤ length os → turnedOut c ss os ≡ cond (ltb (c .front) (c .count)) os (lineOut c ss os)
 unfolding turnedOut
-turned-out-is c ss os a b = ap (λ (t : Bool). cond t (cond (ltb (c .front) (c .count)) os (lineOut c ss os)) os) (within-is c ss (length os) a b)
+turned-out-is c ss os a b = ap (λ (t : Bool). cond (ltb (c .front) (c .count)) os (cond t (lineOut c ss os) os)) (within-is c ss (length os) a b)
+
+-- first the record, then the cursor
+pub turned-device : (d : Device) (c : Cursor) (ss : List ℕ) (room : ℕ) → turnTaken d c ss .device ≡ turned d c ss room .device
+unfolding turned
+turned-device d c ss room = go (ltb (c .front) (c .count))
+  where
+    go : (t : Bool) → cond t (deviceTaken (isFirst c) d (c .pending) (drop (c .at) ss) (c .at)) (stopped d (c .at) Nothing) .device
+        ≡ cond t (deviceTurn d c ss) (record { device = d; cursor = lineAfter c ss room }) .device
+    go true = refl
+    go false = refl
+
+pub turned-cursor : (d : Device) (c : Cursor) (ss : List ℕ) (room : ℕ) → cursorAfter c (turnTaken d c ss .at) (turnTaken d c ss .sent) ss room ≡ turned d c ss room .cursor
+unfolding turned
+turned-cursor d c ss room = go (ltb (c .front) (c .count))
+  where
+    go : (t : Bool)
+        → cond t (cursorTo c (cond t (deviceTaken (isFirst c) d (c .pending) (drop (c .at) ss) (c .at)) (stopped d (c .at) Nothing) .at) (cond t (deviceTaken (isFirst c) d (c .pending) (drop (c .at) ss) (c .at)) (stopped d (c .at) Nothing) .sent) ss) (lineAfter c ss room)
+        ≡ cond t (deviceTurn d c ss) (record { device = d; cursor = lineAfter c ss room }) .cursor
+    go true = refl
+    go false = refl
 
 turned-fit : (d : Device) (c : Cursor) (ss : List ℕ) (room : ℕ) → 0 < c .count → c .at ≤ length ss → c .written ≤ room → Fit (c .count) ss room (turned d c ss room .cursor)
 turned-fit d c ss room h a b =

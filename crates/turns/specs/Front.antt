@@ -1,25 +1,25 @@
 -- A run through a lent chain by its front, the first device that is not passing: only that device can change. What one turn does, and turn
 -- after turn. These definitions are what the functions inside a run answer; that the whole is the plain chain of calls/specs/Chain is in
 -- proofs/Same, and no call's contract speaks of them.
-use Prim.Native.Nat.{ℕ, zero, suc, _+_, _*_}
-use mathlib.Core.Bool.{Bool, true, false, not, _&&_, cond}
+use Prim.Native.Nat.{ℕ, zero, suc, _+_, _*_, _%_}
+use mathlib.Core.Bool.{Bool, true, false, not, _&&_, _||_, cond}
 use mathlib.Core.List.{List, [], _∷_}
 use lib.Dec.{eqb, ltb, leb}
 use lib.ListN.{length, getD, set, take, drop}
 use Rattle.parts.specs.Wire.{header, statesOf}
 use Rattle.parts.specs.declared.command.Command.{Command}
-use Rattle.device.specs.Phases.{phaseOf}
+use Rattle.device.specs.Phases.{phaseOf, heard, inHeader, headed}
 use Rattle.device.specs.Step.{step, at}
 use Rattle.device.specs.declared.phase.Phase.{Phase}
 use Rattle.device.specs.declared.phase.Phase.the-variants.{Hunting, Opening, Counting, Slice, Passing, Lost}
 use Rattle.device.specs.declared.phase.Sent.{Sent}
 use Rattle.device.specs.declared.phase.Sent.the-variants.{Nothing, One, Header}
 use Rattle.device.specs.declared.device.Device.{Device}
-use Rattle.intake.specs.Intake.{stopped, unlessSent}
+use Rattle.intake.specs.Intake.{stopped, unlessSent, takenFrom}
 use Rattle.intake.specs.declared.states.Taken.{Taken}
 use Rattle.calls.specs.Chain.{blank}
 use Rattle.turns.specs.declared.cursor.Cursor.{Cursor}
-use Rattle.turns.specs.declared.turning.Turned.{Turned}
+use Rattle.turns.specs.declared.states.Roamed.{Roamed}
 
 -- ---- one device
 
@@ -31,6 +31,14 @@ isPassing (Slice c count taken) = false
 isPassing Passing = true
 isPassing Lost = false
 
+abbrev pub isLost : Phase → Bool
+isLost (Hunting window) = false
+isLost (Opening read) = false
+isLost (Counting c read) = false
+isLost (Slice c count taken) = false
+isLost Passing = false
+isLost Lost = true
+
 abbrev pub passes : Device → Bool
 passes d = isPassing (phaseOf (d .place))
 
@@ -40,6 +48,26 @@ untilSent first d [] i = stopped d i Nothing
 untilSent first d (s ∷ ss) i =
     cond (ltb s 2 && not first) (stopped d i Nothing)
     (unlessSent (step d s .sent) (untilSent first (step d s .device) ss (i + 1)) (stopped (step d s .device) (i + 1) (step d s .sent)))
+
+-- a phase goes on at a state without a register being touched: at any low one, and at a high one unless it is of the device's slice or passed on
+abbrev pub roams : Phase → ℕ → Bool
+roams p s = ltb s 2 || (inHeader p || isLost p)
+
+abbrev pub roamStep : Phase → ℕ → Phase
+roamStep p s = cond (ltb s 2) (heard p s) (headed p (s % 2))
+
+-- as long as it does; i counts along
+unfoldable pub roamed : Phase → List ℕ → ℕ → Roamed
+roamed p [] i = record { phase = p; at = i }
+roamed p (s ∷ ss) i = cond (roams p s) (roamed (roamStep p s) ss (i + 1)) (record { phase = p; at = i })
+
+abbrev pub roamTaken : Device → Roamed → Taken
+roamTaken d q = stopped (at (d .registers) (q .phase)) (q .at) Nothing
+
+-- a batch of the first device's states: from a low one on as long as its phase alone goes on, or as `take` takes them
+abbrev pub batchTaken : Device → List ℕ → ℕ → Taken
+batchTaken d [] i = stopped d i Nothing
+batchTaken d (s ∷ ss) i = cond (ltb s 2) (roamTaken d (roamed (phaseOf (d .place)) (s ∷ ss) i)) (takenFrom d (s ∷ ss) i)
 
 -- the front device, no header being under way. A passing one takes no high state: `One 0` says that the front moves on
 abbrev pub frontTaken : Bool → Device → List ℕ → ℕ → Taken
@@ -110,19 +138,27 @@ leaving (One s) ss = take (highs ss) ss
 
 -- ---- a turn
 
+-- what one turn makes of its device and of the cursor
+pub record Turned : Type 0 where
+  pub device : Device
+  pub cursor : Cursor
+
 abbrev pub isFirst : Cursor → Bool
 isFirst c = eqb (c .front) 0
 
-abbrev pub afterTaken : Cursor → Taken → List ℕ → Turned
-afterTaken c t ss =
-    record {
-      device = t .device;
-      cursor = aimed (c .count) (frontAfter (c .front) (t .sent)) (t .at) (c .written) (t .sent) (drop (t .at) ss);
-    }
+-- what the device of a turn takes: the front device what is its own, and none takes anything where all pass
+abbrev pub turnTaken : Device → Cursor → List ℕ → Taken
+turnTaken d c ss =
+    cond (ltb (c .front) (c .count)) (deviceTaken (isFirst c) d (c .pending) (drop (c .at) ss) (c .at)) (stopped d (c .at) Nothing)
 
--- the front device takes what is its own
+-- the cursor after the front device took the states before a place and sent
+abbrev pub cursorTo : Cursor → ℕ → Sent → List ℕ → Cursor
+cursorTo c at s ss = aimed (c .count) (frontAfter (c .front) s) at (c .written) s (drop at ss)
+
 abbrev pub deviceTurn : Device → Cursor → List ℕ → Turned
-deviceTurn d c ss = afterTaken c (deviceTaken (isFirst c) d (c .pending) (drop (c .at) ss) (c .at)) ss
+deviceTurn d c ss =
+    let t : Taken = deviceTaken (isFirst c) d (c .pending) (drop (c .at) ss) (c .at) in
+    record { device = t .device; cursor = cursorTo c (t .at) (t .sent) ss }
 
 -- the cursor after k states left the chain, the next state being at a place
 abbrev pub lineTo : Cursor → ℕ → ℕ → List ℕ → ℕ → Cursor
@@ -136,28 +172,30 @@ lineCursor (Header k n) c ss room = lineTo c (c .at) 24 ss room
 lineCursor Nothing c ss room = passedTo c ss room
 lineCursor (One s) c ss room = passedTo c ss room
 
-abbrev pub lineTurn : Device → Cursor → List ℕ → ℕ → Turned
-lineTurn d c ss room = record { device = d; cursor = lineCursor (c .pending) c ss room }
-
 abbrev pub lineOut : Cursor → List ℕ → List ℕ → List ℕ
 lineOut c ss os = putAll os (c .written) (leaving (c .pending) (drop (c .at) ss))
 
-abbrev pub turnWithin : Device → Cursor → List ℕ → ℕ → Turned
-turnWithin d c ss room = cond (ltb (c .front) (c .count)) (deviceTurn d c ss) (lineTurn d c ss room)
-
--- the cursor is within the states and the room
+-- the cursor is within the states and the room; one that is not halts
 abbrev pub within : Cursor → List ℕ → ℕ → Bool
 within c ss room = leb (c .at) (length ss) && leb (c .written) room
 
-abbrev pub haltedAt : Device → Turned
-haltedAt d = record { device = d; cursor = halted }
+abbrev pub lineAfter : Cursor → List ℕ → ℕ → Cursor
+lineAfter c ss room = cond (within c ss room) (lineCursor (c .pending) c ss room) halted
 
--- a turn of any device with any cursor; one that is not within halts
+abbrev pub lineRoom : Cursor → List ℕ → List ℕ → List ℕ
+lineRoom c ss os = cond (within c ss (length os)) (lineOut c ss os) os
+
+-- the cursor after a turn whose device took the states before a place and sent
+abbrev pub cursorAfter : Cursor → ℕ → Sent → List ℕ → ℕ → Cursor
+cursorAfter c at s ss room = cond (ltb (c .front) (c .count)) (cursorTo c at s ss) (lineAfter c ss room)
+
+-- a turn of any device with any cursor
 unfoldable pub turned : Device → Cursor → List ℕ → ℕ → Turned
-turned d c ss room = cond (within c ss room) (turnWithin d c ss room) (haltedAt d)
+turned d c ss room =
+    cond (ltb (c .front) (c .count)) (deviceTurn d c ss) (record { device = d; cursor = lineAfter c ss room })
 
 unfoldable pub turnedOut : Cursor → List ℕ → List ℕ → List ℕ
-turnedOut c ss os = cond (within c ss (length os)) (cond (ltb (c .front) (c .count)) os (lineOut c ss os)) os
+turnedOut c ss os = cond (ltb (c .front) (c .count)) os (lineRoom c ss os)
 
 -- ---- turn after turn
 

@@ -21,5 +21,5 @@ pub use judging::is_count;
 pub use judging::judge_none;
 pub use judging::judge_one;
 pub use judging::with_fault;
-pub use turning::Turned;
-pub use turning::turn;
+pub use turning::take_turn;
+pub use turning::turn_after;

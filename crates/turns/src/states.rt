@@ -3,12 +3,19 @@ ghost use mathlib.Core.Path.{_≡_};
 ghost use mathlib.Core.Bool.{Bool, true, false, not, _&&_};
 ghost use lib.Dec.{ltb};
 ghost use lib.ListN.{drop};
-ghost use Rattle.turns.specs.Front.{passes, untilSent, frontTaken, sliceStart, deviceTaken};
+ghost use Rattle.turns.specs.Front.{isLost, passes, untilSent, frontTaken, sliceStart, deviceTaken};
+ghost use Rattle.turns.specs.Front.{roams, roamStep, roamed, batchTaken};
 use device::Device;
 use device::Phase;
 use device::Sent;
 use intake::Taken;
 use parts::Command;
+
+// A phase, and the place of the next state.
+pub struct Roamed {
+    pub phase: Phase,
+    pub at: usize,
+}
 
 // By the header under way, or by the next state. The first device alone takes low states.
 pub fn device_take(device: Device, first: bool, pending: Sent, states: &[u8], at: usize) -> Taken
@@ -72,7 +79,7 @@ fn take_all(device: Device, states: &[u8], at: usize) -> Taken
     let mut d = device;
     let mut i = at;
     while i < states.len() {
-        let t = intake::take(d, states, i);
+        let t = batch(d, states, i);
         let next = t.device;
         let sent = t.sent;
         i = t.at;
@@ -103,6 +110,92 @@ fn take_all(device: Device, states: &[u8], at: usize) -> Taken
         device: d,
         at: i,
         sent: Sent::Nothing,
+    }
+}
+
+// A batch of them: from a low one on as long as the phase alone goes on, so that a flood moves no record, or as `take` takes them.
+fn batch(device: Device, states: &[u8], at: usize) -> Taken
+    ensures { λ r. ⌜ r ≡ batchTaken device (drop at (now (states .entry))) at ⌝ }
+{
+    if at < states.len() {
+        if states[at] < 2 {
+            let place = device.place;
+            let roamed = roam(device::phase_of(place), states, at);
+            let phase = roamed.phase;
+            let mut next = device;
+            let reached = device::place_of(phase);
+            next.place = reached;
+            return Taken {
+                device: next,
+                at: roamed.at,
+                sent: Sent::Nothing,
+            };
+        }
+        return intake::take(device, states, at);
+    }
+    Taken {
+        device: device,
+        at: at,
+        sent: Sent::Nothing,
+    }
+}
+
+// A phase goes on as long as no register is touched.
+fn roam(phase: Phase, states: &[u8], at: usize) -> Roamed
+    ensures { λ r. ⌜ r ≡ roamed phase (drop at (now (states .entry))) at ⌝ }
+{
+    let mut p = phase;
+    let mut i = at;
+    while i < states.len() {
+        let s = states[i];
+        if !roams_at(p, s) {
+            return Roamed { phase: p, at: i };
+        }
+        p = roam_step(p, s);
+        i += 1;
+    }
+    Roamed { phase: p, at: i }
+}
+
+fn roams_at(phase: Phase, state: u8) -> bool
+    ensures { λ r. ⌜ r ≡ roams phase state ⌝ }
+{
+    if state < 2 {
+        return true;
+    }
+    if device::in_header(phase) {
+        return true;
+    }
+    is_lost(phase)
+}
+
+fn roam_step(phase: Phase, state: u8) -> Phase
+    ensures { λ r. ⌜ r ≡ roamStep phase state ⌝ }
+{
+    if state < 2 {
+        device::hear(phase, state)
+    } else {
+        device::header_bit(phase, state % 2)
+    }
+}
+
+fn is_lost(phase: Phase) -> bool
+    ensures { λ r. ⌜ r ≡ isLost phase ⌝ }
+{
+    match phase {
+        Phase::Hunting { window: _ } => false,
+        Phase::Opening { read: _ } => false,
+        Phase::Counting {
+            command: _,
+            read: _,
+        } => false,
+        Phase::Slice {
+            command: _,
+            count: _,
+            taken: _,
+        } => false,
+        Phase::Passing => false,
+        Phase::Lost => true,
     }
 }
 

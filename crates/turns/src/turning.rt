@@ -1,63 +1,48 @@
-// One turn of a run: the front device takes what is its own, or what every device passes leaves the chain.
+// One turn of a run: the front device takes what is its own, or what every device passes leaves the chain. First the record, then the cursor,
+// so that a record is moved once in and once out.
 ghost use mathlib.Core.Path.{_≡_};
-ghost use Prim.Native.Nat.{_<_};
 ghost use lib.ListN.{length};
-ghost use Rattle.turns.specs.Front.{deviceTurn, haltedAt, turned, turnedOut};
+ghost use Rattle.turns.specs.Front.{turnTaken, cursorAfter, turnedOut};
 use crate::cursor::Cursor;
 use device::Device;
+use device::Sent;
+use intake::Taken;
 
-pub struct Turned {
-    pub device: Device,
-    pub cursor: Cursor,
-}
-
-// A cursor past the states or the room halts.
-pub fn turn(device: Device, cursor: Cursor, states: &[u8], returned: &mut [u8]) -> Turned
-    ensures { λ r. ⌜ (r ≡ turned device cursor (now (states .entry)) (length (now (returned .entry)))) × (now (returned .exit) ≡ turnedOut cursor (now (states .entry)) (now (returned .entry))) ⌝ }
-{
-    if cursor.at > states.len() {
-        return halted_at(device);
-    }
-    if cursor.written > returned.len() {
-        return halted_at(device);
-    }
-    if cursor.front < cursor.count {
-        device_turn(device, cursor, states)
-    } else {
-        let next = crate::line::line(cursor, states, returned);
-        Turned {
-            device: device,
-            cursor: next,
-        }
-    }
-}
-
-// The front device's turn.
-fn device_turn(device: Device, cursor: Cursor, states: &[u8]) -> Turned
-    requires { ⌜ cursor .front < cursor .count ⌝ }
-    ensures { λ r. ⌜ r ≡ deviceTurn device cursor (now (states .entry)) ⌝ }
+// What the device of the turn takes.
+pub fn take_turn(device: Device, cursor: Cursor, states: &[u8]) -> Taken
+    ensures { λ r. ⌜ r ≡ turnTaken device cursor (now (states .entry)) ⌝ }
 {
     let at = cursor.at;
-    let front = cursor.front;
-    let pending = cursor.pending;
-    let t = crate::states::device_take(device, front == 0, pending, states, at);
-    let next = t.device;
-    let reached = t.at;
-    let sent = t.sent;
-    let to = crate::cursor::front_after(front, sent);
-    let then = crate::cursor::aim(cursor.count, to, reached, cursor.written, sent, states);
-    Turned {
-        device: next,
-        cursor: then,
+    if cursor.front < cursor.count {
+        let pending = cursor.pending;
+        return crate::states::device_take(device, cursor.front == 0, pending, states, at);
+    }
+    Taken {
+        device: device,
+        at: at,
+        sent: Sent::Nothing,
     }
 }
 
-fn halted_at(device: Device) -> Turned
-    ensures { λ r. ⌜ r ≡ haltedAt device ⌝ }
+// The cursor after it, and what leaves the chain. A cursor past the states or the room halts.
+pub fn turn_after(
+    cursor: Cursor,
+    at: usize,
+    sent: Sent,
+    states: &[u8],
+    returned: &mut [u8],
+) -> Cursor
+    ensures { λ r. ⌜ (r ≡ cursorAfter cursor at sent (now (states .entry)) (length (now (returned .entry)))) × (now (returned .exit) ≡ turnedOut cursor (now (states .entry)) (now (returned .entry))) ⌝ }
 {
-    let cursor = crate::cursor::halt();
-    Turned {
-        device: device,
-        cursor: cursor,
+    if cursor.front < cursor.count {
+        let front = crate::cursor::front_after(cursor.front, sent);
+        return crate::cursor::aim(cursor.count, front, at, cursor.written, sent, states);
     }
+    if cursor.at > states.len() {
+        return crate::cursor::halt();
+    }
+    if cursor.written > returned.len() {
+        return crate::cursor::halt();
+    }
+    crate::line::line(cursor, states, returned)
 }

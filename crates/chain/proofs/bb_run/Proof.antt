@@ -1,7 +1,8 @@
--- `chain::bb_run` meets its contract: a walk of its MIR, by hand. Records are judged once; each turn reads a record, calls `turn` with both
--- slices lent on, stores the record and keeps the cursor. What a turn does to the run is in turns/proofs/Whole.
+-- `chain::bb_run` meets its contract: a walk of its MIR, by hand. Records are judged once; each turn reads a record, calls `take_turn`
+-- and `turn_after` with the slices lent on, and stores the record and the cursor. What a turn does to the run is in turns/proofs/Whole.
 use Rattle.chain.proofs.Walk.{_≡_, refl, sym, _∙_, ap, subst, ℕ, zero, suc, _*_, _<_, _^_, arith, Bool, true, false, List, [], _∷_, length, getD, set, URA, fullShare, Ty, named, erased, mut, imm, w8, w64, tyBool, tyPtr, tyRef, vbool, vint, vptr, Val, SProp, ent, sep, emp, via, fst∗, Lft, GName, Share, ftrue, fat, flft, Memory, Routine, Heap, Out, Env, Wp, WpFn, Tables, afterSeq, afterBlock, afterTurn, atReturn, Atoms, sem, fmOf, Given, Item, ‵, raw, _⊛_, ⋆, anyQ, atRet, _$_, _∵_, !, qed, by, move, use1, drop, split, join, rewrite, fsplit, fjoin, suffices, frame, done, whole, sub, look-in, agg, look, look-raw, store, store-raw, init, forget, stop, hop, fld, from, load, lit, of-opd, and-then, no-more, bin, addr, assigns, assigns-last, land, stays, leaves-loop, exec, returns, enter, alloc1, alloc0, params1, pass1, pass0, free1, free0, Fun, givenOf, tables, tablesOf, yes, owns, pointee, Is, shows, uint-vals, uint-tells, uint-makes, uint-copy, RefT, now, sliceTy, sliceVal, MutSlice, ShrSlice, Room, finally, slice-vals, mut-slice-tells, shr-slice-tells, row, plain, shrSliceOf, u8, usize, onEntry, tripleOf, Contract, Triple, cited, nothing, owned, heard, says, Stays, gave-slice, stay-dropped, walkOf, ends-at, walked, goes-gave-slice, goes-dropped, word, byte, loop, id⊢}
 use denote.Struct.Laws as LL
+use denote.Enum.Laws as EL
 use Rattle.parts.specs.Refusals.{first}
 use Rattle.device.specs.declared.device.Device.{Device}
 use Rattle.device.proofs.device.Device.Laws.{mir as dev}
@@ -11,8 +12,9 @@ use Rattle.turns.specs.declared.cursor.Cursor.{Cursor}
 use Rattle.turns.specs.declared.entry.Entry.{Entry}
 use Rattle.turns.specs.declared.entry.Ran.{Ran}
 use Rattle.turns.specs.declared.judging.Judged.{Judged}
-use Rattle.turns.specs.declared.turning.Turned.{Turned}
-use Rattle.turns.specs.Front.{Running, nowAt, turned, turnedOut, turning, enough}
+use Rattle.device.specs.declared.phase.Sent.{Sent}
+use Rattle.intake.specs.declared.states.Taken.{Taken}
+use Rattle.turns.specs.Front.{Running, nowAt, turnTaken, cursorAfter, turned, turnedOut, turning, enough}
 use Rattle.turns.specs.Judging.{unjudged, judgedFrom, runRows}
 use Rattle.turns.specs.Entry.{entryUnder, ran, runEnd}
 use Rattle.turns.proofs.cursor.Cursor as C
@@ -23,10 +25,12 @@ use Rattle.turns.proofs.entry.Ran as R
 use Rattle.turns.proofs.entry.Ran.Laws as R′
 use Rattle.turns.proofs.judging.Judged as J
 use Rattle.turns.proofs.judging.Judged.Laws as J′
-use Rattle.turns.proofs.turning.Turned as S
-use Rattle.turns.proofs.turning.Turned.Laws as S′
+use Rattle.intake.proofs.states.Taken as S
+use Rattle.intake.proofs.states.Taken.Laws as S′
+use Rattle.device.proofs.phase.Sent as N
+use Rattle.device.proofs.phase.Sent.Laws as N′
 use Rattle.turns.proofs.Judged.{run-refusal-found}
-use Rattle.turns.proofs.Turns.{Good}
+use Rattle.turns.proofs.Turns.{Good, turned-device, turned-cursor}
 use Rattle.turns.proofs.Whole.{Stands, stands-next, stands-zero, stands-end, stands-start, run-same}
 use Rattle.chain.proofs.Dev.{D, val, vals, tells, made, lawful, place-fits, place-at, size, out, into, back}
 use Rattle.chain.proofs.Lent.{ref, sl, Open, Seen, opened, final, looked, shut, lends, returned, lends-shared, returned-shared, hold, free, Again, again, loops, calls-val, calls-plain, closes}
@@ -39,10 +43,14 @@ use Rattle.turns.proofs.enter as opening
 use Rattle.turns.proofs.enter.Symbol as opening-def
 use Rattle.turns.proofs.enter.Symbol.{name as #opening}
 use Rattle.turns.proofs.enter.Met as opening-thm
-use Rattle.turns.proofs.turn as turn
-use Rattle.turns.proofs.turn.Symbol as turn-def
-use Rattle.turns.proofs.turn.Symbol.{name as #turn}
-use Rattle.turns.proofs.turn.Met as turn-thm
+use Rattle.turns.proofs.take_turn as take
+use Rattle.turns.proofs.take_turn.Symbol as take-def
+use Rattle.turns.proofs.take_turn.Symbol.{name as #take}
+use Rattle.turns.proofs.take_turn.Met as take-thm
+use Rattle.turns.proofs.turn_after as after
+use Rattle.turns.proofs.turn_after.Symbol as after-def
+use Rattle.turns.proofs.turn_after.Symbol.{name as #after}
+use Rattle.turns.proofs.turn_after.Met as after-thm
 use Rattle.turns.proofs.answer as answer
 use Rattle.turns.proofs.answer.Symbol as answer-def
 use Rattle.turns.proofs.answer.Symbol.{name as #answer}
@@ -74,6 +82,12 @@ cvals = LL.vals C.the-type C′.the-laws
 abbrev CIs : Cursor → Type 0
 CIs c = Is C.the-row c (cvals c)
 
+abbrev nvals : Sent → List Val
+nvals = EL.vals N.the-type N′.the-laws
+
+abbrev NIs : Sent → Type 0
+NIs x = Is N.the-row x (nvals x)
+
 abbrev rval : Ran → Val
 rval = LL.val R.the-type R′.the-laws
 
@@ -86,8 +100,11 @@ stayed = (gave-slice (0 ∷ []) tt (plain (λ _. D)), (stay-dropped (shrSliceOf 
 abbrev EnterC : {M : Type 1} (𝓤 : URA M) (H : Heap 𝓤) (A : Atoms 𝓤) (mem : Memory → SProp 𝓤) (run : Routine → Fun 𝓤) → Contract 𝓤
 EnterC 𝓤 H A mem run = tripleOf 𝓤 H A opening.signature (opening.spec 𝓤 H A mem run)
 
-abbrev TurnC : {M : Type 1} (𝓤 : URA M) (H : Heap 𝓤) (A : Atoms 𝓤) (mem : Memory → SProp 𝓤) (run : Routine → Fun 𝓤) → Contract 𝓤
-TurnC 𝓤 H A mem run = tripleOf 𝓤 H A turn.signature (turn.spec 𝓤 H A mem run)
+abbrev TakeC : {M : Type 1} (𝓤 : URA M) (H : Heap 𝓤) (A : Atoms 𝓤) (mem : Memory → SProp 𝓤) (run : Routine → Fun 𝓤) → Contract 𝓤
+TakeC 𝓤 H A mem run = tripleOf 𝓤 H A take.signature (take.spec 𝓤 H A mem run)
+
+abbrev AfterC : {M : Type 1} (𝓤 : URA M) (H : Heap 𝓤) (A : Atoms 𝓤) (mem : Memory → SProp 𝓤) (run : Routine → Fun 𝓤) → Contract 𝓤
+AfterC 𝓤 H A mem run = tripleOf 𝓤 H A after.signature (after.spec 𝓤 H A mem run)
 
 abbrev AnswerC : {M : Type 1} (𝓤 : URA M) (H : Heap 𝓤) (A : Atoms 𝓤) (mem : Memory → SProp 𝓤) (run : Routine → Fun 𝓤) → Contract 𝓤
 AnswerC 𝓤 H A mem run = tripleOf 𝓤 H A answer.signature (answer.spec 𝓤 H A mem run)
@@ -136,24 +153,35 @@ module _ {M : Type 1} (𝓤 : URA M) (H : Heap 𝓤) (A : Atoms 𝓤) (W : Given
       nothing ! $ owned ! usize (Is usize) (uint-makes 𝓤 H A W w64) (length os) _ (refl, r-fits) $ fjoin ! $ move ! (1 ∷ 0 ∷ []) $ fjoin ! $ owned ! usize (Is usize) (uint-makes 𝓤 H A W w64) (length xs) _ (refl, n-fits) $ fjoin ! $
       owned ! J.the-row (Is J.the-row) (LL.makes J.the-type J′.the-plain 𝓤 H A) j _ j-is $ fjoin ! $ nothing ! $ move ! (2 ∷ 0 ∷ []) $ join ! $ join ! $ nothing ! $ move ! (1 ∷ 0 ∷ []) $ done !
 
-  abbrev to-turn : (ν ν′ : ℕ) (δ δ′ : GName) (d : Device) (c : Cursor) (ws : List ℕ) → TurnC 𝓤 H A mem run .Ghost
-  to-turn ν ν′ δ δ′ d c ws = (((ν ∷ [], (ν′ ∷ [], tt)), (fullShare, (fullShare, tt)), tt, (d, (c, (ref b₁ o₁ δ ss, (ref b₂ o₂ δ′ ws, tt)))), (vals d, (cvals c, (sl b₁ o₁ (length ss), (sl b₂ o₂ (length ws), tt))))), tt)
+  abbrev to-take : (ν : ℕ) (δ : GName) (d : Device) (c : Cursor) → TakeC 𝓤 H A mem run .Ghost
+  to-take ν δ d c = (((ν ∷ [], tt), (fullShare, tt), tt, (d, (c, (ref b₁ o₁ δ ss, tt))), (vals d, (cvals c, (sl b₁ o₁ (length ss), tt)))), tt)
 
-  asks-turn : (ν ν′ : ℕ) (δ δ′ : GName) (d : Device) (c : Cursor) (ws : List ℕ) → Is D d (vals d) → CIs c
-      → ent 𝓤 (sep 𝓤 (sem 𝓤 H A (ShrSlice (named 0) (ν ∷ []) u8 .own (ref b₁ o₁ δ ss) (sl b₁ o₁ (length ss)))) (sep 𝓤 (A .lft (ν ∷ []) fullShare) (sep 𝓤 (sem 𝓤 H A (MutSlice (named 0) (ν′ ∷ []) u8 .own (ref b₂ o₂ δ′ ws) (sl b₂ o₂ (length ws)))) (A .lft (ν′ ∷ []) fullShare)))) (TurnC 𝓤 H A mem run .pre (to-turn ν ν′ δ δ′ d c ws))
-  asks-turn ν ν′ δ δ′ d c ws d-is c-is =
+  asks-take : (ν : ℕ) (δ : GName) (d : Device) (c : Cursor) → Is D d (vals d) → CIs c
+      → ent 𝓤 (sep 𝓤 (sem 𝓤 H A (ShrSlice (named 0) (ν ∷ []) u8 .own (ref b₁ o₁ δ ss) (sl b₁ o₁ (length ss)))) (A .lft (ν ∷ []) fullShare)) (TakeC 𝓤 H A mem run .pre (to-take ν δ d c))
+  asks-take ν δ d c d-is c-is =
+      qed W (‵ (ShrSlice (named 0) (ν ∷ []) u8 .own (ref b₁ o₁ δ ss) (sl b₁ o₁ (length ss))) ∷ ‵ (flft (ν ∷ []) fullShare) ∷ []) ∵
+      nothing ! $ move ! (1 ∷ 0 ∷ []) $ fjoin ! $ owned ! C.the-row (Is C.the-row) (LL.makes C.the-type C′.the-plain 𝓤 H A) c _ c-is $ fjoin ! $ owned ! D (Is D) (made 𝓤 H A) d _ d-is $ fjoin ! $
+      nothing ! $ move ! (2 ∷ 0 ∷ []) $ join ! $ join ! $ nothing ! $ move ! (1 ∷ 0 ∷ []) $ done !
+
+  abbrev to-after : (ν ν′ : ℕ) (δ δ′ : GName) (c : Cursor) (k : ℕ) (x : Sent) (ws : List ℕ) → AfterC 𝓤 H A mem run .Ghost
+  to-after ν ν′ δ δ′ c k x ws = (((ν ∷ [], (ν′ ∷ [], tt)), (fullShare, (fullShare, tt)), tt, (c, (k, (x, (ref b₁ o₁ δ ss, (ref b₂ o₂ δ′ ws, tt))))), (cvals c, (vint w64 k ∷ [], (nvals x, (sl b₁ o₁ (length ss), (sl b₂ o₂ (length ws), tt)))))), tt)
+
+  asks-after : (ν ν′ : ℕ) (δ δ′ : GName) (c : Cursor) (k : ℕ) (x : Sent) (ws : List ℕ) → CIs c → k < 2 ^ 64 → NIs x
+      → ent 𝓤 (sep 𝓤 (sem 𝓤 H A (ShrSlice (named 0) (ν ∷ []) u8 .own (ref b₁ o₁ δ ss) (sl b₁ o₁ (length ss)))) (sep 𝓤 (A .lft (ν ∷ []) fullShare) (sep 𝓤 (sem 𝓤 H A (MutSlice (named 0) (ν′ ∷ []) u8 .own (ref b₂ o₂ δ′ ws) (sl b₂ o₂ (length ws)))) (A .lft (ν′ ∷ []) fullShare)))) (AfterC 𝓤 H A mem run .pre (to-after ν ν′ δ δ′ c k x ws))
+  asks-after ν ν′ δ δ′ c k x ws c-is k-fits x-is =
       qed W (‵ (ShrSlice (named 0) (ν ∷ []) u8 .own (ref b₁ o₁ δ ss) (sl b₁ o₁ (length ss))) ∷ ‵ (flft (ν ∷ []) fullShare) ∷ ‵ (MutSlice (named 0) (ν′ ∷ []) u8 .own (ref b₂ o₂ δ′ ws) (sl b₂ o₂ (length ws))) ∷ ‵ (flft (ν′ ∷ []) fullShare) ∷ []) ∵
-      nothing ! $ move ! (3 ∷ 0 ∷ []) $ fjoin ! $ move ! (1 ∷ 0 ∷ []) $ fjoin ! $ owned ! C.the-row (Is C.the-row) (LL.makes C.the-type C′.the-plain 𝓤 H A) c _ c-is $ fjoin ! $ owned ! D (Is D) (made 𝓤 H A) d _ d-is $ fjoin ! $
+      nothing ! $ move ! (3 ∷ 0 ∷ []) $ fjoin ! $ move ! (1 ∷ 0 ∷ []) $ fjoin ! $ owned ! N.the-row (Is N.the-row) (EL.makes N.the-type N′.the-plain 𝓤 H A) x _ x-is $ fjoin ! $
+      owned ! usize (Is usize) (uint-makes 𝓤 H A W w64) k _ (refl, k-fits) $ fjoin ! $ owned ! C.the-row (Is C.the-row) (LL.makes C.the-type C′.the-plain 𝓤 H A) c _ c-is $ fjoin ! $
       nothing ! $ move ! (3 ∷ 0 ∷ []) $ join ! $ move ! (2 ∷ 0 ∷ []) $ join ! $ join ! $ nothing ! $ move ! (1 ∷ 0 ∷ []) $ done !
 
-  module _ (𝓣 : Tables 𝓤 H) (known : Triple 𝓤 (𝓣 .C #turn) (TurnC 𝓤 H A mem run)) (known-answer : Triple 𝓤 (𝓣 .C #answer) (AnswerC 𝓤 H A mem run)) (g : Room D (length xs)) (g₁ : Room u8 (length ss)) (g₂ : Room u8 (length os)) (num-fits : num < 2 ^ 8) (qs : Share) (l₀ l₁ l₂ l₃ l₄ l₅ l₆ l₇ l₈ l₉ l₁₀ l₁₁ l₁₂ l₁₃ l₁₄ l₁₅ l₁₆ l₁₇ l₁₈ l₁₉ : ℕ) where
+  module _ (𝓣 : Tables 𝓤 H) (known : Triple 𝓤 (𝓣 .C #take) (TakeC 𝓤 H A mem run)) (known-after : Triple 𝓤 (𝓣 .C #after) (AfterC 𝓤 H A mem run)) (known-answer : Triple 𝓤 (𝓣 .C #answer) (AnswerC 𝓤 H A mem run)) (g : Room D (length xs)) (g₁ : Room u8 (length ss)) (g₂ : Room u8 (length os)) (num-fits : num < 2 ^ 8) (qs : Share) (l₀ l₁ l₂ l₃ l₄ l₅ l₆ l₇ l₈ l₉ l₁₀ l₁₁ l₁₂ l₁₃ l₁₄ l₁₅ l₁₆ l₁₇ l₁₈ l₁₉ l₂₀ : ℕ) where
     abbrev E : Env 𝓤 H
-    E = (R′.mir, l₀) ∷ (sliceD, l₁) ∷ (sliceTy (tyRef (named 1) imm byte), l₂) ∷ (sliceTy (tyRef (named 2) mut byte), l₃) ∷ (J′.mir, l₄) ∷ (B′.mir, l₅) ∷ (C′.mir, l₆) ∷ (word, l₇) ∷ (S′.mir, l₈) ∷ (refI, l₉) ∷ (sliceTy refI, l₁₀) ∷ (word, l₁₁) ∷ (word, l₁₂) ∷ (tyBool, l₁₃) ∷ (word, l₁₄) ∷ (tyPtr, l₁₅) ∷ (dev, l₁₆) ∷ (tyRef erased mut byte, l₁₇) ∷ (sliceTy (tyRef erased mut byte), l₁₈) ∷ (tyPtr, l₁₉) ∷ []
+    E = (R′.mir, l₀) ∷ (sliceD, l₁) ∷ (sliceTy (tyRef (named 1) imm byte), l₂) ∷ (sliceTy (tyRef (named 2) mut byte), l₃) ∷ (J′.mir, l₄) ∷ (B′.mir, l₅) ∷ (C′.mir, l₆) ∷ (word, l₇) ∷ (S′.mir, l₈) ∷ (C′.mir, l₉) ∷ (refI, l₁₀) ∷ (sliceTy refI, l₁₁) ∷ (word, l₁₂) ∷ (word, l₁₃) ∷ (tyBool, l₁₄) ∷ (word, l₁₅) ∷ (tyPtr, l₁₆) ∷ (dev, l₁₇) ∷ (tyRef erased mut byte, l₁₈) ∷ (sliceTy (tyRef erased mut byte), l₁₉) ∷ (tyPtr, l₂₀) ∷ []
 
-    -- where the run stands at s. [the chain's row; open; states' row; seen; out's row; open; _19; …; _0; …]
+    -- where the run stands at s. [the chain's row; open; states' row; seen; out's row; open; _20; …; _0; …]
     abbrev At : Running → List (Item 𝓤)
     At s = ‵ (row D fullShare (s .devices) b o) ∷ ‵ (Open D κ q γ xs b o) ∷ ‵ (row u8 qs ss b₁ o₁) ∷ ‵ (Seen u8 κ₁ q₁ qs ss b₁ o₁) ∷ ‵ (row u8 fullShare (s .out) b₂ o₂) ∷ ‵ (Open u8 κ₂ q₂ γ₂ os b₂ o₂) ∷
-        free tyPtr l₁₉ (free (sliceTy (tyRef erased mut byte)) l₁₈ (free (tyRef erased mut byte) l₁₇ (free dev l₁₆ (free tyPtr l₁₅ (free word l₁₄ (free tyBool l₁₃ (free word l₁₂ (free word l₁₁ (free (sliceTy refI) l₁₀ (free refI l₉ (free S′.mir l₈ (free word l₇ (hold C′.mir l₆ (cval (s .cursor)) (hold B′.mir l₅ (bval bg) (free J′.mir l₄ (hold (sliceTy (tyRef (named 2) mut byte)) l₃ (sliceVal (b₂, o₂) (length os)) (hold (sliceTy (tyRef (named 1) imm byte)) l₂ (sliceVal (b₁, o₁) (length ss)) (hold sliceD l₁ (sliceVal (b, o) (length xs)) (free R′.mir l₀ [])))))))))))))))))))
+        free tyPtr l₂₀ (free (sliceTy (tyRef erased mut byte)) l₁₉ (free (tyRef erased mut byte) l₁₈ (free dev l₁₇ (free tyPtr l₁₆ (free word l₁₅ (free tyBool l₁₄ (free word l₁₃ (free word l₁₂ (free (sliceTy refI) l₁₁ (free refI l₁₀ (free C′.mir l₉ (free S′.mir l₈ (free word l₇ (hold C′.mir l₆ (cval (s .cursor)) (hold B′.mir l₅ (bval bg) (free J′.mir l₄ (hold (sliceTy (tyRef (named 2) mut byte)) l₃ (sliceVal (b₂, o₂) (length os)) (hold (sliceTy (tyRef (named 1) imm byte)) l₂ (sliceVal (b₁, o₁) (length ss)) (hold sliceD l₁ (sliceVal (b, o) (length xs)) (free R′.mir l₀ []))))))))))))))))))))
 
     abbrev Ok : ℕ → Running → Type 0
     Ok t s = Stands (length xs) ss (length os) t fin s × CIs (s .cursor)
@@ -173,65 +201,77 @@ module _ {M : Type 1} (𝓤 : URA M) (H : Heap 𝓤) (A : Atoms 𝓤) (W : Given
         let l : i < length ys = subst (λ (z : ℕ). i < z) (sym (good .devices)) (good .index) in
         let at-fits : i * size < 2 ^ 64 = place-fits i (length xs) (good .index) (g .1) in
         qed W (At s) ∵ exec ! (𝓣 .C) (𝓣 .Λ) E m.turn-1 (anyQ (afterTurn 𝓤 H X Left)) $
-        assigns ! (of-opd ! (load ! (from ! (fld ! refl (stop !))) (look-in ! 32 (sub ! 6 refl (whole !))))) (from ! (stop !)) (init ! 18 refl (tt, tt)) $
-        rewrite ! 18 (λ (t : Bool). ‵ (fat fullShare tyBool l₁₃ 0 (vbool t))) going refl $
+        assigns ! (of-opd ! (load ! (from ! (fld ! refl (stop !))) (look-in ! 34 (sub ! 6 refl (whole !))))) (from ! (stop !)) (init ! 18 refl (tt, tt)) $
+        rewrite ! 18 (λ (t : Bool). ‵ (fat fullShare tyBool l₁₄ 0 (vbool t))) going refl $
         stays ! (load ! (from ! (stop !)) (look ! 18 refl)) $
-        assigns ! (of-opd ! (load ! (from ! (fld ! refl (stop !))) (look-in ! 32 (sub ! 2 refl (whole !))))) (from ! (stop !)) (init ! 30 refl (tt, record { fits = i-fits })) $
-        assigns ! (bin ! (load ! (from ! (stop !)) (look ! 30 refl)) (lit ! tt) (record { fits = at-fits })) (from ! (stop !)) (init ! 16 refl (tt, record { fits = at-fits })) $
-        assigns ! (bin ! (load ! (from ! (fld ! refl (stop !))) (look-in ! 42 (sub ! 0 refl (whole !)))) (load ! (from ! (stop !)) (look ! 16 refl)) tt) (from ! (stop !)) (init ! 14 refl (tt, tt)) $
-        rewrite ! 14 (λ (p : ℕ). ‵ (fat fullShare tyPtr l₁₅ 0 (vptr b p))) (place-at o i) refl $
+        assigns ! (of-opd ! (load ! (from ! (fld ! refl (stop !))) (look-in ! 34 (sub ! 2 refl (whole !))))) (from ! (stop !)) (init ! 32 refl (tt, record { fits = i-fits })) $
+        assigns ! (bin ! (load ! (from ! (stop !)) (look ! 32 refl)) (lit ! tt) (record { fits = at-fits })) (from ! (stop !)) (init ! 16 refl (tt, record { fits = at-fits })) $
+        assigns ! (bin ! (load ! (from ! (fld ! refl (stop !))) (look-in ! 44 (sub ! 0 refl (whole !)))) (load ! (from ! (stop !)) (look ! 16 refl)) tt) (from ! (stop !)) (init ! 14 refl (tt, tt)) $
+        rewrite ! 14 (λ (p : ℕ). ‵ (fat fullShare tyPtr l₁₆ 0 (vptr b p))) (place-at o i) refl $
         out ! ys i b o l (λ is.
         assigns ! (of-opd ! (load ! (from ! (hop ! (look ! 15 refl) (stop !))) (look-raw ! 0 refl))) (from ! (stop !)) (init ! 13 refl (lawful 𝓤 H A W .typed d _ is .0)) $
         back ! ys i b o l is $
-        assigns ! (addr ! (from ! (fld ! refl (hop ! (look-in ! 38 (sub ! 0 refl (whole !))) (stop !))))) (from ! (stop !)) (init ! 10 refl (tt, tt)) $
-        assigns ! (agg ! (and-then ! (load ! (from ! (stop !)) (look ! 10 refl)) (and-then ! (load ! (from ! (fld ! refl (stop !))) (look-in ! 38 (sub ! 1 refl (whole !)))) (no-more !)))) (from ! (stop !)) (init ! 8 refl (tt, (tt, (record { fits = g₂ .0 }, tt)))) $
-        rewrite ! 8 (λ (z : ℕ). ‵ (fat fullShare (sliceTy (tyRef erased mut byte)) l₁₈ 0 (sliceVal (b₂, o₂) z))) (sym lw) refl $
-        -- states and out are lent on, and the call is made
-        move ! (2 ∷ []) $ lends-shared ! tt u8 qs ss b₁ o₁ g₁ (λ ν δ. move ! (6 ∷ []) $ lends ! tt u8 ws b₂ o₂ (subst (Room u8) (sym lw) g₂) (λ ν′ δ′.
-        join ! $ move ! (3 ∷ 0 ∷ []) $ join ! $ move ! (2 ∷ 0 ∷ []) $ join ! $
-        use1 W (raw (TurnC 𝓤 H A mem run .pre (to-turn ν ν′ δ δ′ d c ws))) (asks-turn ν ν′ δ δ′ d c ws is c-is) $
-        calls-val ! (fmOf 𝓤 H (W .laws) 𝓣) turn.ended (turn.clauses 𝓤 H A mem run) known (to-turn ν ν′ δ δ′ d c ws) (LL.val S.the-type S′.the-laws) (LL.tells S.the-type S′.the-laws)
-        (and-then ! (load ! (from ! (stop !)) (look ! 13 refl)) (and-then ! (load ! (from ! (stop !)) (look ! 33 refl)) (and-then ! (load ! (from ! (stop !)) (look ! 41 refl)) (and-then ! (load ! (from ! (stop !)) (look ! 9 refl)) (no-more !))))) (λ r zs is′.
-        heard ! ((r ≡ turned d c ss (length ws)) × (zs .1 .1 .1 .0 ≡ turnedOut c ss ws)) (λ e.
+        -- what the record of the turn becomes: states are lent on
+        move ! (2 ∷ []) $ lends-shared ! tt u8 qs ss b₁ o₁ g₁ (λ ν δ. join ! $ use1 W (raw (TakeC 𝓤 H A mem run .pre (to-take ν δ d c))) (asks-take ν δ d c is c-is) $
+        calls-val ! (fmOf 𝓤 H (W .laws) 𝓣) take.ended (take.clauses 𝓤 H A mem run) known (to-take ν δ d c) (LL.val S.the-type S′.the-laws) (LL.tells S.the-type S′.the-laws)
+        (and-then ! (load ! (from ! (stop !)) (look ! 13 refl)) (and-then ! (load ! (from ! (stop !)) (look ! 35 refl)) (and-then ! (load ! (from ! (stop !)) (look ! 43 refl)) (no-more !)))) (λ r zs is′. heard ! (r ≡ turnTaken d c ss) (λ e.
         let parts = LL.owed S.the-type S′.the-laws r _ is′ in
-        use1 W (‵ (flft (ν ∷ []) fullShare) ⊛ ‵ (flft (ν′ ∷ []) fullShare) ⊛ ‵ ftrue) (id⊢ 𝓤 _) $ split ! $ move ! (1 ∷ []) $ split ! $ move ! (1 ∷ []) $ drop ! $
+        use1 W (‵ (flft (ν ∷ []) fullShare) ⊛ ‵ ftrue) (id⊢ 𝓤 _) $ split ! $ move ! (1 ∷ []) $ drop ! $ move ! (1 ∷ []) $ drop ! $ returned-shared ! tt u8 qs ss b₁ o₁ $ move ! (1 ∷ 2 ∷ 0 ∷ []) $
+        land ! (from ! (stop !)) (init ! 30 refl (LL.lawful S.the-type S′.the-laws 𝓤 H A W .typed r _ is′ .0)) $
+        -- the cursor after it: states and out are lent on
+        assigns ! (addr ! (from ! (fld ! refl (hop ! (look-in ! 40 (sub ! 0 refl (whole !))) (stop !))))) (from ! (stop !)) (init ! 10 refl (tt, tt)) $
+        assigns ! (agg ! (and-then ! (load ! (from ! (stop !)) (look ! 10 refl)) (and-then ! (load ! (from ! (fld ! refl (stop !))) (look-in ! 40 (sub ! 1 refl (whole !)))) (no-more !)))) (from ! (stop !)) (init ! 8 refl (tt, (tt, (record { fits = g₂ .0 }, tt)))) $
+        rewrite ! 8 (λ (z : ℕ). ‵ (fat fullShare (sliceTy (tyRef erased mut byte)) l₁₉ 0 (sliceVal (b₂, o₂) z))) (sym lw) refl $
+        move ! (2 ∷ []) $ lends-shared ! tt u8 qs ss b₁ o₁ g₁ (λ ν″ δ″. move ! (6 ∷ []) $ lends ! tt u8 ws b₂ o₂ (subst (Room u8) (sym lw) g₂) (λ ν′ δ′.
+        join ! $ move ! (3 ∷ 0 ∷ []) $ join ! $ move ! (2 ∷ 0 ∷ []) $ join ! $
+        use1 W (raw (AfterC 𝓤 H A mem run .pre (to-after ν″ ν′ δ″ δ′ c (r .at) (r .sent) ws))) (asks-after ν″ ν′ δ″ δ′ c (r .at) (r .sent) ws c-is (parts .1 .0 .1) (parts .1 .1 .0)) $
+        calls-val ! (fmOf 𝓤 H (W .laws) 𝓣) after.ended (after.clauses 𝓤 H A mem run) known-after (to-after ν″ ν′ δ″ δ′ c (r .at) (r .sent) ws) cval (LL.tells C.the-type C′.the-laws)
+        (and-then ! (load ! (from ! (stop !)) (look ! 35 refl)) (and-then ! (load ! (from ! (fld ! refl (stop !))) (look-in ! 31 (sub ! 1 refl (whole !)))) (and-then ! (load ! (from ! (fld ! refl (stop !))) (look-in ! 31 (sub ! 2 refl (whole !)))) (and-then ! (load ! (from ! (stop !)) (look ! 43 refl)) (and-then ! (load ! (from ! (stop !)) (look ! 9 refl)) (no-more !)))))) (λ r′ zs′ is″.
+        heard ! ((r′ ≡ cursorAfter c (r .at) (r .sent) ss (length ws)) × (zs′ .1 .1 .1 .1 .0 ≡ turnedOut c ss ws)) (λ e′.
+        use1 W (‵ (flft (ν″ ∷ []) fullShare) ⊛ ‵ (flft (ν′ ∷ []) fullShare) ⊛ ‵ ftrue) (id⊢ 𝓤 _) $ split ! $ move ! (1 ∷ []) $ split ! $ move ! (1 ∷ []) $ drop ! $
         -- [ν′; ν; what says the last values; away; away; the chain's; open; seen; open; …]
-        move ! (2 ∷ []) $ fsplit ! $ drop ! $ fsplit ! $ drop ! $ fsplit ! $ drop ! $ fsplit ! $ fsplit ! $
-        move ! (3 ∷ 5 ∷ 0 ∷ []) $ returned ! tt u8 (zs .1 .1 .1 .0) b₂ o₂ $ move ! (1 ∷ []) $ drop ! $ move ! (1 ∷ []) $ drop ! $ move ! (1 ∷ 2 ∷ []) $ returned-shared ! tt u8 qs ss b₁ o₁ $
+        move ! (2 ∷ []) $ fsplit ! $ drop ! $ fsplit ! $ drop ! $ fsplit ! $ drop ! $ fsplit ! $ drop ! $ fsplit ! $ fsplit ! $
+        move ! (3 ∷ 5 ∷ 0 ∷ []) $ returned ! tt u8 (zs′ .1 .1 .1 .1 .0) b₂ o₂ $ move ! (1 ∷ []) $ drop ! $ move ! (1 ∷ []) $ drop ! $ move ! (1 ∷ 2 ∷ []) $ returned-shared ! tt u8 qs ss b₁ o₁ $
         move ! (2 ∷ 3 ∷ 0 ∷ 4 ∷ 1 ∷ []) $
-        land ! (from ! (stop !)) (init ! 28 refl (LL.lawful S.the-type S′.the-laws 𝓤 H A W .typed r _ is′ .0)) $
-        assigns ! (bin ! (load ! (from ! (stop !)) (look ! 30 refl)) (lit ! tt) (record { fits = at-fits })) (from ! (stop !)) (store ! 16 refl (tt, record { fits = at-fits })) $
-        assigns ! (bin ! (load ! (from ! (fld ! refl (stop !))) (look-in ! 42 (sub ! 0 refl (whole !)))) (load ! (from ! (stop !)) (look ! 16 refl)) tt) (from ! (stop !)) (init ! 6 refl (tt, tt)) $
-        rewrite ! 6 (λ (p : ℕ). ‵ (fat fullShare tyPtr l₁₉ 0 (vptr b p))) (place-at o i) refl $
+        land ! (from ! (stop !)) (init ! 28 refl (LL.lawful C.the-type C′.the-laws 𝓤 H A W .typed r′ _ is″ .0)) $
+        assigns ! (bin ! (load ! (from ! (stop !)) (look ! 32 refl)) (lit ! tt) (record { fits = at-fits })) (from ! (stop !)) (store ! 16 refl (tt, record { fits = at-fits })) $
+        assigns ! (bin ! (load ! (from ! (fld ! refl (stop !))) (look-in ! 44 (sub ! 0 refl (whole !)))) (load ! (from ! (stop !)) (look ! 16 refl)) tt) (from ! (stop !)) (init ! 6 refl (tt, tt)) $
+        rewrite ! 6 (λ (p : ℕ). ‵ (fat fullShare tyPtr l₂₀ 0 (vptr b p))) (place-at o i) refl $
         out ! ys i b o l (λ _.
-        assigns ! (of-opd ! (load ! (from ! (fld ! refl (stop !))) (look-in ! 29 (sub ! 0 refl (whole !))))) (from ! (hop ! (look ! 7 refl) (stop !))) (store-raw ! 0 refl (lawful 𝓤 H A W .typed (r .device) _ (parts .0) .0)) $
+        assigns ! (of-opd ! (load ! (from ! (fld ! refl (stop !))) (look-in ! 31 (sub ! 0 refl (whole !))))) (from ! (hop ! (look ! 7 refl) (stop !))) (store-raw ! 0 refl (lawful 𝓤 H A W .typed (r .device) _ (parts .0) .0)) $
         into ! ys i (r .device) b o l (parts .0) $
-        assigns-last ! (of-opd ! (load ! (from ! (fld ! refl (stop !))) (look-in ! 28 (sub ! 1 refl (whole !))))) (from ! (stop !)) (store ! 32 refl (LL.lawful C.the-type C′.the-laws 𝓤 H A W .typed (r .cursor) _ (parts .1 .0) .0)) $
-        forget ! 6 refl $ forget ! 8 refl $ forget ! 10 refl $ forget ! 12 refl $ forget ! 14 refl $ forget ! 16 refl $ forget ! 18 refl $ forget ! 28 refl $ forget ! 30 refl $
-        rewrite ! 0 (λ (ls : List Device). ‵ (row D fullShare ls b o)) (ap (λ (u : Turned). set ys i (u .device)) (e .0)) refl $
-        rewrite ! 4 (λ (ls : List ℕ). ‵ (row u8 fullShare ls b₂ o₂)) (e .1) refl $
-        rewrite ! 32 (λ (u : Cursor). ‵ (fat fullShare C′.mir l₆ 0 (cval u))) (ap (λ (u : Turned). u .cursor) (e .0)) refl $
-        by ! (k (subst CIs (ap (λ (u : Turned). u .cursor) (e .0)) (parts .1 .0)))))))))
+        assigns-last ! (of-opd ! (load ! (from ! (stop !)) (look ! 28 refl))) (from ! (stop !)) (store ! 34 refl (LL.lawful C.the-type C′.the-laws 𝓤 H A W .typed r′ _ is″ .0)) $
+        forget ! 6 refl $ forget ! 8 refl $ forget ! 10 refl $ forget ! 12 refl $ forget ! 14 refl $ forget ! 16 refl $ forget ! 18 refl $ forget ! 28 refl $ forget ! 30 refl $ forget ! 32 refl $
+        rewrite ! 0 (λ (ls : List Device). ‵ (row D fullShare ls b o)) (ap (set ys i) (ap (λ (u : Taken). u .device) e ∙ turned-device d c ss (length ws))) refl $
+        rewrite ! 4 (λ (ls : List ℕ). ‵ (row u8 fullShare ls b₂ o₂)) (e′ .1) refl $
+        rewrite ! 34 (λ (u : Cursor). ‵ (fat fullShare C′.mir l₆ 0 (cval u))) (is-next r r′ e (e′ .0)) refl $
+        by ! (k (subst CIs (is-next r r′ e (e′ .0)) is″)))))))))))
       where
         i-fits : s .cursor .index < 2 ^ 64
         i-fits = omega (arith, good .index, g .0)
+
+        is-next : (r : Taken) (r′ : Cursor) → r ≡ turnTaken (getD (s .devices) (s .cursor .index) blank) (s .cursor) ss → r′ ≡ cursorAfter (s .cursor) (r .at) (r .sent) ss (length (s .out))
+            → r′ ≡ turned (getD (s .devices) (s .cursor .index) blank) (s .cursor) ss (length (s .out)) .cursor
+        is-next r r′ e e′ =
+            e′ ∙ ap (λ (u : Taken). cursorAfter (s .cursor) (u .at) (u .sent) ss (length (s .out))) e
+            ∙ turned-cursor (getD (s .devices) (s .cursor .index) blank) (s .cursor) ss (length (s .out))
 
     ends : (s : Running) (X : SProp 𝓤) (t : ℕ) → Stands (length xs) ss (length os) t fin s → s .cursor .going ≡ false → ent 𝓤 (⋆ 𝓤 H A (At s)) (Wp 𝓤 H (𝓣 .C) (𝓣 .Λ) E m.turn-1 (afterTurn 𝓤 H X Left))
     unfolding afterTurn
     ends s X t st going =
         qed W (At s) ∵ exec ! (𝓣 .C) (𝓣 .Λ) E m.turn-1 (anyQ (afterTurn 𝓤 H X Left)) $
-        assigns ! (of-opd ! (load ! (from ! (fld ! refl (stop !))) (look-in ! 32 (sub ! 6 refl (whole !))))) (from ! (stop !)) (init ! 18 refl (tt, tt)) $
-        rewrite ! 18 (λ (t : Bool). ‵ (fat fullShare tyBool l₁₃ 0 (vbool t))) going refl $
+        assigns ! (of-opd ! (load ! (from ! (fld ! refl (stop !))) (look-in ! 34 (sub ! 6 refl (whole !))))) (from ! (stop !)) (init ! 18 refl (tt, tt)) $
+        rewrite ! 18 (λ (t : Bool). ‵ (fat fullShare tyBool l₁₄ 0 (vbool t))) going refl $
         leaves-loop ! (load ! (from ! (stop !)) (look ! 18 refl)) $ exec ! (𝓣 .C) (𝓣 .Λ) E m.t-9 (atRet E Post) $
         rewrite ! 0 (λ (r : Running). ‵ (row D fullShare (r .devices) b o)) last refl $ rewrite ! 4 (λ (r : Running). ‵ (row u8 fullShare (r .out) b₂ o₂)) last refl $
         calls-plain ! (fmOf 𝓤 H (W .laws) 𝓣) (answer.signature .params) (answer.signature .result) (answer.ended .kept) (answer.clauses 𝓤 H A mem run) known-answer (num, (s .cursor .written, tt)) (vint w8 num ∷ [], (vint w64 (s .cursor .written) ∷ [], tt)) (uint-makes 𝓤 H A W w8, (uint-makes 𝓤 H A W w64, tt)) ((refl, num-fits), ((refl, w-fits), tt)) tt (id⊢ 𝓤 _) rval (LL.tells R.the-type R′.the-laws)
-        (and-then ! (load ! (from ! (fld ! refl (stop !))) (look-in ! 35 (sub ! 0 refl (whole !)))) (and-then ! (load ! (from ! (fld ! refl (stop !))) (look-in ! 33 (sub ! 4 refl (whole !)))) (no-more !))) (λ r ws is′. heard ! (r ≡ ran num (s .cursor .written)) (λ e.
-        land ! (from ! (stop !)) (init ! 44 refl (LL.lawful R.the-type R′.the-laws 𝓤 H A W .typed r _ is′ .0)) $
-        rewrite ! 44 (λ (u : Ran). ‵ (fat fullShare R′.mir l₀ 0 (rval u))) (is-ans r e) refl $
+        (and-then ! (load ! (from ! (fld ! refl (stop !))) (look-in ! 37 (sub ! 0 refl (whole !)))) (and-then ! (load ! (from ! (fld ! refl (stop !))) (look-in ! 35 (sub ! 4 refl (whole !)))) (no-more !))) (λ r ws is′. heard ! (r ≡ ran num (s .cursor .written)) (λ e.
+        land ! (from ! (stop !)) (init ! 46 refl (LL.lawful R.the-type R′.the-laws 𝓤 H A W .typed r _ is′ .0)) $
+        rewrite ! 46 (λ (u : Ran). ‵ (fat fullShare R′.mir l₀ 0 (rval u))) (is-ans r e) refl $
         final ! tt D xs (fin .devices) ld b o $ move ! (2 ∷ 3 ∷ []) $ shut ! tt u8 qs ss b₁ o₁ $ move ! (3 ∷ 4 ∷ []) $ final ! tt u8 os (fin .out) lo b₂ o₂ $
         -- [out's last; κ₂; κ₁; the chain's last; κ; _19; …]
-        returns ! (look ! 43 refl) $ forget ! 17 refl $ forget ! 31 refl $ forget ! 33 refl $ forget ! 37 refl $ forget ! 39 refl $ forget ! 41 refl $ forget ! 43 refl $
-        move ! (43 ∷ 44 ∷ []) $ free1 ! $ move ! (41 ∷ 42 ∷ []) $ free1 ! $ move ! (39 ∷ 40 ∷ []) $ free1 ! $ move ! (37 ∷ 38 ∷ []) $ free1 ! $ move ! (35 ∷ 36 ∷ []) $ free1 ! $ move ! (33 ∷ 34 ∷ []) $ free1 ! $ move ! (31 ∷ 32 ∷ []) $ free1 ! $ move ! (29 ∷ 30 ∷ []) $ free1 ! $ move ! (27 ∷ 28 ∷ []) $ free1 ! $ move ! (25 ∷ 26 ∷ []) $ free1 ! $ move ! (23 ∷ 24 ∷ []) $ free1 ! $ move ! (21 ∷ 22 ∷ []) $ free1 ! $ move ! (19 ∷ 20 ∷ []) $ free1 ! $ move ! (17 ∷ 18 ∷ []) $ free1 ! $ move ! (15 ∷ 16 ∷ []) $ free1 ! $ move ! (13 ∷ 14 ∷ []) $ free1 ! $ move ! (11 ∷ 12 ∷ []) $ free1 ! $ move ! (9 ∷ 10 ∷ []) $ free1 ! $ move ! (7 ∷ 8 ∷ []) $ free1 ! $ move ! (5 ∷ 6 ∷ []) $ free1 ! $ free0 ! $
+        returns ! (look ! 45 refl) $ forget ! 17 refl $ forget ! 33 refl $ forget ! 35 refl $ forget ! 39 refl $ forget ! 41 refl $ forget ! 43 refl $ forget ! 45 refl $
+        move ! (45 ∷ 46 ∷ []) $ free1 ! $ move ! (43 ∷ 44 ∷ []) $ free1 ! $ move ! (41 ∷ 42 ∷ []) $ free1 ! $ move ! (39 ∷ 40 ∷ []) $ free1 ! $ move ! (37 ∷ 38 ∷ []) $ free1 ! $ move ! (35 ∷ 36 ∷ []) $ free1 ! $ move ! (33 ∷ 34 ∷ []) $ free1 ! $ move ! (31 ∷ 32 ∷ []) $ free1 ! $ move ! (29 ∷ 30 ∷ []) $ free1 ! $ move ! (27 ∷ 28 ∷ []) $ free1 ! $ move ! (25 ∷ 26 ∷ []) $ free1 ! $ move ! (23 ∷ 24 ∷ []) $ free1 ! $ move ! (21 ∷ 22 ∷ []) $ free1 ! $ move ! (19 ∷ 20 ∷ []) $ free1 ! $ move ! (17 ∷ 18 ∷ []) $ free1 ! $ move ! (15 ∷ 16 ∷ []) $ free1 ! $ move ! (13 ∷ 14 ∷ []) $ free1 ! $ move ! (11 ∷ 12 ∷ []) $ free1 ! $ move ! (9 ∷ 10 ∷ []) $ free1 ! $ move ! (7 ∷ 8 ∷ []) $ free1 ! $ move ! (5 ∷ 6 ∷ []) $ free1 ! $ free0 ! $
         by ! (exits (subst RIs (is-ans r e) is′) ld lo)))
       where
         last : s ≡ fin
@@ -260,36 +300,36 @@ module _ {M : Type 1} (𝓤 : URA M) (H : Heap 𝓤) (A : Atoms 𝓤) (W : Given
     enters : CIs (bg .cursor) → ent 𝓤 (⋆ 𝓤 H A (At (nowAt xs (bg .cursor) os))) (Wp 𝓤 H (𝓣 .C) (𝓣 .Λ) E (loop m.turn-1) Left)
     enters c-is = loops 𝓤 H A Ok At W 𝓣 E m.turn-1 Left turns (enough ss) (nowAt xs (bg .cursor) os) (stands-start xs ss os, c-is)
 
-  walk : (𝓣 : Tables 𝓤 H) → Triple 𝓤 (𝓣 .C #turn) (TurnC 𝓤 H A mem run) → Triple 𝓤 (𝓣 .C #answer) (AnswerC 𝓤 H A mem run) → Triple 𝓤 (𝓣 .C #judge) (JudgeC 𝓤 H A mem run) → Triple 𝓤 (𝓣 .C #opening) (EnterC 𝓤 H A mem run) → Room D (length xs) → Room u8 (length ss) → Room u8 (length os)
+  walk : (𝓣 : Tables 𝓤 H) → Triple 𝓤 (𝓣 .C #take) (TakeC 𝓤 H A mem run) → Triple 𝓤 (𝓣 .C #after) (AfterC 𝓤 H A mem run) → Triple 𝓤 (𝓣 .C #answer) (AnswerC 𝓤 H A mem run) → Triple 𝓤 (𝓣 .C #judge) (JudgeC 𝓤 H A mem run) → Triple 𝓤 (𝓣 .C #opening) (EnterC 𝓤 H A mem run) → Room D (length xs) → Room u8 (length ss) → Room u8 (length os)
       → ent 𝓤 (onEntry 𝓤 H A bb-run.signature (κ, (κ₁, (κ₂, tt))) (q, (q₁, (q₂, tt))) x at) (WpFn 𝓤 H (𝓣 .C) (𝓣 .Λ) code.function (sliceVal (b, o) (length xs) ∷ sliceVal (b₁, o₁) (length ss) ∷ sliceVal (b₂, o₂) (length os) ∷ []) Post)
-  walk 𝓣 known known-answer known-judge known-enter g g₁ g₂ =
+  walk 𝓣 known known-after known-answer known-judge known-enter g g₁ g₂ =
       qed W ((‵ (flft κ q) ⊛ ‵ (flft κ₁ q₁) ⊛ ‵ (flft κ₂ q₂) ⊛ ‵ ftrue) ∷ ‵ (owns (MutSlice (named 0) κ D ∷ ShrSlice (named 1) κ₁ u8 ∷ MutSlice (named 2) κ₂ u8 ∷ []) x at) ∷ []) ∵ enter ! (𝓣 .C) (𝓣 .Λ) code.function (sliceVal (b, o) (length xs) ∷ sliceVal (b₁, o₁) (length ss) ∷ sliceVal (b₂, o₂) (length os) ∷ []) _ $
-      alloc1 ! {τ = R′.mir} (λ l₀. alloc1 ! {τ = sliceD} (λ l₁. alloc1 ! (λ l₂. alloc1 ! (λ l₃. alloc1 ! {τ = J′.mir} (λ l₄. alloc1 ! {τ = B′.mir} (λ l₅. alloc1 ! {τ = C′.mir} (λ l₆. alloc1 ! (λ l₇. alloc1 ! {τ = S′.mir} (λ l₈. alloc1 ! {τ = refI} (λ l₉. alloc1 ! {τ = sliceTy refI} (λ l₁₀. alloc1 ! (λ l₁₁. alloc1 ! (λ l₁₂. alloc1 ! (λ l₁₃. alloc1 ! (λ l₁₄. alloc1 ! (λ l₁₅. alloc1 ! {τ = dev} (λ l₁₆. alloc1 ! (λ l₁₇. alloc1 ! (λ l₁₈. alloc1 ! (λ l₁₉. alloc0 ! $ params1 ! $
-      pass1 ! (init ! 36 refl (tt, (tt, (record { fits = g .0 }, tt)))) $ pass1 ! (init ! 34 refl (tt, (tt, (record { fits = g₁ .0 }, tt)))) $ pass1 ! (init ! 32 refl (tt, (tt, (record { fits = g₂ .0 }, tt)))) $ pass0 ! $
-      move ! (40 ∷ 41 ∷ []) $ split ! $ move ! (1 ∷ []) $ split ! $ move ! (1 ∷ []) $ split ! $ move ! (1 ∷ []) $ drop ! $ move ! (3 ∷ []) $ fsplit ! $ move ! (1 ∷ []) $ fsplit ! $ move ! (1 ∷ []) $ fsplit ! $ move ! (1 ∷ []) $ drop ! $
+      alloc1 ! {τ = R′.mir} (λ l₀. alloc1 ! {τ = sliceD} (λ l₁. alloc1 ! (λ l₂. alloc1 ! (λ l₃. alloc1 ! {τ = J′.mir} (λ l₄. alloc1 ! {τ = B′.mir} (λ l₅. alloc1 ! {τ = C′.mir} (λ l₆. alloc1 ! (λ l₇. alloc1 ! {τ = S′.mir} (λ l₈. alloc1 ! {τ = C′.mir} (λ l₉. alloc1 ! {τ = refI} (λ l₁₀. alloc1 ! {τ = sliceTy refI} (λ l₁₁. alloc1 ! (λ l₁₂. alloc1 ! (λ l₁₃. alloc1 ! (λ l₁₄. alloc1 ! (λ l₁₅. alloc1 ! (λ l₁₆. alloc1 ! {τ = dev} (λ l₁₇. alloc1 ! (λ l₁₈. alloc1 ! (λ l₁₉. alloc1 ! (λ l₂₀. alloc0 ! $ params1 ! $
+      pass1 ! (init ! 38 refl (tt, (tt, (record { fits = g .0 }, tt)))) $ pass1 ! (init ! 36 refl (tt, (tt, (record { fits = g₁ .0 }, tt)))) $ pass1 ! (init ! 34 refl (tt, (tt, (record { fits = g₂ .0 }, tt)))) $ pass0 ! $
+      move ! (42 ∷ 43 ∷ []) $ split ! $ move ! (1 ∷ []) $ split ! $ move ! (1 ∷ []) $ split ! $ move ! (1 ∷ []) $ drop ! $ move ! (3 ∷ []) $ fsplit ! $ move ! (1 ∷ []) $ fsplit ! $ move ! (1 ∷ []) $ fsplit ! $ move ! (1 ∷ []) $ drop ! $
       -- [out's; states'; the chain's; κ₂; κ₁; κ]: each is opened
       move ! (0 ∷ 3 ∷ []) $ opened ! tt u8 os b₂ o₂ $ move ! (2 ∷ 4 ∷ []) $ looked ! tt u8 (Is u8) (shows 𝓤 H A u8) (uint-vals w8) (uint-tells w8) (uint-copy 𝓤 H A W w8) ss b₁ o₁ (λ qs. move ! (4 ∷ 5 ∷ []) $ opened ! tt D xs b o $
       -- the records are judged
-      assigns ! (addr ! (from ! (fld ! refl (hop ! (look-in ! 42 (sub ! 0 refl (whole !))) (stop !))))) (from ! (stop !)) (init ! 26 refl (tt, tt)) $
-      assigns ! (agg ! (and-then ! (load ! (from ! (stop !)) (look ! 26 refl)) (and-then ! (load ! (from ! (fld ! refl (stop !))) (look-in ! 42 (sub ! 1 refl (whole !)))) (no-more !)))) (from ! (stop !)) (init ! 24 refl (tt, (tt, (record { fits = g .0 }, tt)))) $
+      assigns ! (addr ! (from ! (fld ! refl (hop ! (look-in ! 44 (sub ! 0 refl (whole !))) (stop !))))) (from ! (stop !)) (init ! 26 refl (tt, tt)) $
+      assigns ! (agg ! (and-then ! (load ! (from ! (stop !)) (look ! 26 refl)) (and-then ! (load ! (from ! (fld ! refl (stop !))) (look-in ! 44 (sub ! 1 refl (whole !)))) (no-more !)))) (from ! (stop !)) (init ! 24 refl (tt, (tt, (record { fits = g .0 }, tt)))) $
       lends-shared ! tt D fullShare xs b o g (λ ν δ. join ! $ use1 W (raw (JudgeC 𝓤 H A mem run .pre (to-judge 𝓤 H A mem run b o xs ν δ))) (asks-judge 𝓤 H A W mem run b o xs ν δ) $
       calls-val ! (fmOf 𝓤 H (W .laws) 𝓣) judge.ended (judge.clauses 𝓤 H A mem run) known-judge (to-judge 𝓤 H A mem run b o xs ν δ) jval jtells (and-then ! (load ! (from ! (stop !)) (look ! 25 refl)) (no-more !)) (λ j zs j-is. heard ! (j ≡ judgedFrom unjudged xs) (λ e.
       use1 W (‵ (flft (ν ∷ []) fullShare) ⊛ ‵ ftrue) (id⊢ 𝓤 _) $ split ! $ move ! (1 ∷ []) $ drop ! $ move ! (1 ∷ []) $ drop ! $ returned-shared ! tt D fullShare xs b o $
-      land ! (from ! (stop !)) (init ! 36 refl (LL.lawful J.the-type J′.the-laws 𝓤 H A W .typed j _ j-is .0)) $
+      land ! (from ! (stop !)) (init ! 38 refl (LL.lawful J.the-type J′.the-laws 𝓤 H A W .typed j _ j-is .0)) $
       -- the verdict, and where the run begins
-      assigns ! (of-opd ! (load ! (from ! (fld ! refl (stop !))) (look-in ! 42 (sub ! 1 refl (whole !))))) (from ! (stop !)) (init ! 22 refl (tt, record { fits = g .0 })) $
-      assigns ! (of-opd ! (load ! (from ! (fld ! refl (stop !))) (look-in ! 38 (sub ! 1 refl (whole !))))) (from ! (stop !)) (init ! 20 refl (tt, record { fits = g₂ .0 })) $
+      assigns ! (of-opd ! (load ! (from ! (fld ! refl (stop !))) (look-in ! 44 (sub ! 1 refl (whole !))))) (from ! (stop !)) (init ! 22 refl (tt, record { fits = g .0 })) $
+      assigns ! (of-opd ! (load ! (from ! (fld ! refl (stop !))) (look-in ! 40 (sub ! 1 refl (whole !))))) (from ! (stop !)) (init ! 20 refl (tt, record { fits = g₂ .0 })) $
       move ! (2 ∷ []) $ lends-shared ! tt u8 qs ss b₁ o₁ g₁ (λ ν′ δ′. join ! $ use1 W (raw (EnterC 𝓤 H A mem run .pre (to-enter ν′ δ′ j))) (asks-enter ν′ δ′ j j-is (g .0) (g₂ .0)) $
-      calls-val ! (fmOf 𝓤 H (W .laws) 𝓣) opening.ended (opening.clauses 𝓤 H A mem run) known-enter (to-enter ν′ δ′ j) bval (LL.tells B.the-type B′.the-laws) (and-then ! (load ! (from ! (stop !)) (look ! 37 refl)) (and-then ! (load ! (from ! (stop !)) (look ! 23 refl)) (and-then ! (load ! (from ! (stop !)) (look ! 41 refl)) (and-then ! (load ! (from ! (stop !)) (look ! 21 refl)) (no-more !))))) (λ r zs is′.
+      calls-val ! (fmOf 𝓤 H (W .laws) 𝓣) opening.ended (opening.clauses 𝓤 H A mem run) known-enter (to-enter ν′ δ′ j) bval (LL.tells B.the-type B′.the-laws) (and-then ! (load ! (from ! (stop !)) (look ! 39 refl)) (and-then ! (load ! (from ! (stop !)) (look ! 23 refl)) (and-then ! (load ! (from ! (stop !)) (look ! 43 refl)) (and-then ! (load ! (from ! (stop !)) (look ! 21 refl)) (no-more !))))) (λ r zs is′.
       heard ! (r ≡ entryUnder (first (runRows j (length xs) ss (length os))) (length xs) ss) (λ e′.
       let is-bg : r ≡ bg = e′ ∙ ap (λ (z : Judged). entryUnder (first (runRows z (length xs) ss (length os))) (length xs) ss) e ∙ ap (λ (z : ℕ). entryUnder z (length xs) ss) (run-refusal-found xs ss (length os)) in
       let parts = LL.owed B.the-type B′.the-laws bg _ (subst BIs is-bg is′) in
       use1 W (‵ (flft (ν′ ∷ []) fullShare) ⊛ ‵ ftrue) (id⊢ 𝓤 _) $ split ! $ move ! (1 ∷ []) $ drop ! $ move ! (1 ∷ []) $ drop ! $ returned-shared ! tt u8 qs ss b₁ o₁ $ move ! (1 ∷ 2 ∷ 0 ∷ []) $
-      land ! (from ! (stop !)) (init ! 34 refl (LL.lawful B.the-type B′.the-laws 𝓤 H A W .typed r _ is′ .0)) $
-      rewrite ! 34 (λ (u : Entry). ‵ (fat fullShare B′.mir l₅ 0 (bval u))) is-bg refl $
-      assigns ! (of-opd ! (load ! (from ! (fld ! refl (stop !))) (look-in ! 34 (sub ! 1 refl (whole !))))) (from ! (stop !)) (init ! 32 refl (LL.lawful C.the-type C′.the-laws 𝓤 H A W .typed (bg .cursor) _ (parts .1 .0) .0)) $
-      forget ! 20 refl $ forget ! 22 refl $ forget ! 24 refl $ forget ! 26 refl $ forget ! 36 refl $
-      by ! (enters 𝓣 known known-answer g g₁ g₂ (parts .0 .1) qs l₀ l₁ l₂ l₃ l₄ l₅ l₆ l₇ l₈ l₉ l₁₀ l₁₁ l₁₂ l₁₃ l₁₄ l₁₅ l₁₆ l₁₇ l₁₈ l₁₉ (parts .1 .0)))))))))))))))))))))))))))))
+      land ! (from ! (stop !)) (init ! 36 refl (LL.lawful B.the-type B′.the-laws 𝓤 H A W .typed r _ is′ .0)) $
+      rewrite ! 36 (λ (u : Entry). ‵ (fat fullShare B′.mir l₅ 0 (bval u))) is-bg refl $
+      assigns ! (of-opd ! (load ! (from ! (fld ! refl (stop !))) (look-in ! 36 (sub ! 1 refl (whole !))))) (from ! (stop !)) (init ! 34 refl (LL.lawful C.the-type C′.the-laws 𝓤 H A W .typed (bg .cursor) _ (parts .1 .0) .0)) $
+      forget ! 20 refl $ forget ! 22 refl $ forget ! 24 refl $ forget ! 26 refl $ forget ! 38 refl $
+      by ! (enters 𝓣 known known-after known-answer g g₁ g₂ (parts .0 .1) qs l₀ l₁ l₂ l₃ l₄ l₅ l₆ l₇ l₈ l₉ l₁₀ l₁₁ l₁₂ l₁₃ l₁₄ l₁₅ l₁₆ l₁₇ l₁₈ l₁₉ l₂₀ (parts .1 .0))))))))))))))))))))))))))))))
 
 pub bb-run-spec : {M : Type 1} → stated.statement M
 unfolding code.routine tablesOf
@@ -303,7 +343,8 @@ bb-run-spec 𝓤 H 𝓜 𝓖 𝓡 =
     (λ κs. (mut-slice-tells (named 0) (κs .0) D, (shr-slice-tells (named 1) (κs .1 .0) u8, (mut-slice-tells (named 2) (κs .1 .1 .0) u8, tt))))
     (λ κs qs bounds a g are. via 𝓤 _ (fst∗ 𝓤 _ (emp 𝓤))
     (walk 𝓤 H (𝓖 .A) W (𝓜 .mem) (𝓡 .run) (κs .0) (κs .1 .0) (κs .1 .1 .0) (qs .0) (qs .1 .0) (qs .1 .1 .0) (a .0 .ptr .0) (a .0 .ptr .1) (a .0 .name) (a .0 .now) (a .1 .0 .ptr .0) (a .1 .0 .ptr .1) (a .1 .0 .name) (a .1 .0 .now) (a .1 .1 .0 .ptr .0) (a .1 .1 .0 .ptr .1) (a .1 .1 .0 .name) (a .1 .1 .0 .now) 𝓣
-    (cited 𝓤 H (TurnC 𝓤 H (𝓖 .A) (𝓜 .mem) (𝓡 .run)) 𝓜 𝓡 code.env #turn turn-def.routine code.calls-turns·turn (turn-thm.met 𝓤 H 𝓜 𝓖 𝓡))
+    (cited 𝓤 H (TakeC 𝓤 H (𝓖 .A) (𝓜 .mem) (𝓡 .run)) 𝓜 𝓡 code.env #take take-def.routine code.calls-turns·take-turn (take-thm.met 𝓤 H 𝓜 𝓖 𝓡))
+    (cited 𝓤 H (AfterC 𝓤 H (𝓖 .A) (𝓜 .mem) (𝓡 .run)) 𝓜 𝓡 code.env #after after-def.routine code.calls-turns·turn-after (after-thm.met 𝓤 H 𝓜 𝓖 𝓡))
     (cited 𝓤 H (AnswerC 𝓤 H (𝓖 .A) (𝓜 .mem) (𝓡 .run)) 𝓜 𝓡 code.env #answer answer-def.routine code.calls-turns·answer (answer-thm.met 𝓤 H 𝓜 𝓖 𝓡))
     (cited 𝓤 H (JudgeC 𝓤 H (𝓖 .A) (𝓜 .mem) (𝓡 .run)) 𝓜 𝓡 code.env #judge judge-def.routine code.calls-chain·judge (judge-thm.met 𝓤 H 𝓜 𝓖 𝓡))
     (cited 𝓤 H (EnterC 𝓤 H (𝓖 .A) (𝓜 .mem) (𝓡 .run)) 𝓜 𝓡 code.env #opening opening-def.routine code.calls-turns·enter (opening-thm.met 𝓤 H 𝓜 𝓖 𝓡))

@@ -17,32 +17,32 @@ abbrev μ-loop : tie.MeasureT-loop
 loop-holds : tie.Need-loop-holds Inv-loop μ-loop
 loop-holds c = refl
 
-take-requires : tie.Need-take-requires Inv-loop μ-loop
-take-requires c κs = search needs
+batch-requires : tie.Need-batch-requires Inv-loop μ-loop
+batch-requires c κs = search needs
 
 enum-told : tie.Need-enum-told Inv-loop μ-loop
 enum-told c = search needs
 
 loop-less : tie.Need-loop-less Inv-loop μ-loop
-loop-less c = batch-less (c .before .before .before .before .before .loop .d) (c .before .before .before .before .before .before .before .args .states .now) (c .before .before .before .before .before .loop .i) _ (c .before .before .before .take .ensures) (c .before .before .before .before .loop-test .taken)
+loop-less c = batch-less (c .before .before .before .before .before .loop .d) (c .before .before .before .before .before .before .before .args .states .now) (c .before .before .before .before .before .loop .i) _ (c .before .before .before .batch .ensures) (c .before .before .before .before .loop-test .taken)
 
 loop-again : tie.Need-loop-again Inv-loop μ-loop
-loop-again c = c .before .before .before .before .before .loop .inv ∙ batch (c .before .before .before .before .before .loop .d) (c .before .before .before .before .before .before .before .args .states .now) (c .before .before .before .before .before .loop .i) _ (c .before .before .before .take .ensures) _ (c .enum-told .given .1)
+loop-again c = c .before .before .before .before .before .loop .inv ∙ batch (c .before .before .before .before .before .loop .d) (c .before .before .before .before .before .before .before .args .states .now) (c .before .before .before .before .before .loop .i) _ (c .before .before .before .batch .ensures) _ (c .enum-told .given .1)
 
 enum-known-sent : tie.Need-enum-known-sent Inv-loop μ-loop
 enum-known-sent c = search needs
 
 returns : tie.Need-returns Inv-loop μ-loop
-returns c = sym (c .before .before .before .before .before .before .loop .inv ∙ batch (c .before .before .before .before .before .before .loop .d) (c .before .before .before .before .before .before .before .before .args .states .now) (c .before .before .before .before .before .before .loop .i) _ (c .before .before .before .before .take .ensures) _ (c .before .sent .given .1))
+returns c = sym (c .before .before .before .before .before .before .loop .inv ∙ batch (c .before .before .before .before .before .before .loop .d) (c .before .before .before .before .before .before .before .before .args .states .now) (c .before .before .before .before .before .before .loop .i) _ (c .before .before .before .before .batch .ensures) _ (c .before .sent .given .1))
 
 enum-known-sent-2 : tie.Need-enum-known-sent-2 Inv-loop μ-loop
 enum-known-sent-2 c = search needs
 
 returns-2 : tie.Need-returns-2 Inv-loop μ-loop
-returns-2 c = sym (c .before .before .before .before .before .before .loop .inv ∙ batch (c .before .before .before .before .before .before .loop .d) (c .before .before .before .before .before .before .before .before .args .states .now) (c .before .before .before .before .before .before .loop .i) _ (c .before .before .before .before .take .ensures) _ (c .before .sent2 .given .1))
+returns-2 c = sym (c .before .before .before .before .before .before .loop .inv ∙ batch (c .before .before .before .before .before .before .loop .d) (c .before .before .before .before .before .before .before .before .args .states .now) (c .before .before .before .before .before .before .loop .i) _ (c .before .before .before .before .batch .ensures) _ (c .before .sent2 .given .1))
 
 returns-3 : tie.Need-returns-3 Inv-loop μ-loop
 returns-3 c = until-end true _ _ _ _ (c .loop-test .left) ∙ sym (c .before .loop .inv)
 
 pub take-all-spec : {M : Type 1} → statement M
-take-all-spec = tie.close (tie.spec Inv-loop μ-loop loop-holds take-requires enum-told loop-less loop-again enum-known-sent returns enum-known-sent-2 returns-2 returns-3)
+take-all-spec = tie.close (tie.spec Inv-loop μ-loop loop-holds batch-requires enum-told loop-less loop-again enum-known-sent returns enum-known-sent-2 returns-2 returns-3)

@@ -52,15 +52,14 @@ fn enter_under(refusal: u8, n: usize, states: &[u8]) -> Entry
 pub fn answer(refusal: u8, n: usize) -> Ran
     ensures { λ r. ⌜ r ≡ ran refusal n ⌝ }
 {
-    if refusal == 0 {
-        Ran {
-            returned: n,
-            refusal: refusal,
-        }
-    } else {
-        Ran {
+    if refusal != 0 {
+        return Ran {
             returned: 0,
             refusal: refusal,
-        }
+        };
+    }
+    Ran {
+        returned: n,
+        refusal: refusal,
     }
 }

@@ -213,13 +213,12 @@ fn hands_on(device: Device, state: u8) -> bool
 fn slice_start(device: Device, command: Command, count: u16) -> Device
     ensures { λ r. ⌜ r ≡ sliceStart device command count ⌝ }
 {
-    let registers = device.registers;
-    Device {
-        registers: registers,
-        place: device::place_of(Phase::Slice {
-            command: command,
-            count: count,
-            taken: 0,
-        }),
-    }
+    let mut next = device;
+    let place = device::place_of(Phase::Slice {
+        command: command,
+        count: count,
+        taken: 0,
+    });
+    next.place = place;
+    next
 }

@@ -3,10 +3,10 @@ use Rattle.turns.proofs.entry.answer.Statement.{statement}
 use Rattle.turns.proofs.entry.answer.Tie as tie
 
 returns : tie.Need-returns
-returns c = rw (eq-eqb _ _ (c .if1 .taken))
+returns c = rw (ne-eqb _ _ (c .if1 .taken))
 
 returns-2 : tie.Need-returns-2
-returns-2 c = rw (ne-eqb _ _ (c .if1 .left))
+returns-2 c = rw (eq-eqb _ _ (c .if1 .left))
 
 pub answer-spec : {M : Type 1} → statement M
 answer-spec = tie.close (tie.spec returns returns-2)

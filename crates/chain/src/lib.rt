@@ -77,7 +77,7 @@ pub extern "C" fn bb_set_fault(chain: &mut [Device], device: usize, kind: u8, fl
 }
 
 // Each record is judged, once for each call.
-fn judge(chain: &[Device]) -> Judged
+pub fn judge(chain: &[Device]) -> Judged
     ensures { λ r. ⌜ r ≡ judgedFrom unjudged (now (chain .entry)) ⌝ }
 {
     let mut judged = turns::judge_none();

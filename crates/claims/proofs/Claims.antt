@@ -17,6 +17,8 @@ use Rattle.device.proofs.Places.{and-both}
 use Rattle.claims.specs.Examples.{Example, wire, return, lights, Says, Each, threeDevices, threeStates}
 use Rattle.claims.specs.Claims as claim
 use Rattle.claims.proofs.Demand as demand
+use Rattle.claims.proofs.Compared as compared
+use Rattle.claims.proofs.RestoredSame.{restored-same}
 
 pub writtenRead : claim.WrittenRead
 writtenRead = written-read
@@ -68,6 +70,18 @@ judged = demand.judged
 
 pub kept : claim.Kept
 kept = demand.kept
+
+pub sameHolds : claim.SameHolds
+sameHolds = compared.same-holds
+
+pub holdsSame : claim.HoldsSame
+holdsSame = compared.holds-same
+
+pub restoredSame : claim.RestoredSame
+restoredSame = restored-same
+
+pub named : claim.Named
+named = compared.named
 
 pub frameOn : claim.FrameOn
 frameOn = light.frame-on

@@ -37,6 +37,8 @@ use Rattle.model.specs.Set.{Set, Own, owned}
 use Rattle.model.specs.Restore.{restoreOrder}
 use Rattle.link.specs.Restore.{framePart, restorePart, restoreStates, arrival, flags, returnsOf}
 use Rattle.link.specs.Records.{Holds, CutFields, start, Begun, ownTable}
+use Rattle.compare.specs.Compare.{same, compareRefusal, comparison}
+use Rattle.compare.specs.Differences.{Arrays, FirstDifference}
 use Rattle.schedule.specs.Light.{count, level, isOn, leadOf, isEven, litAt}
 use Rattle.schedule.specs.Answers.{litRows, litAnswer}
 use Rattle.schedule.specs.declared.answer.Asked.the-variants.{Is}
@@ -175,6 +177,42 @@ Kept =
     → refusalOf records (fresh p) ≡ 0
     → let now : List Device = start p records earlier in
     (length now ≡ length records) × All (λ d. fits d ≡ true) now × (refusalOf now c ≡ first (ownTable (length now) c))
+
+-- ---- is it running?
+
+-- same: every register in use is the set's
+abbrev pub SameHolds : Type 0
+SameHolds =
+    (s : Set) (ds : List Device)
+    → All Arrays ds
+    → comparison s ds ≡ same
+    → Both Holds (owned s) ds
+
+-- every register in use is the set's: same, unless it is refused
+abbrev pub HoldsSame : Type 0
+HoldsSame =
+    (s : Set) (ds : List Device)
+    → compareRefusal s ds ≡ 0
+    → Both Holds (owned s) ds
+    → comparison s ds ≡ same
+
+-- after a restore, any fault settings and a boundary: a comparison of that set and that chain is not refused, and says same
+abbrev pub RestoredSame : Type 0
+RestoredSame =
+    (p : ℕ) (records : List Device) (earlier during later : List Call) (s : Set) (gap : Command → List Bool) (tail : Command → Tail) (last : List Bool)
+    → Begun p records earlier during s tail
+    → fed (start p records earlier) during ≡ restoreStates s gap tail ++ map stateOf (lows last)
+    → Faults (afterCalls (start p records earlier) during) later
+    → comparison s (afterCalls (start p records earlier) (during ++ (later ++ boundary ∷ []))) ≡ same
+
+-- neither refused nor same: the first difference
+abbrev pub Named : Type 0
+Named =
+    (s : Set) (ds : List Device) (o : Own)
+    → All Arrays ds
+    → compareRefusal s ds ≡ 0
+    → (comparison s ds ≡ same → ⊥)
+    → FirstDifference (comparison s ds) o (owned s) ds
 
 -- ---- light
 

@@ -136,9 +136,11 @@ fn all24_below(values: [u16; 24], limit: u16) -> bool
     parts::values_below(&values, limit)
 }
 
-// Each of 48 values is below a limit.
+// Each of 48 values is below a limit: they are judged as two lists of 24, by the loop that judges the others, which is vectorised.
 fn all48_below(values: [u16; 48], limit: u16) -> bool
     ensures { λ r. ⌜ r ≡ allBelow values limit ⌝ }
 {
-    parts::values_below(&values, limit)
+    let low = crate::registers::every(values, 0, 1);
+    let high = crate::registers::every(values, 24, 1);
+    pair_below(low, high, limit)
 }

@@ -43,7 +43,7 @@ fn same_copies(slice: [u16; 48]) -> bool
 }
 
 // 24 values of the slice, from a first one on, each a stride after the last.
-fn every(slice: [u16; 48], first: usize, stride: usize) -> [u16; 24]
+pub fn every(slice: [u16; 48], first: usize, stride: usize) -> [u16; 24]
     requires { ⌜ first + stride * 23 < 48 ⌝ }
     ensures { λ r. ⌜ r ≡ strided slice first stride 24 ⌝ }
 {

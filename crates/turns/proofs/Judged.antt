@@ -42,12 +42,12 @@ judged-none j = refl
 
 -- ---- what the pass finds
 
-known-found : (j : Judged) (ds : List Device) → judgedFrom j ds .known ≡ (j .known && allKnown ds)
+pub known-found : (j : Judged) (ds : List Device) → judgedFrom j ds .known ≡ (j .known && allKnown ds)
 unfolding judgedFrom
 known-found j [] = and-true (j .known)
 known-found j (d ∷ ds) = known-found (judgedWith j d) ds ∙ and-assoc (j .known) (known (d .registers .part)) (allKnown ds)
 
-fits-found : (j : Judged) (ds : List Device) → judgedFrom j ds .fits ≡ (j .fits && allFit ds)
+pub fits-found : (j : Judged) (ds : List Device) → judgedFrom j ds .fits ≡ (j .fits && allFit ds)
 unfolding judgedFrom
 fits-found j [] = and-true (j .fits)
 fits-found j (d ∷ ds) = fits-found (judgedWith j d) ds ∙ and-assoc (j .fits) (fits d) (allFit ds)
@@ -61,7 +61,7 @@ same-after j (d ∷ ds) e =
     ∙ ap (λ (b : Bool). (j .same && cond b (hasPart (j .part) d) true) && every (hasPart (cond b (j .part) (d .registers .part))) ds) e
     ∙ and-assoc (j .same) (hasPart (j .part) d) (every (hasPart (j .part)) ds)
 
-same-found : (ds : List Device) → judgedFrom unjudged ds .same ≡ sameParts ds
+pub same-found : (ds : List Device) → judgedFrom unjudged ds .same ≡ sameParts ds
 unfolding judgedFrom
 same-found [] = refl
 same-found (d ∷ ds) = same-after (judgedWith unjudged d) ds refl

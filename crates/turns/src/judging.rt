@@ -197,7 +197,7 @@ fn first_part(judged: Judged, part: u16) -> u16
 }
 
 // The number of devices is 1 to 1023.
-fn is_count(n: usize) -> bool
+pub fn is_count(n: usize) -> bool
     ensures { λ r. ⌜ r ≡ isCount n ⌝ }
 {
     if 1 <= n { n <= 1023 } else { false }

@@ -17,6 +17,7 @@ pub use judging::Span;
 pub use judging::boundary_span;
 pub use judging::fault_span;
 pub use judging::fresh_span;
+pub use judging::is_count;
 pub use judging::judge_none;
 pub use judging::judge_one;
 pub use judging::with_fault;

@@ -1,0 +1,241 @@
+-- The search comes to what Compare says. Between two turns `rest` is the answer that is still to be found; a turn leaves it as it was: by the
+-- next device's groups the answer is found there, or it is that of the devices after it. Assumes nothing.
+use mathlib.Core.Path.{_≡_, refl, ap, ap₂, sym, subst, _∙_}
+use mathlib.Core.Bool.{Bool, true, false, _&&_, cond, true≢false}
+use mathlib.Core.List.{List, [], _∷_}
+use Prim.Native.Nat.{ℕ, suc, _+_, _*_, _-_, _%_, _<_, _≤_}
+use native.Mathlib.Numerals.{add-one}
+use native.Mathlib.Nat.{suc-mul}
+use native.Mathlib.Omega.{arith}
+use lib.Dec.{eqb, ltb}
+use lib.ListN.{length, getD, take, drop}
+use lib.Seq.{drop-cons, drop-drop}
+use borrow.Author.Tests.{ltb-true, ltb-false, leb-true, eqb-true, ne-eqb, not-false}
+use Rattle.parts.specs.Parts.{Part, partOf, multiplex, sliceFields}
+use Rattle.parts.specs.Refusals.{answer}
+use Rattle.parts.specs.declared.command.Command.the-variants.{Individual}
+use Rattle.parts.proofs.Laws.{banks-three}
+use Rattle.parts.proofs.Rows.{clear}
+use Rattle.device.specs.declared.device.Device.{Device}
+use Rattle.calls.specs.Chain.{blank, isCount}
+use Rattle.model.specs.Set.{Set, Own, deal, owned}
+use Rattle.turns.specs.Judging.{unjudged, judgedFrom}
+use Rattle.compare.specs.declared.compared.Compared.{Compared}
+use Rattle.compare.specs.declared.compared.Given.{Given}
+use Rattle.compare.specs.declared.search.Search.{Search}
+use Rattle.compare.specs.Compare.{differsAt, Pair, _against_, groups, inGroups, compared, same, difference, lengthsFit, sameChain, compareTable, compareRefusal, comparison}
+use Rattle.compare.specs.Search.{setBy, Ready, onward, ended, lookedAt, begunUnder, begun}
+use Rattle.compare.proofs.Refusal.{and-left, and-right, fields-of}
+use Rattle.compare.proofs.Judged.{refusal-found}
+
+-- ---- where no group differs
+
+-- what follows a device is answered exactly where its own answer has no group
+pub inGroups-none : (n g : ℕ) (ps : List Pair) (none : Compared)
+    → inGroups n (suc g) ps none ≡ cond (eqb (inGroups n (suc g) ps same .group) 0) none (inGroups n (suc g) ps same)
+unfolding inGroups
+inGroups-none n g [] none = refl
+inGroups-none n g ((xs against ys) ∷ ps) none = go (ltb (differsAt xs ys) (length xs)) (inGroups-none n (suc g) ps none)
+  where
+    go : (b : Bool)
+        → inGroups n (suc (suc g)) ps none ≡ cond (eqb (inGroups n (suc (suc g)) ps same .group) 0) none (inGroups n (suc (suc g)) ps same)
+        → cond b (compared 0 n (suc g) (differsAt xs ys)) (inGroups n (suc (suc g)) ps none)
+        ≡ cond (eqb (cond b (compared 0 n (suc g) (differsAt xs ys)) (inGroups n (suc (suc g)) ps same) .group) 0) none (cond b (compared 0 n (suc g) (differsAt xs ys)) (inGroups n (suc (suc g)) ps same))
+    go true e = ap (λ (b : Bool). cond b none (compared 0 n (suc g) (differsAt xs ys))) (sym (ne-eqb (suc g) 0 (λ z. omega (arith, z))))
+    go false e = e
+
+-- a device that is the same answers nothing else
+inGroups-same : (n g : ℕ) (ps : List Pair) → eqb (inGroups n (suc g) ps same .group) 0 ≡ true → inGroups n (suc g) ps same ≡ same
+inGroups-same n g ps z = inGroups-none n g ps same ∙ ap (λ (b : Bool). cond b same (inGroups n (suc g) ps same)) z
+
+-- ---- where the search stands
+
+zero-plus : (n : ℕ) → 0 + n ≡ n
+zero-plus n = omega arith
+
+sum-next : (a t k : ℕ) → a + k + t * k ≡ a + suc t * k
+sum-next a t k = regroup a (t * k) k ∙ ap (λ (n : ℕ). a + n) (sym (suc-mul t k))
+  where
+    regroup : (x y z : ℕ) → x + z + y ≡ x + (y + z)
+    regroup x y z = omega arith
+
+within : (a k x n : ℕ) → a + k + x ≡ n → a + k ≤ n
+within a k x n e = omega arith
+
+module _ (p : Part) (bytes values : List ℕ) (ds : List Device) where
+  -- the devices' own from a place on, and the answer of those
+  abbrev from : ℕ → ℕ → ℕ → ℕ → ℕ → ℕ → ℕ → Compared
+  from configuration global left index b v n =
+      difference n (deal p left configuration global (drop b bytes) (drop v values)) (drop index ds)
+
+  abbrev rest : Search → Compared
+  rest s = cond (s .going) (from (s .configuration) (s .global) (s .devices - s .index) (s .index) (s .bytes) (s .values) (suc (s .index))) (s .answer)
+
+  -- t devices are left
+  pub record Live (t : ℕ) (s : Search) : Type 0 where
+    pub left : s .index + t ≡ s .devices
+    pub devices : s .devices ≡ length ds
+    pub banks : s .banks ≡ p .banks
+    pub few : s .banks ≤ 3
+    pub fields : s .fields ≡ sliceFields p Individual (multiplex (s .configuration))
+    pub wide : s .fields ≡ 24 * (1 + s .configuration % 2)
+    pub bytesIn : s .bytes + t * s .banks ≡ length bytes
+    pub valuesIn : s .values + t * s .fields ≡ length values
+
+  pub record Stands (t : ℕ) (fin : Compared) (s : Search) : Type 0 where
+    pub answered : rest s ≡ fin
+    pub live : s .going ≡ true → (0 < t) × Live t s
+
+  pub stands-zero : (fin : Compared) (s : Search) → Stands 0 fin s → s .going ≡ true → ⊥
+  stands-zero fin s st e = let l = st .live e .0 in omega arith
+
+  pub stands-end : (t : ℕ) (fin : Compared) (s : Search) → Stands t fin s → s .going ≡ false → s .answer ≡ fin
+  stands-end t fin s st e =
+      ap (λ (b : Bool). cond b (from (s .configuration) (s .global) (s .devices - s .index) (s .index) (s .bytes) (s .values) (suc (s .index))) (s .answer)) (sym e)
+      ∙ st .answered
+
+  module _ (t : ℕ) (fin : Compared) (s : Search) (st : Stands (suc t) fin s) (e : s .going ≡ true) where
+    here : Live (suc t) s
+    here = st .live e .1
+
+    pub stands-index : s .index < length ds
+    stands-index = omega (arith, here .left, here .devices)
+
+    pub stands-ready : Ready s (length bytes) (length values)
+    stands-ready =
+        record {
+          index = omega (arith, here .left);
+          banks = here .few;
+          fields = here .wide;
+          bytesIn = within (s .bytes) (s .banks) (t * s .banks) (length bytes) (sum-next (s .bytes) t (s .banks) ∙ here .bytesIn);
+          valuesIn = within (s .values) (s .fields) (t * s .fields) (length values) (sum-next (s .values) t (s .fields) ∙ here .valuesIn);
+        }
+
+    abbrev d : Device
+    d = getD ds (s .index) blank
+
+    -- a device's own, by how many bytes and values
+    abbrev own : ℕ → ℕ → Own
+    own banks fields =
+        record {
+          configuration = s .configuration;
+          calibration = take banks (drop (s .bytes) bytes);
+          global = s .global;
+          individual = take fields (drop (s .values) values);
+        }
+
+    abbrev after : ℕ → ℕ → Compared
+    after banks fields = from (s .configuration) (s .global) t (s .index + 1) (s .bytes + banks) (s .values + fields) (suc (s .index + 1))
+
+    abbrev whole : ℕ → ℕ → Compared
+    whole banks fields = inGroups (s .index + 1) 1 (groups (own banks fields) d) (after banks fields)
+
+    abbrev a : Compared
+    a = inGroups (s .index + 1) 1 (groups (own (s .banks) (s .fields)) d) same
+
+    -- this device's answer, or that of those after it
+    turn : whole (p .banks) (sliceFields p Individual (multiplex (s .configuration)))
+        ≡ difference (s .index + 1) (deal p (suc t) (s .configuration) (s .global) (drop (s .bytes) bytes) (drop (s .values) values)) (d ∷ drop (s .index + 1) ds)
+    unfolding difference deal
+    turn = rw (drop-drop (p .banks) (s .bytes) bytes, drop-drop (sliceFields p Individual (multiplex (s .configuration))) (s .values) values)
+
+    split : cond (eqb (a .group) 0) (after (s .banks) (s .fields)) a ≡ fin
+    split =
+        let left : suc t ≡ s .devices - s .index = omega (arith, here .left) in
+        let now : d ∷ drop (s .index + 1) ds ≡ drop (s .index) ds = rw (add-one (s .index), drop-cons ds (s .index) blank stands-index) in
+        sym (inGroups-none (s .index + 1) 0 (groups (own (s .banks) (s .fields)) d) (after (s .banks) (s .fields)))
+        ∙ ap₂ whole (here .banks) (here .fields)
+        ∙ turn
+        ∙ ap (λ (n : ℕ). difference n (deal p (suc t) (s .configuration) (s .global) (drop (s .bytes) bytes) (drop (s .values) values)) (d ∷ drop (s .index + 1) ds)) (add-one (s .index))
+        ∙ ap (λ (r : List Device). difference (suc (s .index)) (deal p (suc t) (s .configuration) (s .global) (drop (s .bytes) bytes) (drop (s .values) values)) r) now
+        ∙ ap (λ (n : ℕ). from (s .configuration) (s .global) n (s .index) (s .bytes) (s .values) (suc (s .index))) left
+        ∙ ap (λ (b : Bool). cond b (from (s .configuration) (s .global) (s .devices - s .index) (s .index) (s .bytes) (s .values) (suc (s .index))) (s .answer)) (sym e)
+        ∙ st .answered
+
+    settled : (b : Bool) → eqb (a .group) 0 ≡ b → cond b (after (s .banks) (s .fields)) a ≡ fin
+    settled b z = ap (λ (u : Bool). cond u (after (s .banks) (s .fields)) a) (sym z) ∙ split
+
+    -- the search goes on after a device that is the same
+    onward-answered : eqb (a .group) 0 ≡ true → rest (onward s a) ≡ fin
+    unfolding difference deal
+    onward-answered z = go (ltb (s .index + 1) (s .devices)) refl
+      where
+        go : (u : Bool) → ltb (s .index + 1) (s .devices) ≡ u
+            → cond u (from (s .configuration) (s .global) (s .devices - (s .index + 1)) (s .index + 1) (s .bytes + s .banks) (s .values + s .fields) (suc (s .index + 1))) a ≡ fin
+        go true f =
+            let left : s .devices - (s .index + 1) ≡ t = omega (arith, here .left) in
+            ap (λ (n : ℕ). from (s .configuration) (s .global) n (s .index + 1) (s .bytes + s .banks) (s .values + s .fields) (suc (s .index + 1))) left
+            ∙ settled true z
+        go false f =
+            let none : 0 ≡ t = omega (arith, here .left, ltb-false (s .index + 1) (s .devices) f) in
+            inGroups-same (s .index + 1) 0 (groups (own (s .banks) (s .fields)) d) z
+            ∙ ap (λ (n : ℕ). from (s .configuration) (s .global) n (s .index + 1) (s .bytes + s .banks) (s .values + s .fields) (suc (s .index + 1))) none
+            ∙ settled true z
+
+    onward-live : ltb (s .index + 1) (s .devices) ≡ true → (0 < t) × Live t (onward s a)
+    onward-live f =
+        let l : s .index + 1 < s .devices = ltb-true (s .index + 1) (s .devices) f in (
+          omega (arith, here .left),
+          record {
+            left = omega (arith, here .left);
+            devices = here .devices;
+            banks = here .banks;
+            few = here .few;
+            fields = here .fields;
+            wide = here .wide;
+            bytesIn = sum-next (s .bytes) t (s .banks) ∙ here .bytesIn;
+            valuesIn = sum-next (s .values) t (s .fields) ∙ here .valuesIn;
+          },
+        )
+
+    pub stands-next : Stands t fin (lookedAt s bytes values d)
+    unfolding lookedAt
+    stands-next = go (eqb (a .group) 0) refl
+      where
+        go : (b : Bool) → eqb (a .group) 0 ≡ b → Stands t fin (cond b (onward s a) (ended s a))
+        go true z = record { answered = onward-answered z; live = onward-live }
+        go false z = record { answered = settled false z; live = λ f. absurd (true≢false (sym f)) }
+
+-- ---- where the search begins
+
+module _ (g : Given) (bytes values : List ℕ) (ds : List Device) where
+  abbrev set : Set
+  set = setBy g bytes values
+
+  abbrev p₀ : Part
+  p₀ = partOf (g .part)
+
+  pub begin-live : compareRefusal set ds ≡ 0 → (0 < g .devices) × Live p₀ bytes values ds (g .devices) (begunUnder (compareRefusal set ds) g)
+  unfolding compareRefusal
+  begin-live e =
+      let c = clear (compareTable set ds) refl e in
+      let counts : (isCount (g .devices) && isCount (length ds)) ≡ true = not-false _ (c .1 .0) in
+      let lists : (lengthsFit (g .part) (g .devices) (g .configuration) (length bytes) (length values) && sameChain set ds) ≡ true = not-false _ (c .1 .1 .0) in
+      let fit : lengthsFit (g .part) (g .devices) (g .configuration) (length bytes) (length values) ≡ true = and-left _ _ lists in
+      let sizes : sameChain set ds ≡ true = and-right (lengthsFit (g .part) (g .devices) (g .configuration) (length bytes) (length values)) (sameChain set ds) lists in (
+        leb-true 1 (g .devices) (and-left _ _ (and-left _ _ counts)),
+        record {
+          left = zero-plus (g .devices);
+          devices = sym (eqb-true (length ds) (g .devices) (and-left _ _ sizes));
+          banks = refl;
+          few = omega (arith, banks-three (g .part));
+          fields = refl;
+          wide = fields-of (g .part) (g .configuration);
+          bytesIn = zero-plus (g .devices * p₀ .banks) ∙ sym (eqb-true (length bytes) (g .devices * p₀ .banks) (and-left _ _ fit));
+          valuesIn = zero-plus (g .devices * sliceFields p₀ Individual (multiplex (g .configuration))) ∙ sym (eqb-true (length values) (g .devices * sliceFields p₀ Individual (multiplex (g .configuration))) (and-right (eqb (length bytes) (g .devices * p₀ .banks)) (eqb (length values) (g .devices * sliceFields p₀ Individual (multiplex (g .configuration)))) fit));
+        },
+      )
+
+  begin-stands : Stands p₀ bytes values ds (g .devices) (comparison set ds) (begunUnder (compareRefusal set ds) g)
+  unfolding comparison owned
+  begin-stands =
+      let n = compareRefusal set ds in
+      let all : g .devices - 0 ≡ g .devices = omega arith in
+      record {
+        answered = ap (λ (k : ℕ). cond (eqb n 0) (difference 1 (deal p₀ k (g .configuration) (g .global) bytes values) ds) (compared n 0 0 0)) all;
+        live = λ f. begin-live (eqb-true n 0 f);
+      }
+
+  pub stands-start : Stands p₀ bytes values ds (g .devices) (comparison set ds) (begun g (length bytes) values (judgedFrom unjudged ds) (length ds))
+  stands-start =
+      subst (λ (n : ℕ). Stands p₀ bytes values ds (g .devices) (comparison set ds) (begunUnder n g)) (sym (refusal-found g bytes values ds)) begin-stands

@@ -1,0 +1,89 @@
+-- One device, group by group: the first that differs is named, and where none does the answer goes on. Assumes nothing.
+use mathlib.Core.Path.{_≡_, refl, ap, sym, _∙_}
+use mathlib.Core.Bool.{Bool, cond}
+use mathlib.Core.List.{List, [], _∷_}
+use Prim.Native.Nat.{ℕ, suc, _+_, _-_, _<_, _≤_}
+use native.Mathlib.Omega.{arith}
+use lib.Dec.{eqb}
+use lib.ListN.{length, take, drop, length-take, length-drop}
+use borrow.Author.Tests.{lt-ltb, le-ltb, eq-eqb, ne-eqb}
+use Rattle.device.specs.declared.device.Device.{Device}
+use Rattle.model.specs.Set.{Own}
+use Rattle.compare.specs.declared.compared.Compared.{Compared}
+use Rattle.compare.specs.declared.search.Search.{Search}
+use Rattle.compare.specs.Compare.{differsAt, activeValues, Pair, _against_, groups, inGroups, compared, same}
+use Rattle.compare.specs.Search.{ownAt, onward, ended, lookedAt}
+
+-- ---- one group
+
+module _ (n g : ℕ) (xs ys : List ℕ) (ps : List Pair) (none : Compared) where
+  pub group-differs : differsAt xs ys < length xs → inGroups n g ((xs against ys) ∷ ps) none ≡ compared 0 n g (differsAt xs ys)
+  unfolding inGroups
+  group-differs l = rw (lt-ltb (differsAt xs ys) (length xs) l)
+
+  pub group-same : length xs ≤ differsAt xs ys → inGroups n g ((xs against ys) ∷ ps) none ≡ inGroups n (suc g) ps none
+  unfolding inGroups
+  group-same l = rw (le-ltb (differsAt xs ys) (length xs) l)
+
+pub no-group : (n g : ℕ) (none : Compared) → inGroups n g [] none ≡ none
+unfolding inGroups
+no-group n g none = refl
+
+-- a group of one byte
+module _ (n g x y : ℕ) (ps : List Pair) (none : Compared) where
+  pub byte-differs : (x ≡ y → ⊥) → inGroups n g (((x ∷ []) against (y ∷ [])) ∷ ps) none ≡ compared 0 n g 0
+  unfolding inGroups differsAt
+  byte-differs e = rw (ne-eqb x y e)
+
+  pub byte-same : x ≡ y → inGroups n g (((x ∷ []) against (y ∷ [])) ∷ ps) none ≡ inGroups n (suc g) ps none
+  unfolding inGroups differsAt
+  byte-same e = rw (eq-eqb x y e)
+
+-- ---- a device
+
+module _ (n : ℕ) (o : Own) (d : Device) where
+  abbrev byte : ℕ
+  byte = differsAt (o .calibration) (d .registers .calibration)
+
+  abbrev value : ℕ
+  value = differsAt (o .individual) (activeValues (o .configuration) d)
+
+  abbrev found : Compared
+  found = inGroups n 1 (groups o d) same
+
+  pub configuration-differs : (o .configuration ≡ d .registers .configuration → ⊥) → compared 0 n 1 0 ≡ found
+  configuration-differs e = sym (byte-differs n 1 (o .configuration) (d .registers .configuration) _ same e)
+
+  module _ (e : o .configuration ≡ d .registers .configuration) where
+    pub calibration-differs : byte < length (o .calibration) → compared 0 n 2 byte ≡ found
+    calibration-differs l = sym (byte-same n 1 _ _ _ same e ∙ group-differs n 2 _ _ _ same l)
+
+    module _ (l : length (o .calibration) ≤ byte) where
+      pub global-differs : (o .global ≡ d .registers .active → ⊥) → compared 0 n 3 0 ≡ found
+      global-differs f = sym (byte-same n 1 _ _ _ same e ∙ group-same n 2 _ _ _ same l ∙ byte-differs n 3 _ _ _ same f)
+
+      module _ (f : o .global ≡ d .registers .active) where
+        pub individual-differs : value < length (o .individual) → compared 0 n 4 value ≡ found
+        individual-differs k = sym (byte-same n 1 _ _ _ same e ∙ group-same n 2 _ _ _ same l ∙ byte-same n 3 _ _ _ same f ∙ group-differs n 4 _ _ _ same k)
+
+        pub none-differs : length (o .individual) ≤ value → same ≡ found
+        none-differs k = sym (byte-same n 1 _ _ _ same e ∙ group-same n 2 _ _ _ same l ∙ byte-same n 3 _ _ _ same f ∙ group-same n 4 _ _ _ same k ∙ no-group n 5 same)
+
+-- ---- a part of a list, as the code takes it
+
+pub part-of : (a n : ℕ) (l : List ℕ) → take (a + n - a) (drop a l) ≡ take n (drop a l)
+part-of a n l = let e : a + n - a ≡ n = omega arith in ap (λ (k : ℕ). take k (drop a l)) e
+
+pub length-part : (a n : ℕ) (l : List ℕ) → a + n ≤ length l → length (take n (drop a l)) ≡ n
+length-part a n l h = simp (length-take, length-drop) (omega arith)
+
+-- ---- a turn of the search
+
+module _ (s : Search) (bytes values : List ℕ) (d : Device) (a : Compared) (e : a ≡ inGroups (s .index + 1) 1 (groups (ownAt s bytes values) d) same) where
+  pub looked-same : a .group ≡ 0 → onward s a ≡ lookedAt s bytes values d
+  unfolding lookedAt
+  looked-same z = ap (λ (b : Bool). cond b (onward s a) (ended s a)) (sym (eq-eqb (a .group) 0 z)) ∙ ap (λ (r : Compared). cond (eqb (r .group) 0) (onward s r) (ended s r)) e
+
+  pub looked-other : (a .group ≡ 0 → ⊥) → ended s a ≡ lookedAt s bytes values d
+  unfolding lookedAt
+  looked-other z = ap (λ (b : Bool). cond b (onward s a) (ended s a)) (sym (ne-eqb (a .group) 0 z)) ∙ ap (λ (r : Compared). cond (eqb (r .group) 0) (onward s r) (ended s r)) e

@@ -1,0 +1,47 @@
+use mathlib.Core.Path.{_≡_, ap, sym, _∙_}
+use Prim.Native.Nat.{ℕ, _*_, _≤_}
+use native.Mathlib.Nat.{mul-le-mul-left}
+use native.Mathlib.Omega.{arith}
+use borrow.Author.Tests.{eq-eqb, ne-eqb}
+use Rattle.parts.proofs.Laws.{banks-three}
+use Rattle.compare.proofs.Refusal.{fields-of}
+use borrow.Author.Needs.{needs}
+use Rattle.compare.proofs.judging.lists_fit.Statement.{statement}
+use Rattle.compare.proofs.judging.lists_fit.Tie as tie
+
+slice-fields-requires : tie.Need-slice-fields-requires
+slice-fields-requires c κs = search needs
+
+cast-banks : tie.Need-cast-banks
+cast-banks c = search needs
+
+slice-fields-requires-2 : tie.Need-slice-fields-requires-2
+slice-fields-requires-2 c κs = search needs
+
+cast-fields : tie.Need-cast-fields
+cast-fields c = search needs
+
+mul-if1 : tie.Need-mul-if1
+mul-if1 c = let b : c .before .slice-fields .result ≡ 3 = c .before .slice-fields .ensures ∙ banks-three (c .before .before .args .given .part) in rw b (omega arith)
+
+mul-result : tie.Need-mul-result
+mul-result c = let a = c .before .before .before .args .given in let b = c .before .slice-fields2 .ensures ∙ fields-of (a .part) (a .configuration) in let s : c .before .slice-fields2 .result ≤ 48 = omega arith in omega (arith, mul-le-mul-left (a .devices) s)
+
+returns : tie.Need-returns
+returns c = let a = c .before .before .before .args .given in rw (c .before .slice-fields2 .ensures, eq-eqb _ _ (c .if1 .taken ∙ ap (λ (n : ℕ). a .devices * n) (c .before .before .slice-fields .ensures)))
+
+returns-2 : tie.Need-returns-2
+returns-2 c = let a = c .before .before .before .args .given in rw (ne-eqb _ _ (λ e. c .if1 .left (e ∙ ap (λ (n : ℕ). a .devices * n) (sym (c .before .before .slice-fields .ensures)))))
+
+pub lists-fit-spec : {M : Type 1} → statement M
+lists-fit-spec =
+    tie.close
+    (tie.spec
+    slice-fields-requires
+    cast-banks
+    slice-fields-requires-2
+    cast-fields
+    mul-if1
+    mul-result
+    returns
+    returns-2)

@@ -1,0 +1,33 @@
+use borrow.Author.Tests.{lt-ltb, le-ltb}
+use borrow.Author.Needs.{needs}
+use Rattle.compare.proofs.judging.values_fit.Statement.{statement}
+use Rattle.compare.proofs.judging.values_fit.Tie as tie
+
+cast-if1 : tie.Need-cast-if1
+cast-if1 c = search needs
+
+subframes-of-requires : tie.Need-subframes-of-requires
+subframes-of-requires c κs = search needs
+
+value-limit-requires : tie.Need-value-limit-requires
+value-limit-requires c κs = search needs
+
+values-below-requires : tie.Need-values-below-requires
+values-below-requires c κs = search needs
+
+returns : tie.Need-returns
+returns c = rw (c .values-below .ensures, c .before .value-limit .ensures, rw (c .before .before .before .subframes-of .ensures) at (lt-ltb _ _ (c .before .before .if1 .taken)))
+
+returns-2 : tie.Need-returns-2
+returns-2 c = rw (rw (c .before .subframes-of .ensures) at (le-ltb _ _ (c .if1 .left)))
+
+pub values-fit-spec : {M : Type 1} → statement M
+values-fit-spec =
+    tie.close
+    (tie.spec
+    cast-if1
+    subframes-of-requires
+    value-limit-requires
+    values-below-requires
+    returns
+    returns-2)

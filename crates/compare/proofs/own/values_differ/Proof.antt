@@ -1,0 +1,62 @@
+use mathlib.Core.Path.{_≡_}
+use Prim.Native.Nat.{_+_, _≤_, _-_, _<_}
+use native.Mathlib.Omega.{arith}
+use lib.ListN.{length, drop}
+use Rattle.compare.specs.Compare.{differsAt}
+use Rattle.compare.proofs.Differs.{differs-start, differs-end, differs-here, differs-next}
+use borrow.Author.Needs.{needs}
+use Rattle.compare.proofs.own.values_differ.Statement.{statement}
+use Rattle.compare.proofs.own.values_differ.Tie as tie
+
+abbrev Inv-loop : tie.InvT-loop
+Inv-loop values held i₀ i = (i ≤ length values) × (differsAt values held ≡ i + differsAt (drop i values) (drop i held))
+
+abbrev μ-loop : tie.MeasureT-loop
+μ-loop values held i₀ i = length values - i
+
+loop-holds : tie.Need-loop-holds Inv-loop μ-loop
+loop-holds c = (search needs, differs-start _ _)
+
+mul-if1 : tie.Need-mul-if1 Inv-loop μ-loop
+mul-if1 c = search needs
+
+shared-slice-read-if1 : tie.Need-shared-slice-read-if1 Inv-loop μ-loop
+shared-slice-read-if1 c = search needs
+
+mul-if1-2 : tie.Need-mul-if1-2 Inv-loop μ-loop
+mul-if1-2 c = search needs
+
+array-read-if1 : tie.Need-array-read-if1 Inv-loop μ-loop
+array-read-if1 c = search needs
+
+returns : tie.Need-returns Inv-loop μ-loop
+returns c = let p = c .before .before .before .before .args in let i = c .before .before .before .loop .i in let e = c .before .before .before .loop .inv .1 in let t = c .before .before .loop-test .taken in let n : length (p .t2) ≡ 24 = search needs in let k : i < length (p .t2) = omega arith in omega (arith, e, differs-here (p .values .now) (p .t2) i t k (c .if1 .taken))
+
+add-i : tie.Need-add-i Inv-loop μ-loop
+add-i c = search needs
+
+loop-less : tie.Need-loop-less Inv-loop μ-loop
+loop-less c = search needs
+
+loop-again : tie.Need-loop-again Inv-loop μ-loop
+loop-again c = let p = c .before .before .before .before .args in let i = c .before .before .before .loop .i in let e = c .before .before .before .loop .inv .1 in let t = c .before .before .loop-test .taken in let n : length (p .t2) ≡ 24 = search needs in let k : i < length (p .t2) = omega arith in (search needs, omega (arith, e, differs-next (p .values .now) (p .t2) i t k (c .if1 .left)))
+
+returns-2 : tie.Need-returns-2 Inv-loop μ-loop
+returns-2 c = omega (arith, c .before .loop .inv .1, differs-end (c .before .before .args .values .now) (drop (c .before .loop .i) (c .before .before .args .t2)) (c .before .loop .i) (c .loop-test .left))
+
+pub values-differ-spec : {M : Type 1} → statement M
+values-differ-spec =
+    tie.close
+    (tie.spec
+    Inv-loop
+    μ-loop
+    loop-holds
+    mul-if1
+    shared-slice-read-if1
+    mul-if1-2
+    array-read-if1
+    returns
+    add-i
+    loop-less
+    loop-again
+    returns-2)

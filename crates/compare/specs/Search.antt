@@ -1,0 +1,117 @@
+-- The search for the first difference, device by device, and its refusal by what one pass over the records found. What is compared and
+-- answered is said in Compare; that the search comes to it is in proofs/Found.
+use Prim.Native.Nat.{ℕ, _+_, _*_, _%_, _<_, _≤_}
+use mathlib.Core.Path.{_≡_}
+use mathlib.Core.Bool.{Bool, false, _&&_, cond}
+use mathlib.Core.List.{List}
+use lib.Dec.{eqb, ltb}
+use lib.ListN.{length, take, drop}
+use Rattle.parts.specs.Parts.{partOf, known, multiplex, sliceFields}
+use Rattle.parts.specs.Refusals.{Row, first}
+use Rattle.parts.specs.declared.command.Command.the-variants.{Individual, Calibration}
+use Rattle.device.specs.declared.device.Device.{Device}
+use Rattle.calls.specs.Chain.{isCount}
+use Rattle.model.specs.Set.{Set, Own}
+use Rattle.turns.specs.declared.judging.Judged.{Judged}
+use Rattle.compare.specs.declared.compared.Compared.{Compared}
+use Rattle.compare.specs.declared.compared.Given.{Given}
+use Rattle.compare.specs.declared.search.Search.{Search}
+use Rattle.compare.specs.Compare.{setOf, compared, same, groups, inGroups, lengthsFit, valuesFit, rowsOf}
+
+-- what is given of a set beside its lists, and with them
+abbrev pub given : ℕ → ℕ → ℕ → ℕ → Given
+given part devices configuration global =
+    record { part = part; devices = devices; configuration = configuration; global = global }
+
+abbrev pub setBy : Given → List ℕ → List ℕ → Set
+setBy g calibration individual = setOf (g .part) (g .devices) (g .configuration) calibration (g .global) individual
+
+-- ---- the refusal
+
+-- the number of records is the set's, and each is of the set's part
+abbrev pub chainFits : Given → Judged → ℕ → Bool
+chainFits g j count = eqb count (g .devices) && (j .same && eqb (j .part) (g .part))
+
+abbrev pub rowsBy : Given → ℕ → List ℕ → Judged → ℕ → List Row
+rowsBy g bytes individual j count =
+    rowsOf (known (g .part) && j .known) (isCount (g .devices) && isCount count)
+    (lengthsFit (g .part) (g .devices) (g .configuration) bytes (length individual) && chainFits g j count)
+    (valuesFit (g .part) (g .configuration) (g .global) individual) (j .fits)
+
+-- ---- the search
+
+-- before device 1; a refused search is at its end
+abbrev pub begunUnder : ℕ → Given → Search
+begunUnder refusal g =
+    record {
+      configuration = g .configuration;
+      global = g .global;
+      devices = g .devices;
+      banks = sliceFields (partOf (g .part)) Calibration 0;
+      fields = sliceFields (partOf (g .part)) Individual (multiplex (g .configuration));
+      index = 0;
+      bytes = 0;
+      values = 0;
+      going = eqb refusal 0;
+      answer = compared refusal 0 0 0;
+    }
+
+abbrev pub begun : Given → ℕ → List ℕ → Judged → ℕ → Search
+begun g bytes individual j count = begunUnder (first (rowsBy g bytes individual j count)) g
+
+-- the next device's own bytes and values stand in the set's lists
+pub record Ready (s : Search) (bytes values : ℕ) : Type 0 where
+  pub index : s .index < s .devices
+  pub banks : s .banks ≤ 3
+  pub fields : s .fields ≡ 24 * (1 + s .configuration % 2)
+  pub bytesIn : s .bytes + s .banks ≤ bytes
+  pub valuesIn : s .values + s .fields ≤ values
+
+-- what of the set is the next device's own
+abbrev pub ownAt : Search → List ℕ → List ℕ → Own
+ownAt s bytes values =
+    record {
+      configuration = s .configuration;
+      calibration = take (s .banks) (drop (s .bytes) bytes);
+      global = s .global;
+      individual = take (s .fields) (drop (s .values) values);
+    }
+
+-- a device is the same: on to the next
+abbrev pub onward : Search → Compared → Search
+onward s a =
+    record {
+      configuration = s .configuration;
+      global = s .global;
+      devices = s .devices;
+      banks = s .banks;
+      fields = s .fields;
+      index = s .index + 1;
+      bytes = s .bytes + s .banks;
+      values = s .values + s .fields;
+      going = ltb (s .index + 1) (s .devices);
+      answer = a;
+    }
+
+-- a device differs: the end
+abbrev pub ended : Search → Compared → Search
+ended s a =
+    record {
+      configuration = s .configuration;
+      global = s .global;
+      devices = s .devices;
+      banks = s .banks;
+      fields = s .fields;
+      index = s .index;
+      bytes = s .bytes;
+      values = s .values;
+      going = false;
+      answer = a;
+    }
+
+abbrev pub followed : Search → Compared → Search
+followed s a = cond (eqb (a .group) 0) (onward s a) (ended s a)
+
+-- one device more
+unfoldable pub lookedAt : Search → List ℕ → List ℕ → Device → Search
+lookedAt s bytes values d = followed s (inGroups (s .index + 1) 1 (groups (ownAt s bytes values) d) same)

@@ -1,0 +1,101 @@
+// The search for the first difference, device by device.
+ghost use mathlib.Core.Path.{_≡_};
+ghost use Prim.Native.Nat.{_+_, _<_};
+ghost use lib.ListN.{length};
+ghost use Rattle.compare.specs.Search.{given, Ready, begun, begunUnder, lookedAt};
+use crate::compared::Compared;
+use crate::compared::Given;
+use device::Device;
+use parts::Command;
+use turns::Judged;
+
+pub struct Search {
+    pub configuration: u8,
+    pub global: u8,
+    pub devices: usize,
+    // Bytes and values of one device's slices.
+    pub banks: usize,
+    pub fields: usize,
+    // The next device, and where its own bytes and values begin.
+    pub index: usize,
+    pub bytes: usize,
+    pub values: usize,
+    // There is a next device, and none before it differs.
+    pub going: bool,
+    pub answer: Compared,
+}
+
+// Where the search begins. A refused one is at its end.
+pub fn begin(
+    part: u16,
+    devices: usize,
+    configuration: u8,
+    bytes: usize,
+    global: u8,
+    individual: &[u16],
+    judged: Judged,
+    count: usize,
+) -> Search
+    ensures { λ r. ⌜ r ≡ begun (given part devices configuration global) bytes (now (individual .entry)) judged count ⌝ }
+{
+    let given = Given {
+        part: part,
+        devices: devices,
+        configuration: configuration,
+        global: global,
+    };
+    begin_under(
+        crate::judging::refusal_of(given, bytes, individual, judged, count),
+        given,
+    )
+}
+
+fn begin_under(refusal: u8, given: Given) -> Search
+    ensures { λ r. ⌜ r ≡ begunUnder refusal given ⌝ }
+{
+    Search {
+        configuration: given.configuration,
+        global: given.global,
+        devices: given.devices,
+        banks: parts::slice_fields(Command::Calibration, given.part, 0) as usize,
+        fields: parts::slice_fields(Command::Individual, given.part, given.configuration) as usize,
+        index: 0,
+        bytes: 0,
+        values: 0,
+        going: refusal == 0,
+        answer: Compared {
+            device: 0,
+            place: 0,
+            group: 0,
+            refusal: refusal,
+        },
+    }
+}
+
+// One device more.
+pub fn look(device: Device, search: Search, calibration: &[u8], individual: &[u16]) -> Search
+    requires { ⌜ Ready search (length (now calibration)) (length (now individual)) ⌝ }
+    ensures { λ r. ⌜ r ≡ lookedAt search (now (calibration .entry)) (now (individual .entry)) device ⌝ }
+{
+    let answer = crate::own::device_differs(device, search, calibration, individual);
+    if answer.group == 0 {
+        let next = search.index + 1;
+        Search {
+            configuration: search.configuration,
+            global: search.global,
+            devices: search.devices,
+            banks: search.banks,
+            fields: search.fields,
+            index: next,
+            bytes: search.bytes + search.banks,
+            values: search.values + search.fields,
+            going: next < search.devices,
+            answer: answer,
+        }
+    } else {
+        let mut last = search;
+        last.going = false;
+        last.answer = answer;
+        last
+    }
+}

@@ -1,0 +1,2 @@
+-- What the walks of chains of three devices share.
+pub mod Arrays

@@ -27,8 +27,25 @@ pub struct Set<'a> {
 /// place.
 pub type Difference = (usize, u8, usize);
 
-/// The first difference, or none.
+/// The first difference, or none: value by value, up to the first that differs.
 pub fn compare(set: &Set, chain: &[Device]) -> Result<Option<Difference>, Refusal> {
+    compare_by(first_in_turn, set, chain)
+}
+
+/// The same with a quick pass over the values of a multiplexed device that tells whether any differs at all.
+pub fn compare_quickly(set: &Set, chain: &[Device]) -> Result<Option<Difference>, Refusal> {
+    compare_by(first_in_pairs, set, chain)
+}
+
+/// Where the MUX0 and MUX1 values of a device first differ from a set's.
+type InTurns = fn(&Registers, &[u16]) -> Option<usize>;
+
+#[inline(always)]
+fn compare_by(
+    in_turns: InTurns,
+    set: &Set,
+    chain: &[Device],
+) -> Result<Option<Difference>, Refusal> {
     judge(set, chain)?;
     let values = values(set.configuration);
     let calibration = set.calibration.chunks_exact(3);
@@ -37,7 +54,7 @@ pub fn compare(set: &Set, chain: &[Device]) -> Result<Option<Difference>, Refusa
         chain.iter().zip(calibration.zip(individual)).enumerate()
     {
         let r = &device.registers;
-        if let Some((group, place)) = first_difference(set, r, calibration, individual) {
+        if let Some((group, place)) = first_difference(in_turns, set, r, calibration, individual) {
             return Ok(Some((k + 1, group, place)));
         }
     }
@@ -73,7 +90,9 @@ fn judge(set: &Set, chain: &[Device]) -> Result<(), Refusal> {
     }
 }
 
+#[inline(always)]
 fn first_difference(
+    in_turns: InTurns,
     set: &Set,
     r: &Registers,
     calibration: &[u8],
@@ -91,9 +110,27 @@ fn first_difference(
     let place = if set.configuration & 1 == 0 {
         (0..24).find(|&k| r.active0[k] != individual[k])
     } else {
-        first_in_pairs(r, individual)
+        in_turns(r, individual)
     };
     Some((4, place?))
+}
+
+/// MUX0 and MUX1 values in turn, up to the first that differs.
+fn first_in_turn(r: &Registers, individual: &[u16]) -> Option<usize> {
+    for (k, ((pair, v0), v1)) in individual
+        .chunks_exact(2)
+        .zip(&r.active0)
+        .zip(&r.active1)
+        .enumerate()
+    {
+        if pair[0] != *v0 {
+            return Some(2 * k);
+        }
+        if pair[1] != *v1 {
+            return Some(2 * k + 1);
+        }
+    }
+    None
 }
 
 /// MUX0 and MUX1 values in turn: a quick pass that tells whether any differs, and then where.

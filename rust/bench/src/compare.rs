@@ -2,7 +2,7 @@
 
 use crate::frames::page;
 use crate::race::{best, print};
-use baseline::compare::{compare, Set};
+use baseline::compare::{compare, compare_quickly, Set};
 use record::Device;
 use std::hint::black_box;
 
@@ -43,19 +43,30 @@ pub fn races() {
     let found = ffi::compare(&of_library, &chain);
     assert_eq!((found.group, found.refusal), (0, 0), "compared alike");
     assert_eq!(compare(&plain_set, &chain), Ok(None), "compared alike");
-    let [proved, plain] = best([
+    assert_eq!(
+        compare_quickly(&plain_set, &chain),
+        Ok(None),
+        "compared alike"
+    );
+    let [proved, plain, quick] = best([
         &mut || {
             black_box(ffi::compare(&of_library, black_box(&chain)));
         },
         &mut || {
             let _ = black_box(compare(&plain_set, black_box(&chain)));
         },
+        &mut || {
+            let _ = black_box(compare_quickly(&plain_set, black_box(&chain)));
+        },
     ]);
+    let unit = ("ns a device", DEVICES as f64);
+    let what = format!("compare {DEVICES} multiplexed devices");
+    print(&what, unit, proved, plain, Some(2.0));
     print(
-        &format!("compare {DEVICES} multiplexed devices"),
-        ("ns a device", DEVICES as f64),
+        &format!("{what}, Rust with a quick pass"),
+        unit,
         proved,
-        plain,
-        Some(2.0),
+        quick,
+        None,
     );
 }

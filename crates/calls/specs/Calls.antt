@@ -19,15 +19,19 @@ chainRows ds = (1 when not (allKnown ds)) ∷ (2 when not (isCount (length ds)))
 
 -- ---- make fresh: told the part, it takes the records whatever they hold
 
+-- when it is refused
 abbrev pub freshTable : ℕ → ℕ → List Row
 freshTable part n = (1 when not (known part)) ∷ (2 when not (isCount n)) ∷ []
 
+-- the number, or 0
 unfoldable pub freshRefusal : ℕ → ℕ → ℕ
 freshRefusal part n = first (freshTable part n)
 
+-- every record becomes that of a fresh device
 abbrev pub freshDevices : ℕ → List Device → List Device
 freshDevices part ds = replicate (length ds) (freshDevice part)
 
+-- the records afterwards
 abbrev pub freshAfter : ℕ → List Device → List Device
 freshAfter part ds = content (freshRefusal part (length ds)) ds (freshDevices part ds)
 
@@ -37,9 +41,11 @@ freshAfter part ds = content (freshRefusal part (length ds)) ds (freshDevices pa
 abbrev pub roomFor : ℕ → ℕ
 roomFor n = n + 23
 
+-- when it is refused: the records, the room, a state
 abbrev pub runTable : List Device → List ℕ → ℕ → List Row
 runTable ds ss room = chainRows ds ++ (5 when ltb room (roomFor (length ss))) ∷ (13 when not (allBelow ss 4 && allFit ds)) ∷ []
 
+-- the number, or 0
 unfoldable pub runRefusal : List Device → List ℕ → ℕ → ℕ
 runRefusal ds ss room = first (runTable ds ss room)
 
@@ -47,9 +53,11 @@ runRefusal ds ss room = first (runTable ds ss room)
 abbrev pub returned : List Device → List ℕ → List ℕ
 returned ds ss = (through ds ss) .1
 
+-- the devices after the states
 abbrev pub runDevices : List Device → List ℕ → List Device
 runDevices ds ss = (through ds ss) .0
 
+-- the records afterwards
 abbrev pub runAfter : List Device → List ℕ → ℕ → List Device
 runAfter ds ss room = content (runRefusal ds ss room) ds (runDevices ds ss)
 
@@ -59,28 +67,36 @@ runRoom ds ss out = content (runRefusal ds ss (length out)) out (over (returned 
 
 -- ---- frame boundary
 
+-- when it is refused
 abbrev pub boundaryTable : List Device → List Row
 boundaryTable ds = chainRows ds ++ (13 when not (allFit ds)) ∷ []
 
+-- the number, or 0
 unfoldable pub boundaryRefusal : List Device → ℕ
 boundaryRefusal ds = first (boundaryTable ds)
 
+-- waiting values become active in every device
 abbrev pub boundaryDevices : List Device → List Device
 boundaryDevices ds = map bounded ds
 
+-- the records afterwards
 abbrev pub boundaryAfter : List Device → List Device
 boundaryAfter ds = content (boundaryRefusal ds) ds (boundaryDevices ds)
 
 -- ---- set fault: a device's number, 1 to N, the kind, 0 overtemperature or 1 open LED, and the flag
 
+-- when it is refused: the records, the device, the kind
 abbrev pub faultTable : List Device → ℕ → ℕ → List Row
 faultTable ds device kind = chainRows ds ++ (13 when not (leb 1 device && (leb device (length ds) && (ltb kind 2 && allFit ds)))) ∷ []
 
+-- the number, or 0
 unfoldable pub faultRefusal : List Device → ℕ → ℕ → ℕ
 faultRefusal ds device kind = first (faultTable ds device kind)
 
+-- that device alone has its flag set
 abbrev pub faultDevices : List Device → ℕ → ℕ → Bool → List Device
 faultDevices ds device kind flag = set ds (device - 1) (faulted (getD ds (device - 1) blank) kind (digit flag))
 
+-- the records afterwards
 abbrev pub faultAfter : List Device → ℕ → ℕ → Bool → List Device
 faultAfter ds device kind flag = content (faultRefusal ds device kind) ds (faultDevices ds device kind flag)

@@ -23,6 +23,7 @@ abbrev pub every : {A : Type 0} → (A → Bool) → List A → Bool
 every f [] = true
 every f (x ∷ xs) = f x && every f xs
 
+-- a record is of a part
 abbrev pub hasPart : ℕ → Device → Bool
 hasPart p d = eqb (d .registers .part) p
 

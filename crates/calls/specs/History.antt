@@ -37,6 +37,7 @@ after ds (run ss out) = runAfter ds ss (length out)
 after ds boundary = boundaryAfter ds
 after ds (fault device kind flag) = faultAfter ds device kind flag
 
+-- the records that a list of calls leaves
 unfoldable pub afterCalls : List Device → List Call → List Device
 afterCalls ds [] = ds
 afterCalls ds (c ∷ cs) = afterCalls (after ds c) cs
@@ -60,6 +61,7 @@ unfoldable pub fed : List Device → List Call → List ℕ
 fed ds [] = []
 fed ds (c ∷ cs) = given ds c ++ fed (after ds c) cs
 
+-- all that the runs of a list returned, joined up
 unfoldable pub answers : List Device → List Call → List ℕ
 answers ds [] = []
 answers ds (c ∷ cs) = answered ds c ++ answers (after ds c) cs

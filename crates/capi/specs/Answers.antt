@@ -58,6 +58,7 @@ abbrev pub toldBy : ℕ → ℕ → ℕ → ℕ → Told
 toldBy part devices command configuration =
     record { part = part; devices = devices; command = commandAt command; configuration = configuration }
 
+-- a tail of a number and a length
 abbrev pub tailOf : ℕ → ℕ → Tail
 tailOf number length = record { number = number; length = length }
 
@@ -92,6 +93,7 @@ ofLead (W.Refused number) = record { value = pos 0; refusal = number }
 
 -- ---- one device
 
+-- a step as numbers: what was sent, and the refusal
 abbrev pub numbers : Device → ℕ → ℕ → ℕ → ℕ → ℕ → Stepped
 numbers device count command state sent refusal =
     record { device = device; count = count; command = command; state = state; sent = sent; refusal = refusal }

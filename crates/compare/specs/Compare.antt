@@ -49,6 +49,7 @@ infix 20 _against_
 pub data Pair : Type 0 where
   _against_ : List ℕ → List ℕ → Pair
 
+-- the four groups of a device: configuration, calibration, active global, active individual
 abbrev pub groups : Own → Device → List Pair
 groups o d =
     ((o .configuration ∷ []) against (d .registers .configuration ∷ []))
@@ -60,6 +61,7 @@ groups o d =
 abbrev pub compared : ℕ → ℕ → ℕ → ℕ → Compared
 compared refusal device group place = record { refusal = refusal; device = device; group = group; place = place }
 
+-- no refusal and no difference
 abbrev pub same : Compared
 same = compared 0 0 0 0
 
@@ -90,6 +92,7 @@ valuesFit part configuration global individual =
 abbrev pub sameChain : Set → List Device → Bool
 sameChain s ds = eqb (length ds) (s .devices) && every (hasPart (s .part)) ds
 
+-- the rows by their five tests
 abbrev pub rowsOf : Bool → Bool → Bool → Bool → Bool → List Row
 rowsOf parts counts lists values records =
     (1 when not parts) ∷ (2 when not counts) ∷ (4 when not lists) ∷ (6 when not values) ∷ (13 when not records) ∷ []
@@ -101,6 +104,7 @@ compareTable s ds =
     (lengthsFit (s .part) (s .devices) (s .configuration) (length (s .calibration)) (length (s .individual)) && sameChain s ds)
     (valuesFit (s .part) (s .configuration) (s .global) (s .individual)) (allFit ds)
 
+-- the number under which a comparison is refused, or 0
 unfoldable pub compareRefusal : Set → List Device → ℕ
 compareRefusal s ds = first (compareTable s ds)
 

@@ -22,6 +22,7 @@ pub record Arrays (d : Device) : Type 0 where
 abbrev pub ofSet : Pair → List ℕ
 ofSet (xs against ys) = xs
 
+-- the device's side
 abbrev pub ofDevice : Pair → List ℕ
 ofDevice (xs against ys) = ys
 
@@ -29,6 +30,7 @@ ofDevice (xs against ys) = ys
 abbrev pub pairsOf : Own → List Own → List Device → ℕ → List Pair
 pairsOf o os ds i = groups (getD os i o) (getD ds i blank)
 
+-- one group of them
 abbrev pub pairOf : Own → List Own → List Device → ℕ → ℕ → Pair
 pairOf o os ds i h = getD (pairsOf o os ds i) h ([] against [])
 

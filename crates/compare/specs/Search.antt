@@ -23,6 +23,7 @@ abbrev pub given : ℕ → ℕ → ℕ → ℕ → Given
 given part devices configuration global =
     record { part = part; devices = devices; configuration = configuration; global = global }
 
+-- the set of a caller: numbers and two lists
 abbrev pub setBy : Given → List ℕ → List ℕ → Set
 setBy g calibration individual = setOf (g .part) (g .devices) (g .configuration) calibration (g .global) individual
 
@@ -32,6 +33,7 @@ setBy g calibration individual = setOf (g .part) (g .devices) (g .configuration)
 abbrev pub chainFits : Given → Judged → ℕ → Bool
 chainFits g j count = eqb count (g .devices) && (j .same && eqb (j .part) (g .part))
 
+-- the rows of a comparison, by what one pass over the records found
 abbrev pub rowsBy : Given → ℕ → List ℕ → Judged → ℕ → List Row
 rowsBy g bytes individual j count =
     rowsOf (known (g .part) && j .known) (isCount (g .devices) && isCount count)
@@ -56,6 +58,7 @@ begunUnder refusal g =
       answer = compared refusal 0 0 0;
     }
 
+-- where a search begins: at its end if it is refused
 abbrev pub begun : Given → ℕ → List ℕ → Judged → ℕ → Search
 begun g bytes individual j count = begunUnder (first (rowsBy g bytes individual j count)) g
 
@@ -109,6 +112,7 @@ ended s a =
       answer = a;
     }
 
+-- on to the next device, or at the end
 abbrev pub followed : Search → Compared → Search
 followed s a = cond (eqb (a .group) 0) (onward s a) (ended s a)
 

@@ -29,6 +29,7 @@ holding r configuration calibration waiting waiting0 waiting1 slice =
       slice = slice;
     }
 
+-- the registers with another slice coming in
 abbrev pub withSlice : Registers → List ℕ → Registers
 withSlice r s = holding r (r .configuration) (r .calibration) (r .waiting) (r .waiting0) (r .waiting1) s
 
@@ -48,9 +49,11 @@ storedValues r =
     (holding r (r .configuration) (r .calibration) (r .waiting) (strided (r .slice) 0 1 24) (r .waiting1) (r .slice))
     (holding r (r .configuration) (r .calibration) (r .waiting) (strided (r .slice) 0 2 24) (strided (r .slice) 1 2 24) (r .slice))
 
+-- the byte in a field of the slice
 abbrev pub byteAt : List ℕ → ℕ → ℕ
 byteAt s k = getD s k 0 % 256
 
+-- the three bytes are the calibration of the banks B, G, R
 abbrev pub storedCalibration : Registers → Registers
 storedCalibration r =
     holding r (r .configuration) (byteAt (r .slice) 0 ∷ byteAt (r .slice) 1 ∷ byteAt (r .slice) 2 ∷ []) (r .waiting)
@@ -67,6 +70,7 @@ storedGlobal r =
     (holding r (r .configuration) (r .calibration) (byteAt (r .slice) 0) (r .waiting0) (r .waiting1) (r .slice))
     r
 
+-- a configuration byte takes effect at once; copies that differ store nothing
 abbrev pub storedConfiguration : Registers → Registers
 storedConfiguration r =
     cond (copies (r .slice))

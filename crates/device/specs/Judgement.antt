@@ -26,6 +26,7 @@ phaseFits (Slice c count taken) r = ltb count 1024 && ltb taken (sliceLength r c
 phaseFits Passing r = true
 phaseFits Lost r = true
 
+-- the same four numbers
 abbrev pub samePlace : Place → Place → Bool
 samePlace p q =
     eqb (p .phase) (q .phase) && (eqb (p .command) (q .command) && (eqb (p .count) (q .count) && eqb (p .read) (q .read)))
@@ -38,6 +39,7 @@ placeFits q r = samePlace (placeOf (phaseOf q)) q && phaseFits (phaseOf q) r
 abbrev pub flagsFit : Registers → Bool
 flagsFit r = ltb (r .overtemperature) 2 && ltb (r .openled) 2
 
+-- each value of two lists is below m
 abbrev pub pairBelow : List ℕ → List ℕ → ℕ → Bool
 pairBelow xs ys m = allBelow xs m && allBelow ys m
 
@@ -59,6 +61,7 @@ judgement d = (1 when not (known (d .registers .part))) ∷ (13 when not (fits d
 abbrev pub stepRefusals : Device → ℕ → List Row
 stepRefusals d s = (1 when not (known (d .registers .part))) ∷ (13 when not (fits d && ltb s 4)) ∷ []
 
+-- a step that is taken
 abbrev pub taken : Stepped → Answer
 taken s = record { refusal = 0; device = s .device; sent = s .sent }
 
@@ -66,5 +69,6 @@ taken s = record { refusal = 0; device = s .device; sent = s .sent }
 abbrev pub refusedWith : Device → ℕ → Answer
 refusedWith d n = record { refusal = n; device = d; sent = Nothing }
 
+-- what a judged step answers
 abbrev pub stepAnswer : Device → ℕ → Answer
 stepAnswer d s = answer (first (stepRefusals d s)) (refusedWith d) (taken (step d s))

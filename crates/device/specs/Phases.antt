@@ -11,6 +11,7 @@ use Rattle.device.specs.declared.phase.Phase.{Phase}
 use Rattle.device.specs.declared.phase.Phase.the-variants.{Hunting, Opening, Counting, Slice, Passing, Lost}
 use Rattle.device.specs.declared.phase.Place.{Place}
 
+-- a place by its four numbers
 abbrev pub numbers : ℕ → ℕ → ℕ → ℕ → Place
 numbers phase command count read = record { phase = phase; command = command; count = count; read = read }
 

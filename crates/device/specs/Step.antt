@@ -23,9 +23,11 @@ sentStates Nothing = []
 sentStates (One s) = s ∷ []
 sentStates (Header c count) = statesOf (header c count)
 
+-- a device by its registers and its phase
 abbrev pub at : Registers → Phase → Device
 at r p = record { registers = r; place = placeOf p }
 
+-- the next device, and what it sends
 abbrev pub sending : Registers → Phase → Sent → Stepped
 sending r p s = record { device = at r p; sent = s }
 
@@ -64,9 +66,11 @@ step d s =
 
 -- ---- what is not a clock
 
+-- a device after a frame boundary
 abbrev pub bounded : Device → Device
 bounded d = record { registers = activated (d .registers); place = d .place }
 
+-- a device with a fault flag set
 abbrev pub faulted : Device → ℕ → ℕ → Device
 faulted d kind flag = record { registers = flagged (d .registers) kind flag; place = d .place }
 

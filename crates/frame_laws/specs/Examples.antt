@@ -31,6 +31,7 @@ pub data Example : Type 0 where
   sends : Told → Tail → ℕ → List ℕ → List ℕ → List ℕ → Example
   refuses : Told → Tail → List ℕ → ℕ → Example
 
+-- a to f, and h
 abbrev pub frames : List Example
 frames =
     -- a
@@ -65,6 +66,7 @@ right (sends t tail byte bytes values frame) =
     && eqb (readRefusal t tail frame 3 24) 0
 right (refuses t tail frame n) = eqb (readRefusal t tail frame 3 24) n
 
+-- each of a list
 abbrev pub allRight : List Example → Bool
 allRight [] = true
 allRight (e ∷ es) = right e && allRight es

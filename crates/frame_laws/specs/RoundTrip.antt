@@ -30,9 +30,11 @@ byteOf (R.Refused n) = 0
 abbrev pub byteRead : Told → Tail → List ℕ → List ℕ → List ℕ → ℕ
 byteRead t tail frame bytes values = byteOf (read t tail frame (length bytes) (length values))
 
+-- the bytes that it left in the lent list
 abbrev pub bytesRead : Told → Tail → List ℕ → List ℕ → List ℕ → List ℕ
 bytesRead t tail frame bytes values = take (fieldCount t) (readBytes t tail frame bytes (length values))
 
+-- the values that it left in the lent list
 abbrev pub valuesRead : Told → Tail → List ℕ → List ℕ → List ℕ → List ℕ
 valuesRead t tail frame bytes values = take (fieldCount t) (readValues t tail frame (length bytes) values)
 

@@ -69,6 +69,7 @@ abbrev pub readTable : Told → Tail → List ℕ → ℕ → ℕ → List Row
 readTable t tail frame bytes values =
     toldRows (t .part) (t .devices) tail ++ (lengthRows t tail (length frame) bytes values ++ bodyRows t tail frame)
 
+-- the number under which a frame is refused, or 0
 unfoldable pub readRefusal : Told → Tail → List ℕ → ℕ → ℕ → ℕ
 readRefusal t tail frame bytes values = first (readTable t tail frame bytes values)
 
@@ -86,6 +87,7 @@ bytesFound Calibration vs bytes = over vs bytes
 bytesFound Global vs bytes = bytes
 bytesFound Configuration vs bytes = bytes
 
+-- the lent values with the fields vs
 abbrev pub valuesFound : Command → List ℕ → List ℕ → List ℕ
 valuesFound Individual vs values = over vs values
 valuesFound Calibration vs values = values

@@ -31,6 +31,7 @@ returnRows devices c tail frame =
 abbrev pub returnTable : ℕ → ℕ → Command → Tail → List ℕ → List Row
 returnTable part devices c tail frame = toldRows part devices tail ++ returnRows devices c tail frame
 
+-- the number under which a return is refused, or 0
 unfoldable pub returnRefusal : ℕ → ℕ → Command → Tail → List ℕ → ℕ
 returnRefusal part devices c tail frame = first (returnTable part devices c tail frame)
 

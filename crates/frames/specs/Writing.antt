@@ -61,6 +61,7 @@ writeRows t tail byte bytes values room =
 abbrev pub writeTable : Told → Tail → ℕ → List ℕ → List ℕ → ℕ → List Row
 writeTable t tail byte bytes values room = toldRows (t .part) (t .devices) tail ++ writeRows t tail byte bytes values room
 
+-- the number under which settings are refused, or 0
 unfoldable pub writeRefusal : Told → Tail → ℕ → List ℕ → List ℕ → ℕ → ℕ
 writeRefusal t tail byte bytes values room = first (writeTable t tail byte bytes values room)
 

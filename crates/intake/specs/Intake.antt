@@ -43,6 +43,7 @@ highTaken d (s ∷ ss) i =
     cond (ltb s 2) (stopped d i Nothing)
     (unlessSent (step d s .sent) (highTaken (step d s .device) ss (i + 1)) (stopped (step d s .device) (i + 1) (step d s .sent)))
 
+-- from the front of a list of states
 abbrev pub takenFrom : Device → List ℕ → ℕ → Taken
 takenFrom d [] i = stopped d i Nothing
 takenFrom d (s ∷ ss) i = cond (ltb s 2) (lowTaken d (s ∷ ss) i) (highTaken d (s ∷ ss) i)
@@ -76,6 +77,7 @@ filled v zero ss i = record { value = v; at = i }
 filled v (suc b) [] i = record { value = v; at = i }
 filled v (suc b) (s ∷ ss) i = cond (ltb s 2) (record { value = v; at = i }) (filled (pushed v (s % 2) 65536) b ss (i + 1))
 
+-- the smaller of two numbers
 abbrev pub least : ℕ → ℕ → ℕ
 least a b = cond (leb a b) a b
 
@@ -88,6 +90,7 @@ oneTaken d (s ∷ ss) i = cond (ltb s 2) (stopped d i Nothing) (stopped (step d 
 abbrev pub collecting : Registers → List ℕ → Command → ℕ → ℕ → Device
 collecting r sl c n t = at (withSlice r sl) (Slice c n t)
 
+-- the last bit of a slice has come: stored, and the header is sent on
 abbrev pub full : Registers → List ℕ → Command → ℕ → ℕ → Taken
 full r sl c n i =
     stopped (at (stored (withSlice r sl) c) Passing) i (Header c (raised n (fault (withSlice r sl) c)))

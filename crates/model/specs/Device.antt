@@ -40,10 +40,12 @@ pub data Phase : Type 0 where
   taking : Field → ℕ → List Bool → Phase
   passing : Phase
 
+-- a device: registers and phase
 pub record Device : Type 0 where
   pub registers : Registers
   pub phase : Phase
 
+-- a device by its registers and its phase
 abbrev pub at : Registers → Phase → Device
 at r p = record { registers = r; phase = p }
 
@@ -63,6 +65,7 @@ evens [] = []
 evens (x ∷ []) = x ∷ []
 evens (x ∷ y ∷ r) = x ∷ evens r
 
+-- every second value, from the second on
 abbrev pub odds : List ℕ → List ℕ
 odds [] = []
 odds (x ∷ []) = []
@@ -78,6 +81,7 @@ abbrev pub agreed : List ℕ → ℕ → ℕ
 agreed [] old = old
 agreed (a ∷ bs) old = cond (alike a bs) a old
 
+-- the registers with another configuration
 abbrev pub withConfiguration : ℕ → Registers → Registers
 withConfiguration v r = record {
   part = r .part;
@@ -89,6 +93,7 @@ withConfiguration v r = record {
   openled = r .openled;
 }
 
+-- with another calibration
 abbrev pub withCalibration : List ℕ → Registers → Registers
 withCalibration v r = record {
   part = r .part;
@@ -100,6 +105,7 @@ withCalibration v r = record {
   openled = r .openled;
 }
 
+-- with other waiting values
 abbrev pub withWaiting : Values → Registers → Registers
 withWaiting v r = record {
   part = r .part;
@@ -111,6 +117,7 @@ withWaiting v r = record {
   openled = r .openled;
 }
 
+-- values with another global byte
 abbrev pub withGlobal : ℕ → Values → Values
 withGlobal g v = record { global = g; mux0 = v .mux0; mux1 = v .mux1 }
 
@@ -178,6 +185,7 @@ named n =
 unfoldable pub headerStates : Command → ℕ → List Line
 headerStates c n = clocked (header c n)
 
+-- the line states of a frame with these slices
 unfoldable pub frameStates : Command → ℕ → List (List Bool) → List Bool → List Line
 frameStates c n slices tail = clocked (frame c n (flatten slices) tail)
 
@@ -196,14 +204,17 @@ stepFrom r (taking f zero got) (high b) = finish r f (got ++ b ∷ [])
 stepFrom r (taking f (suc n) got) (high b) = (at r (taking f n (got ++ b ∷ [])), [])
 stepFrom r passing (high b) = (at r passing, high b ∷ [])
 
+-- one line state: the next device, and the states that it sends on
 unfoldable pub stepDevice : Device → Line → Device × List Line
 stepDevice d l = stepFrom (d .registers) (d .phase) l
 
 -- ---- a device and a chain
 
+-- a device after line states, and all that it sent
 abbrev pub runDevice : Device → List Line → Device × List Line
 runDevice d ls = run stepDevice d ls
 
+-- a chain after line states, and all that its last device sent
 abbrev pub runChain : List Device → List Line → List Device × List Line
 runChain ds ls = chain stepDevice ds ls
 
@@ -211,6 +222,7 @@ runChain ds ls = chain stepDevice ds ls
 unfoldable pub boundary : List Device → List Device
 boundary ds = map (λ d. at (activated (d .registers)) (d .phase)) ds
 
+-- the registers of each device
 abbrev pub registersIn : List Device → List Registers
 registersIn ds = map (λ d. d .registers) ds
 

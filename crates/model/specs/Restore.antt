@@ -23,6 +23,7 @@ pub record Piece : Type 0 where
   pub slices : List (List Bool)
   pub tail : List Bool
 
+-- its line states
 unfoldable pub pieceStates : Piece → List Line
 pieceStates p = lows (p .gap) ++ frameStates (p .kind) 0 (p .slices) (p .tail)
 
@@ -31,6 +32,7 @@ module _ (w : Part) (os : List Own) (gap tail : Command → List Bool) where
   abbrev pub pieceOf : Command → Piece
   pieceOf c = record { gap = gap c; kind = c; slices = map (sliceOf w c) os; tail = tail c }
 
+  -- the four frames in restore order
   unfoldable pub piecesOf : List Piece
   piecesOf = map pieceOf restoreOrder
 

@@ -18,9 +18,11 @@ pub record Part : Type 0 where
   pub clocks : ℕ  -- clocks per subframe
   pub subframesBy : List ℕ  -- subframes per frame: plain, multiplexed, with GLB4, both
 
+-- the MAX6974
 abbrev pub max6974 : Part
 max6974 = record { name = 6974; banks = 3; width = 12; edge = 16; clocks = 4096; subframesBy = 128 ∷ 64 ∷ 128 ∷ 64 ∷ [] }
 
+-- the MAX6975
 abbrev pub max6975 : Part
 max6975 = record { name = 6975; banks = 3; width = 14; edge = 32; clocks = 16384; subframesBy = 32 ∷ 16 ∷ 8 ∷ 4 ∷ [] }
 
@@ -33,6 +35,7 @@ abbrev pub knownIn : List Part → ℕ → Bool
 knownIn [] n = false
 knownIn (p ∷ ps) n = eqb n (p .name) || knownIn ps n
 
+-- a number is that of a row
 abbrev pub known : ℕ → Bool
 known n = knownIn rows n
 
@@ -41,6 +44,7 @@ abbrev pub rowFrom : Part → List Part → ℕ → Part
 rowFrom p [] n = p
 rowFrom p (q ∷ qs) n = cond (eqb n (p .name)) p (rowFrom q qs n)
 
+-- the row of a number; of one that is no part, the last row
 abbrev pub partOf : ℕ → Part
 partOf n = rowFrom max6974 (max6975 ∷ []) n
 
@@ -52,10 +56,11 @@ rowIndex n = cond (eqb n 6974) 0 1
 abbrev pub constantsOf : Part → Constants
 constantsOf p = record { banks = p .banks; width = p .width; edge = p .edge; clocks = p .clocks }
 
--- configuration bit D0, multiplex, and D4, GLB4
+-- configuration bit D0, multiplex
 abbrev pub multiplex : ℕ → ℕ
 multiplex configuration = configuration % 2
 
+-- configuration bit D4, GLB4
 abbrev pub glb4 : ℕ → ℕ
 glb4 configuration = configuration / 16 % 2
 

@@ -46,9 +46,11 @@ stateOf (high b) = 2 + digit b
 abbrev pub lineOf : ℕ → Line
 lineOf s = cond (ltb s 2) (low (eqb (s % 2) 1)) (high (eqb (s % 2) 1))
 
+-- bits at low load
 abbrev pub lows : List Bool → List Line
 lows bs = map low bs
 
+-- bits at high load
 abbrev pub highs : List Bool → List Line
 highs bs = map high bs
 

@@ -44,6 +44,7 @@ behind t input = drop (bytesFor (frameBits t)) input
 unfoldable pub answerOf : Told → List ℕ → Read
 answerOf t input = read t noTail (frontOf t input) 1536 24576
 
+-- the reader refused the frame
 abbrev pub isRefused : Read → Bool
 isRefused (R.Refused number) = true
 isRefused (R.Byte b) = false

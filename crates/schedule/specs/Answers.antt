@@ -22,12 +22,15 @@ positionOver p configuration output subframe clock phase =
 
 -- ---- the tables of refusals
 
+-- is a subframe ON
 abbrev pub onRows : ℕ → ℕ → ℕ → List Row
 onRows part configuration subframe = (1 when not (known part)) ∷ (13 when leb (subframes (partOf part) configuration) subframe) ∷ []
 
+-- the lead of a window
 abbrev pub leadRows : ℕ → ℕ → ℕ → ℕ → List Row
 leadRows part configuration start length = (1 when not (known part)) ∷ (13 when windowOver (partOf part) configuration start length) ∷ []
 
+-- is an output lit
 abbrev pub litRows : ℕ → ℕ → ℕ → ℕ → ℕ → ℕ → ℕ → List Row
 litRows part configuration value output subframe clock phase =
     (1 when not (known part)) ∷ (6 when leb (limit (partOf part)) value) ∷ (13 when positionOver (partOf part) configuration output subframe clock phase) ∷ []

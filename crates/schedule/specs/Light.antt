@@ -42,6 +42,7 @@ lead S g start length = pos (S * onCount S g start length) -ℤ pos (length * (g
 abbrev pub nameNumber : ℕ → ℕ
 nameNumber output = 7 - output % 8
 
+-- the number in its name is even
 abbrev pub isEven : ℕ → Bool
 isEven output = eqb (nameNumber output % 2) 0
 
@@ -59,9 +60,11 @@ litAt p v output c = leb (p .edge) c && (ltb c (p .clocks - p .edge) && litBy p 
 abbrev pub level : Part → ℕ → ℕ → ℕ
 level p configuration global = global % subframes p configuration
 
+-- subframe s is ON
 abbrev pub isOn : Part → ℕ → ℕ → ℕ → Bool
 isOn p configuration global s = on (subframes p configuration) (level p configuration global) s
 
+-- the lead of a window
 abbrev pub leadOf : Part → ℕ → ℕ → ℕ → ℕ → ℤ
 leadOf p configuration global start length = lead (subframes p configuration) (level p configuration global) start length
 

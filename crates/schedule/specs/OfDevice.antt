@@ -23,12 +23,14 @@ abbrev pub isShown : Registers → ℕ → ℕ → ℕ → ℕ → Bool
 isShown r output subframe clock phase =
     isLit (partOf (r .part)) (r .configuration) (r .active) (activeValue r output phase) output subframe clock
 
+-- when a question about a device is refused: its part, its record or a position
 abbrev pub deviceRows : Device → ℕ → ℕ → ℕ → ℕ → List Row
 deviceRows d output subframe clock phase =
     (1 when not (known (d .registers .part)))
     ∷ (13 when not (fits d) || positionOver (partOf (d .registers .part)) (d .registers .configuration) output subframe clock phase)
     ∷ []
 
+-- is an output of a device lit
 unfoldable pub deviceAnswer : Device → ℕ → ℕ → ℕ → ℕ → Asked
 deviceAnswer d output subframe clock phase =
     answer (first (deviceRows d output subframe clock phase)) Refused (Is (isShown (d .registers) output subframe clock phase))

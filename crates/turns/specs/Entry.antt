@@ -10,15 +10,19 @@ use Rattle.turns.specs.declared.entry.Entry.{Entry}
 use Rattle.turns.specs.declared.entry.Ran.{Ran}
 use Rattle.turns.specs.Front.{begun, halted, Running, nowAt, frontRun}
 
+-- where a run begins: at its end if it is refused
 abbrev pub entryUnder : ℕ → ℕ → List ℕ → Entry
 entryUnder refusal n ss = record { refusal = refusal; cursor = cond (eqb refusal 0) (begun n ss) halted }
 
+-- what a run answers: how many states were returned, or the refusal
 abbrev pub ran : ℕ → ℕ → Ran
 ran refusal n = record { returned = cond (eqb refusal 0) n 0; refusal = refusal }
 
+-- a run under a refusal, or none
 unfoldable pub runUnder : ℕ → List Device → List ℕ → List ℕ → Running
 runUnder refusal ds ss os = cond (eqb refusal 0) (frontRun ds ss os) (nowAt ds halted os)
 
+-- how a run ends
 abbrev pub runEnd : List Device → List ℕ → List ℕ → Running
 runEnd ds ss os = runUnder (runRefusal ds ss (length os)) ds ss os
 

@@ -23,6 +23,7 @@ use Rattle.turns.specs.declared.states.Roamed.{Roamed}
 
 -- ---- one device
 
+-- the phase is passing
 abbrev pub isPassing : Phase → Bool
 isPassing (Hunting window) = false
 isPassing (Opening read) = false
@@ -31,6 +32,7 @@ isPassing (Slice c count taken) = false
 isPassing Passing = true
 isPassing Lost = false
 
+-- the phase is lost
 abbrev pub isLost : Phase → Bool
 isLost (Hunting window) = false
 isLost (Opening read) = false
@@ -39,6 +41,7 @@ isLost (Slice c count taken) = false
 isLost Passing = false
 isLost Lost = true
 
+-- the device is passing
 abbrev pub passes : Device → Bool
 passes d = isPassing (phaseOf (d .place))
 
@@ -53,6 +56,7 @@ untilSent first d (s ∷ ss) i =
 abbrev pub roams : Phase → ℕ → Bool
 roams p s = ltb s 2 || (inHeader p || isLost p)
 
+-- a phase by one state, low or high, that stores and sends nothing
 abbrev pub roamStep : Phase → ℕ → Phase
 roamStep p s = cond (ltb s 2) (heard p s) (headed p (s % 2))
 
@@ -61,6 +65,7 @@ unfoldable pub roamed : Phase → List ℕ → ℕ → Roamed
 roamed p [] i = record { phase = p; at = i }
 roamed p (s ∷ ss) i = cond (roams p s) (roamed (roamStep p s) ss (i + 1)) (record { phase = p; at = i })
 
+-- the device whose phase went on alone
 abbrev pub roamTaken : Device → Roamed → Taken
 roamTaken d q = stopped (at (d .registers) (q .phase)) (q .at) Nothing
 
@@ -78,6 +83,7 @@ frontTaken first d (s ∷ ss) i = cond (passes d && not (ltb s 2)) (stopped d i 
 abbrev pub sliceStart : Device → Command → ℕ → Device
 sliceStart d c n = at (d .registers) (Slice c n 0)
 
+-- what the device of a turn takes: by the header under way, or by the next state
 abbrev pub deviceTaken : Bool → Device → Sent → List ℕ → ℕ → Taken
 deviceTaken first d (Header c n) ss i = untilSent false (sliceStart d c n) ss i
 deviceTaken first d Nothing ss i = frontTaken first d ss i
@@ -89,6 +95,7 @@ deviceTaken first d (One s) ss i = frontTaken first d ss i
 abbrev pub indexOf : ℕ → ℕ → ℕ
 indexOf count front = cond (ltb front count) front 0
 
+-- a cursor by its numbers
 abbrev pub cursor : ℕ → ℕ → ℕ → ℕ → ℕ → Sent → Bool → Cursor
 cursor count front index at written pending going =
     record { count = count; front = front; index = index; at = at; written = written; pending = pending; going = going }
@@ -100,6 +107,7 @@ facing count front at written (s ∷ ss) =
     cond (ltb s 2) (cursor count 0 0 at written Nothing true)
     (cursor count front (indexOf count front) at written Nothing true)
 
+-- by the header under way, or by the next state
 abbrev pub aimed : ℕ → ℕ → ℕ → ℕ → Sent → List ℕ → Cursor
 aimed count front at written (Header c n) ss = cursor count front (indexOf count front) at written (Header c n) true
 aimed count front at written Nothing ss = facing count front at written ss
@@ -111,6 +119,7 @@ frontAfter front Nothing = front
 frontAfter front (One s) = front + 1
 frontAfter front (Header c n) = front + 1
 
+-- a cursor at its end
 abbrev pub halted : Cursor
 halted = cursor 0 0 0 0 0 Nothing false
 
@@ -143,6 +152,7 @@ pub record Turned : Type 0 where
   pub device : Device
   pub cursor : Cursor
 
+-- it is the turn of the first device
 abbrev pub isFirst : Cursor → Bool
 isFirst c = eqb (c .front) 0
 
@@ -155,6 +165,7 @@ turnTaken d c ss =
 abbrev pub cursorTo : Cursor → ℕ → Sent → List ℕ → Cursor
 cursorTo c at s ss = aimed (c .count) (frontAfter (c .front) s) at (c .written) s (drop at ss)
 
+-- the front device's turn
 abbrev pub deviceTurn : Device → Cursor → List ℕ → Turned
 deviceTurn d c ss =
     let t : Taken = deviceTaken (isFirst c) d (c .pending) (drop (c .at) ss) (c .at) in
@@ -164,14 +175,17 @@ deviceTurn d c ss =
 abbrev pub lineTo : Cursor → ℕ → ℕ → List ℕ → ℕ → Cursor
 lineTo c at k ss room = aimed (c .count) (c .front) at (putEnd room (c .written) k) Nothing (drop at ss)
 
+-- the cursor after high states that every device passes
 abbrev pub passedTo : Cursor → List ℕ → ℕ → Cursor
 passedTo c ss room = lineTo c (c .at + highs (drop (c .at) ss)) (highs (drop (c .at) ss)) ss room
 
+-- the cursor after what leaves the chain
 abbrev pub lineCursor : Sent → Cursor → List ℕ → ℕ → Cursor
 lineCursor (Header k n) c ss room = lineTo c (c .at) 24 ss room
 lineCursor Nothing c ss room = passedTo c ss room
 lineCursor (One s) c ss room = passedTo c ss room
 
+-- the room after what leaves the chain
 abbrev pub lineOut : Cursor → List ℕ → List ℕ → List ℕ
 lineOut c ss os = putAll os (c .written) (leaving (c .pending) (drop (c .at) ss))
 
@@ -179,9 +193,11 @@ lineOut c ss os = putAll os (c .written) (leaving (c .pending) (drop (c .at) ss)
 abbrev pub within : Cursor → List ℕ → ℕ → Bool
 within c ss room = leb (c .at) (length ss) && leb (c .written) room
 
+-- the cursor where every device is passing
 abbrev pub lineAfter : Cursor → List ℕ → ℕ → Cursor
 lineAfter c ss room = cond (within c ss room) (lineCursor (c .pending) c ss room) halted
 
+-- the room where every device is passing
 abbrev pub lineRoom : Cursor → List ℕ → List ℕ → List ℕ
 lineRoom c ss os = cond (within c ss (length os)) (lineOut c ss os) os
 
@@ -194,25 +210,31 @@ unfoldable pub turned : Device → Cursor → List ℕ → ℕ → Turned
 turned d c ss room =
     cond (ltb (c .front) (c .count)) (deviceTurn d c ss) (record { device = d; cursor = lineAfter c ss room })
 
+-- the room after a turn
 unfoldable pub turnedOut : Cursor → List ℕ → List ℕ → List ℕ
 turnedOut c ss os = cond (ltb (c .front) (c .count)) os (lineRoom c ss os)
 
 -- ---- turn after turn
 
+-- where an accepted run begins
 abbrev pub begun : ℕ → List ℕ → Cursor
 begun count ss = facing count 0 0 0 ss
 
+-- a run in progress: records, cursor, room
 pub record Running : Type 0 where
   pub devices : List Device
   pub cursor : Cursor
   pub out : List ℕ
 
+-- a run by its records, cursor and room
 abbrev pub nowAt : List Device → Cursor → List ℕ → Running
 nowAt ds c os = record { devices = ds; cursor = c; out = os }
 
+-- the turn of the device that the cursor names
 abbrev pub turnAt : List Device → Cursor → List ℕ → List ℕ → Turned
 turnAt ds c ss os = turned (getD ds (c .index) blank) c ss (length os)
 
+-- one turn
 abbrev pub turning : List ℕ → Running → Running
 turning ss r =
     nowAt (set (r .devices) (r .cursor .index) (turnAt (r .devices) (r .cursor) ss (r .out) .device))
@@ -223,6 +245,7 @@ unfoldable pub turns : ℕ → List ℕ → Running → Running
 turns zero ss r = r
 turns (suc k) ss r = cond (r .cursor .going) (turns k ss (turning ss r)) r
 
+-- a run that begins
 abbrev pub started : List Device → List ℕ → List ℕ → Running
 started ds ss os = nowAt ds (begun (length ds) ss) os
 
@@ -230,5 +253,6 @@ started ds ss os = nowAt ds (begun (length ds) ss) os
 abbrev pub enough : List ℕ → ℕ
 enough ss = 2048 * length ss + 1024
 
+-- turn after turn to the end
 unfoldable pub frontRun : List Device → List ℕ → List ℕ → Running
 frontRun ds ss os = turns (enough ss) ss (started ds ss os)

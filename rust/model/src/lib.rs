@@ -1,7 +1,8 @@
 //! The customer's paper 01, written out a second time.
 //!
-//! This model was written from the paper alone and shares no code or definition with the proved library. It is clear
-//! and slow: frames are lists of bits, a chain goes device by device and state by state, and light is counted. An
+//! This model shares no code or definition with the proved library. Its rules are the paper's; the record's layout, its
+//! slots and its phase numbers, which the paper leaves open, are those of include/bractbeacon.h, and so are the same on
+//! both sides of a differential test. It is clear and slow: frames are lists of bits, a chain goes device by device and state by state, and light is counted. An
 //! operation answers a `Result`, with the paper's refusal number as its error, and a refused one changes nothing.
 
 pub mod bits;

@@ -6,9 +6,6 @@ use std::process::Command;
 
 fn main() {
     println!("cargo:rerun-if-env-changed=BRACTBEACON_LIB");
-    if std::env::var_os("CARGO_FEATURE_STANDIN").is_some() {
-        return;
-    }
     let folder = std::env::var_os("BRACTBEACON_LIB").map_or_else(build, PathBuf::from);
     let archive = folder.join("libbractbeacon.a");
     println!("cargo:rerun-if-changed={}", archive.display());

@@ -4,24 +4,7 @@ use crate::chain::judge_parts;
 use crate::device::fits;
 use crate::part::{is_known, subframes, values, width};
 use crate::Refusal;
-use record::{Device, Registers};
-
-/// A set, borrowed.
-#[derive(Clone, Copy, Debug)]
-pub struct Set<'a> {
-    /// 6974 or 6975.
-    pub part: u16,
-    /// N.
-    pub devices: usize,
-    /// The configuration byte.
-    pub configuration: u8,
-    /// B, G, R for each device.
-    pub calibration: &'a [u8],
-    /// The global byte.
-    pub global: u8,
-    /// 24 or 48 values for each device.
-    pub individual: &'a [u16],
-}
+use record::{Device, Registers, Set};
 
 /// The first difference: device from 1, group (1 configuration, 2 calibration, 3 active global, 4 active individual),
 /// place.

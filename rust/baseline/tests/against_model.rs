@@ -198,7 +198,7 @@ fn comparisons() {
         }
         let expected = model::compare::compare(&set, &records)
             .map(|found| found.map(|d| (d.device, d.group as u8 + 1, d.place)));
-        let of_set = compare::Set {
+        let of_set = record::Set {
             part: set.part,
             devices: set.devices,
             configuration: set.configuration,

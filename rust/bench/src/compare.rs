@@ -2,8 +2,8 @@
 
 use crate::frames::page;
 use crate::race::{best, print};
-use baseline::compare::{compare, compare_quickly, Set};
-use record::Device;
+use baseline::compare::{compare, compare_quickly};
+use record::{Device, Set};
 use std::hint::black_box;
 
 const DEVICES: usize = 512;
@@ -24,7 +24,7 @@ pub fn races() {
             device
         })
         .collect();
-    let of_library = ffi::Set {
+    let lent = Set {
         part: set.part,
         devices: DEVICES,
         configuration: set.configuration,
@@ -32,31 +32,19 @@ pub fn races() {
         global: set.global,
         individual: &set.individual,
     };
-    let plain_set = Set {
-        part: set.part,
-        devices: DEVICES,
-        configuration: set.configuration,
-        calibration: &set.calibration,
-        global: set.global,
-        individual: &set.individual,
-    };
-    let found = ffi::compare(&of_library, &chain);
+    let found = ffi::compare(&lent, &chain);
     assert_eq!((found.group, found.refusal), (0, 0), "compared alike");
-    assert_eq!(compare(&plain_set, &chain), Ok(None), "compared alike");
-    assert_eq!(
-        compare_quickly(&plain_set, &chain),
-        Ok(None),
-        "compared alike"
-    );
+    assert_eq!(compare(&lent, &chain), Ok(None), "compared alike");
+    assert_eq!(compare_quickly(&lent, &chain), Ok(None), "compared alike");
     let [proved, plain, quick] = best([
         &mut || {
-            black_box(ffi::compare(&of_library, black_box(&chain)));
+            black_box(ffi::compare(&lent, black_box(&chain)));
         },
         &mut || {
-            let _ = black_box(compare(&plain_set, black_box(&chain)));
+            let _ = black_box(compare(&lent, black_box(&chain)));
         },
         &mut || {
-            let _ = black_box(compare_quickly(&plain_set, black_box(&chain)));
+            let _ = black_box(compare_quickly(&lent, black_box(&chain)));
         },
     ]);
     let unit = ("ns a device", DEVICES as f64);

@@ -8,13 +8,6 @@ mod packing;
 mod race;
 mod steps;
 
-/// What is timed: the feature `standin` puts plain Rust in the library's place, to try this program without it.
-const TIMED: &str = if cfg!(feature = "standin") {
-    "STAND-IN"
-} else {
-    "proved"
-};
-
 fn main() {
     let wanted: Vec<String> = std::env::args().skip(1).collect();
     println!("Best of many rounds; in a round both sides have their turn, on the same input.");
@@ -25,7 +18,7 @@ fn main() {
     println!();
     println!(
         "{:64} {:>10} {:>10} {:12} {:>6}",
-        "", TIMED, "Rust", "in", "ratio"
+        "", "proved", "Rust", "in", "ratio"
     );
     let kinds: [(&str, fn()); 5] = [
         ("packing", packing::races),

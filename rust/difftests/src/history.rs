@@ -338,8 +338,8 @@ fn told(set: &Set, command: Command, tail: Tail) -> ffi::Told {
 }
 
 /// A set as the library is lent it.
-pub fn lent(set: &Set) -> ffi::Set<'_> {
-    ffi::Set {
+pub fn lent(set: &Set) -> record::Set<'_> {
+    record::Set {
         part: set.part,
         devices: set.devices,
         configuration: set.configuration,

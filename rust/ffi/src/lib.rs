@@ -2,7 +2,7 @@
 //!
 //! Every function is safe for any numbers and slices: the library judges them itself. Answers are the C records.
 
-use record::Device;
+use record::{Device, Set};
 
 mod raw;
 
@@ -263,23 +263,6 @@ pub fn device_lit(device: Device, at: Position) -> Answer {
     let [output, subframe, clock, phase] = at;
     // SAFETY: every record is a value.
     unsafe { raw::bb_device_lit(device, output, subframe, clock, phase) }
-}
-
-/// A set, lent.
-#[derive(Clone, Copy, Debug)]
-pub struct Set<'a> {
-    /// 6974 or 6975.
-    pub part: u16,
-    /// N.
-    pub devices: usize,
-    /// The configuration byte.
-    pub configuration: u8,
-    /// B, G, R for each device.
-    pub calibration: &'a [u8],
-    /// The global byte.
-    pub global: u8,
-    /// 24 or 48 values for each device.
-    pub individual: &'a [u16],
 }
 
 /// Compares a set with a chain.

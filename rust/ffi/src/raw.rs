@@ -3,9 +3,6 @@
 use crate::{Answer, Compared, Signed, Stepped};
 use record::Device;
 
-#[cfg(feature = "standin")]
-extern crate standin as _;
-
 extern "C" {
     pub fn bb_pack(
         values: *const u16,

@@ -1,4 +1,4 @@
-//! The device record that a chain is lent as: `struct bb_device` of `include/bractbeacon.h`.
+//! The device record that a chain is lent as: `struct bb_device` of `include/bractbeacon.h`; and a set as it is lent.
 //!
 //! Plain numbers without padding: every pattern of its 304 bytes is a record. Whether its numbers fit is for each user
 //! to judge.
@@ -110,6 +110,23 @@ impl Device {
             place: Place::of(HUNTING),
         }
     }
+}
+
+/// A set, lent.
+#[derive(Clone, Copy, Debug)]
+pub struct Set<'a> {
+    /// 6974 or 6975.
+    pub part: u16,
+    /// N.
+    pub devices: usize,
+    /// The configuration byte.
+    pub configuration: u8,
+    /// B, G, R for each device.
+    pub calibration: &'a [u8],
+    /// The global byte.
+    pub global: u8,
+    /// 24 or 48 values for each device.
+    pub individual: &'a [u16],
 }
 
 #[cfg(test)]

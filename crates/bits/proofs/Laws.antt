@@ -72,7 +72,7 @@ bits-push m h k a v l =
 
 -- ---- bits as a number
 
-digit-isOne : (n : ℕ) → n < 2 → digit (isOne n) ≡ n
+pub digit-isOne : (n : ℕ) → n < 2 → digit (isOne n) ≡ n
 digit-isOne zero h = refl
 digit-isOne (suc zero) h = refl
 digit-isOne (suc (suc n)) h = absurd (omega arith)
@@ -204,7 +204,7 @@ below-take m (suc n) (x ∷ xs) z h (suc i) = below-take m n xs z (λ j. h (suc 
 
 -- ---- bits as bytes
 
-length-padded : (bs : List Bool) → length (padded bs) ≡ length bs + (8 - length bs % 8) % 8
+pub length-padded : (bs : List Bool) → length (padded bs) ≡ length bs + (8 - length bs % 8) % 8
 unfolding padded
 length-padded bs =
     length-append bs (replicate ((8 - length bs % 8) % 8) false)

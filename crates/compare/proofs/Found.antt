@@ -15,7 +15,7 @@ use Rattle.parts.specs.Parts.{Part, partOf, multiplex, sliceFields}
 use Rattle.parts.specs.Refusals.{answer}
 use Rattle.parts.specs.declared.command.Command.the-variants.{Individual}
 use Rattle.parts.proofs.Laws.{banks-three}
-use Rattle.parts.proofs.Rows.{clear}
+use Rattle.parts.proofs.Rows.{clear, and-left, and-right}
 use Rattle.device.specs.declared.device.Device.{Device}
 use Rattle.calls.specs.Chain.{blank, isCount}
 use Rattle.model.specs.Set.{Set, Own, deal, owned}
@@ -25,7 +25,7 @@ use Rattle.compare.specs.declared.compared.Given.{Given}
 use Rattle.compare.specs.declared.search.Search.{Search}
 use Rattle.compare.specs.Compare.{differsAt, Pair, _against_, groups, inGroups, compared, same, difference, lengthsFit, sameChain, compareTable, compareRefusal, comparison}
 use Rattle.compare.specs.Search.{setBy, Ready, onward, ended, lookedAt, begunUnder, begun}
-use Rattle.compare.proofs.Refusal.{and-left, and-right, fields-of}
+use Rattle.compare.proofs.Refusal.{fields-of}
 use Rattle.compare.proofs.Judged.{refusal-found}
 
 -- ---- where no group differs

@@ -1,6 +1,6 @@
 -- A comparison's refusal, row by row as the code tests them, and by what one pass over the records found.
-use mathlib.Core.Path.{_≡_, refl, ap, ap₂, sym, _∙_}
-use mathlib.Core.Bool.{Bool, true, false, _&&_, true≢false}
+use mathlib.Core.Path.{_≡_, ap, ap₂, _∙_}
+use mathlib.Core.Bool.{Bool, true, false, _&&_}
 use Prim.Native.Nat.{ℕ, _+_, _*_, _%_, _≤_}
 use mathlib.Core.List.{List}
 use lib.Dec.{leb}
@@ -10,6 +10,7 @@ use Rattle.parts.specs.Parts.{known, partOf, multiplex, sliceFields}
 use Rattle.parts.specs.Refusals.{first}
 use Rattle.parts.specs.declared.command.Command.the-variants.{Individual}
 use Rattle.parts.proofs.Laws.{banks-three}
+use Rattle.parts.proofs.Rows.{and-left, and-right}
 use Rattle.calls.specs.Chain.{isCount}
 use Rattle.turns.specs.declared.judging.Judged.{Judged}
 use Rattle.compare.specs.declared.compared.Given.{Given}
@@ -20,14 +21,6 @@ use Rattle.compare.specs.Search.{chainFits, rowsBy}
 
 pub tested : {r x y : Bool} (a b : Bool) → r ≡ (a && b) → a ≡ x → b ≡ y → r ≡ (x && y)
 tested a b e f g = e ∙ ap₂ _&&_ f g
-
-pub and-left : (a b : Bool) → (a && b) ≡ true → a ≡ true
-and-left true b e = refl
-and-left false b e = absurd (true≢false (sym e))
-
-pub and-right : (a b : Bool) → (a && b) ≡ true → b ≡ true
-and-right true b e = e
-and-right false b e = absurd (true≢false (sym e))
 
 pub counts-small : (d n : ℕ) → (isCount d && isCount n) ≡ true → d ≤ 1023
 counts-small d n e = leb-true d 1023 (and-right (leb 1 d) (leb d 1023) (and-left (isCount d) (isCount n) e))

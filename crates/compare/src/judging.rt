@@ -21,13 +21,13 @@ pub fn refusal_of(
 ) -> u8
     ensures { λ r. ⌜ r ≡ first (rowsBy given bytes (now (individual .entry)) judged count) ⌝ }
 {
-    if !both(parts::is_known(given.part), judged.known) {
+    if !turns::both(parts::is_known(given.part), judged.known) {
         return 1;
     }
-    if !both(turns::is_count(given.devices), turns::is_count(count)) {
+    if !turns::both(turns::is_count(given.devices), turns::is_count(count)) {
         return 2;
     }
-    if !both(
+    if !turns::both(
         lists_fit(given, bytes, individual.len()),
         chain_fits(given, judged, count),
     ) {
@@ -59,7 +59,7 @@ fn chain_fits(given: Given, judged: Judged, count: usize) -> bool
     ensures { λ r. ⌜ r ≡ chainFits given judged count ⌝ }
 {
     if count == given.devices {
-        both(judged.same, judged.part == given.part)
+        turns::both(judged.same, judged.part == given.part)
     } else {
         false
     }
@@ -74,10 +74,4 @@ fn values_fit(given: Given, individual: &[u16]) -> bool
     } else {
         false
     }
-}
-
-fn both(a: bool, b: bool) -> bool
-    ensures { λ r. ⌜ r ≡ (a && b) ⌝ }
-{
-    if a { b } else { false }
 }

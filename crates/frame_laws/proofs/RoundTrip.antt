@@ -177,7 +177,7 @@ value-low t Global h l b e = ap not (first-below h l (not-false _ e)) where
   first-below : (s : List ℕ) → 0 < length s → allBelow s (subframes (partOf (t .part)) (t .configuration)) ≡ true
       → ltb (getD s 0 0) (subframes (partOf (t .part)) (t .configuration)) ≡ true
   first-below [] z f = absurd (omega arith)
-  first-below (x ∷ s) z f = tests.and-left _ _ f
+  first-below (x ∷ s) z f = rows.and-left _ _ f
 value-low t Configuration h l b e = refl
 
 length-held : (t : Told) (fr : List ℕ) → length (heldFields t fr) ≡ fieldCount t

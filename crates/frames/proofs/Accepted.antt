@@ -14,13 +14,14 @@ use Rattle.parts.specs.Parts.{known, partOf, limit, fieldWidth}
 use Rattle.parts.specs.declared.command.Command.{Command}
 use Rattle.parts.specs.declared.command.Command.the-variants.{Individual, Calibration, Global, Configuration}
 use Rattle.parts.proofs.Rows as rows
+use Rattle.parts.proofs.Rows.{and-left, and-right}
 use Rattle.frames.specs.Frames.{fieldCount, frameLength, tailHigh, toldRows}
 use Rattle.frames.specs.Writing.{given, listWrong, valueHigh, writeRows, writeRefusal}
 use Rattle.frames.specs.Reading.{roomShort, lengthRows, bodyRows, readRefusal}
 use Rattle.frames.specs.Returns.{returnRows, returnRefusal}
 use Rattle.frames.specs.declared.told.Told.{Told}
 use Rattle.frames.specs.declared.told.Tail.{Tail}
-use Rattle.frames.proofs.Tests.{and-left, and-right, or-no, below-all, below-replicate}
+use Rattle.frames.proofs.Tests.{or-no, below-all, below-replicate}
 
 -- ---- rows 1 to 3
 

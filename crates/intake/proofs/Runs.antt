@@ -3,7 +3,7 @@
 use mathlib.Core.Path.{_≡_, refl, sym, ap, _∙_, subst}
 use mathlib.Core.Bool.{Bool, true, false, cond}
 use mathlib.Core.List.{List, [], _∷_, _++_, append-nil}
-use Prim.Native.Nat.{ℕ, zero, suc, _+_, _-_, _<_, _≤_}
+use Prim.Native.Nat.{ℕ, suc, _+_, _-_, _<_, _≤_}
 use native.Mathlib.Omega.{arith}
 use lib.Dec.{ltb}
 use lib.ListN.{length, take, drop, length-drop}
@@ -15,7 +15,7 @@ use Rattle.device.specs.declared.phase.Sent.the-variants.{Nothing, One, Header}
 use Rattle.device.specs.declared.device.Device.{Device}
 use Rattle.intake.specs.Intake.{stopped, lowTaken, highTaken, unlessSent, takenFrom, taken}
 use Rattle.intake.specs.declared.states.Taken.{Taken}
-use Rattle.intake.proofs.Phases.{after, low-cons, low-high, high-low, high-cons}
+use Rattle.intake.proofs.Phases.{low-cons, low-high, high-low, high-cons}
 
 -- the states from i to j
 abbrev pub between : ℕ → ℕ → List ℕ → List ℕ

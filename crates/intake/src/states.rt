@@ -137,7 +137,7 @@ fn head_all(phase: Phase, states: &[u8], from: usize) -> Headed
 }
 
 // Where high states end.
-fn highs_end(states: &[u8], from: usize) -> usize
+pub fn highs_end(states: &[u8], from: usize) -> usize
     ensures { λ r. ⌜ r ≡ highsEnd (drop from (now (states .entry))) from ⌝ }
 {
     let mut i = from;

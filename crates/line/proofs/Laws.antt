@@ -9,19 +9,14 @@ use native.Mathlib.Numerals.{add-one}
 use native.Mathlib.Omega.{arith}
 use lib.Dec.{eqb, ltb}
 use borrow.Author.Tests.{ltb-true, ltb-false}
-use lib.ListN.{length, getD, set, take, drop, replicate, length-append, length-map, length-take, length-drop, length-replicate, List·getD-append, List·getD-map, List·getD-eq-default}
+use lib.ListN.{length, getD, set, take, drop, replicate, length-append, length-map, length-take, length-drop, List·getD-append, List·getD-map}
 use lib.Seq.{paste, paste-suc, take-length, getD-drop, getD-take, getD-append-add, drop-drop, take-suc, length-take-le}
 use Rattle.bits.specs.Bits.{isOne, digit, bits, number, fields, split, padded, bytesOf, bytesFor, over}
-use Rattle.bits.proofs.Laws.{length-bits, length-fields, number-append}
-use Rattle.parts.specs.Wire.{Line, low, high, dataBit, stateOf, lineOf, lows, highs, clocked, statesOf}
+use Rattle.bits.proofs.Laws.{digit-isOne, length-padded, length-bits, length-fields, number-append}
+use Rattle.parts.specs.Wire.{low, high, dataBit, stateOf, lineOf, lows, highs, clocked, statesOf}
 use Rattle.line.specs.States.{dataBits, digitAt, frameStates}
 
 -- ---- bits
-
-pub digit-isOne : (n : ℕ) → n < 2 → digit (isOne n) ≡ n
-digit-isOne zero h = refl
-digit-isOne (suc zero) h = refl
-digit-isOne (suc (suc n)) h = absurd (omega arith)
 
 pub getD-bits : (w v i : ℕ) → i < w → getD (bits w v) i false ≡ isOne (v / 2 ^ (w - 1 - i) % 2)
 unfolding bits
@@ -147,13 +142,12 @@ getD-split w (suc n) bs (suc j) h =
     let e : w + j * w ≡ suc j * w = rw suc-mul (omega arith) in
     getD-split w n (drop w bs) j (omega arith) ∙ ap (λ (l : List Bool). number (take w l)) (drop-drop (j * w) w bs ∙ ap (λ (k : ℕ). drop k bs) e)
 
-pub length-padded : (bs : List Bool) → length (padded bs) ≡ 8 * bytesFor (length bs)
-unfolding padded
-length-padded bs = rw (length-append, length-replicate) (omega arith)
+pub length-padded-eights : (bs : List Bool) → length (padded bs) ≡ 8 * bytesFor (length bs)
+length-padded-eights bs = omega (arith, length-padded bs)
 
 pub getD-bytesOf : (bs : List Bool) (j : ℕ) → j < bytesFor (length bs) → getD (bytesOf bs) j 0 ≡ number (take 8 (drop (j * 8) (padded bs)))
 unfolding bytesOf
-getD-bytesOf bs j h = getD-split 8 (length (padded bs) / 8) (padded bs) j (rw (length-padded bs) (omega arith))
+getD-bytesOf bs j h = getD-split 8 (length (padded bs) / 8) (padded bs) j (rw (length-padded-eights bs) (omega arith))
 
 -- one more data bit behind k of them
 pub number-next : (states : List ℕ) (at k : ℕ) → at + k < length (padded (dataBits states))

@@ -1,17 +1,16 @@
 -- Laws of the parts, the commands and their slices. Most go by cases: a row is one of two, a command one of four.
 -- The table of slice lengths is tested whole, once, and `slice-table` turns the test into the rule. Assumes nothing.
-use mathlib.Core.Path.{_≡_, refl, sym, ap, ap₂, _∙_}
+use mathlib.Core.Path.{_≡_, refl, ap, ap₂, _∙_}
 use mathlib.Core.Bool.{Bool, true, false, cond, _||_}
 use mathlib.Core.List.{List, [], _∷_}
-use Prim.Native.Nat.{ℕ, _+_, _*_, _/_, _%_, _^_, _<_, _≤_}
-use native.Mathlib.Nat.{mod-lt}
+use Prim.Native.Nat.{ℕ, _+_, _*_, _/_, _%_, _<_}
 use native.Mathlib.Omega.{arith}
 use lib.Dec.{eqb, eqb→eq}
 use lib.ListN.{getD}
 use Rattle.parts.specs.Parts.{Part, max6974, max6975, partOf, rowIndex, code, commandAt, sliceBits, limit}
 use Rattle.parts.specs.declared.command.Command.{Command}
 use Rattle.parts.specs.declared.command.Command.the-variants.{Individual, Calibration, Global, Configuration}
-use Rattle.parts.proofs.Table.{every, every-at}
+use Rattle.parts.proofs.Table.{every-at}
 
 -- what holds of each row holds of the row of any number
 pub each-row : (P : Part → Type 0) → P max6974 → P max6975 → (n : ℕ) → P (partOf n)

@@ -1,7 +1,7 @@
 -- The parts as rows, the four commands, and what a row, a command and a configuration make: subframes, and slices.
 -- Nothing but the rows knows a part's numbers; what is said of slices and subframes is said of any row.
 use Prim.Native.Nat.{ℕ, _+_, _*_, _/_, _%_, _^_}
-use mathlib.Core.Bool.{Bool, true, false, _||_, cond}
+use mathlib.Core.Bool.{Bool, false, _||_, cond}
 use mathlib.Core.List.{List, [], _∷_}
 use lib.Dec.{eqb}
 use lib.ListN.{getD}

@@ -1,7 +1,7 @@
 -- Frames and returns as bits, and as line states. Document 01, "The set and the wire" and "One device, clock by clock".
-use Prim.Native.Nat.{ℕ, _+_, _*_, _%_}
-use mathlib.Core.Bool.{Bool, true, false, cond}
-use mathlib.Core.List.{List, [], _∷_, _++_, map}
+use Prim.Native.Nat.{ℕ, _+_, _%_}
+use mathlib.Core.Bool.{Bool, cond}
+use mathlib.Core.List.{List, [], _++_, map}
 use lib.Dec.{eqb, ltb}
 use lib.ListN.{take, drop}
 use Rattle.bits.specs.Bits.{bits, digit}

@@ -9,33 +9,29 @@ use native.Mathlib.Nat.{mod-lt}
 use native.Mathlib.Omega.{arith}
 use lib.Dec.{ltb, leb, lit<}
 use lib.ListN.{length, getD, set, take, drop, length-set, length-drop, drop-of-length-le}
-use lib.Seq.{drop-cons, set-out, length-take-le}
-use borrow.Author.Tests.{lt-ltb, le-ltb, le-leb, lt-leb, leb-true, leb-false}
+use lib.Seq.{set-out, length-take-le}
+use borrow.Author.Tests.{le-leb, lt-leb, leb-true, leb-false}
 use Rattle.bits.specs.Bits.{isOne, digit, bits, over}
 use Rattle.parts.specs.Parts.{code}
 use Rattle.parts.specs.Wire.{high, stateOf, commandCount, header, clocked, statesOf}
 use Rattle.parts.specs.declared.command.Command.{Command}
 use Rattle.parts.specs.declared.command.Command.the-variants.{Individual, Calibration, Global, Configuration}
+use Rattle.intake.specs.Intake.{highsEnd}
+use Rattle.intake.proofs.Lines.{drop-on}
 use Rattle.turns.specs.Front.{putAll, putEnd, highs}
 
 by-test : {A : Type 0} (t : Bool) (x y : A) (P : A → Type 0) → P x → P y → P (cond t x y)
 by-test true x y P a b = a
 by-test false x y P a b = b
 
-pub drop-on : (ss : List ℕ) (i : ℕ) → i < length ss → drop i ss ≡ getD ss i 0 ∷ drop (i + 1) ss
-drop-on ss i h = rw (add-one, drop-cons ss i 0) refl
-
-pub highs-end : (ss : List ℕ) (i : ℕ) → length ss ≤ i → highs (drop i ss) ≡ 0
-unfolding highs
-highs-end ss i h = rw (drop-of-length-le ss h) refl
-
-pub highs-low : (ss : List ℕ) (i : ℕ) → i < length ss → getD ss i 0 < 2 → highs (drop i ss) ≡ 0
-unfolding highs
-highs-low ss i h l = rw (drop-on ss i h, lt-ltb (getD ss i 0) 2 l) refl
-
-pub highs-on : (ss : List ℕ) (i : ℕ) → i < length ss → 2 ≤ getD ss i 0 → highs (drop i ss) ≡ highs (drop (i + 1) ss) + 1
-unfolding highs
-highs-on ss i h l = rw (drop-on ss i h, le-ltb (getD ss i 0) 2 l) refl
+-- where high states end is as far on as there are of them
+pub highs-behind : (ss : List ℕ) (i : ℕ) → highsEnd ss i ≡ i + highs ss
+unfolding highsEnd highs
+highs-behind [] i = omega arith
+highs-behind (s ∷ ss) i = by (ltb s 2) (highs-behind ss (i + 1)) where
+  by : (t : Bool) → highsEnd ss (i + 1) ≡ i + 1 + highs ss → cond t i (highsEnd ss (i + 1)) ≡ i + cond t 0 (highs ss + 1)
+  by true e = omega arith
+  by false e = omega (arith, e)
 
 pub put-full : (os : List ℕ) (w : ℕ) (xs : List ℕ) → length os ≤ w → putAll os w xs ≡ os
 unfolding putAll

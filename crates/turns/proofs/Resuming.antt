@@ -27,7 +27,7 @@ use Rattle.intake.specs.declared.states.Taken.{Taken}
 use Rattle.intake.proofs.Phases.{step-normal, step-high, taken-high}
 use Rattle.turns.specs.Front.{isPassing, isLost, passes, untilSent, frontTaken, roams, roamStep, roamed, roamTaken, batchTaken}
 use Rattle.turns.specs.declared.states.Roamed.{Roamed}
-use Rattle.turns.proofs.Lines.{drop-on}
+use Rattle.intake.proofs.Lines.{drop-on}
 use Rattle.turns.proofs.Taking.{by-test}
 use Rattle.turns.proofs.Turns.{until-on}
 

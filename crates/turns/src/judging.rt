@@ -217,7 +217,8 @@ fn one_less(n: usize) -> usize
     if n == 0 { 0 } else { n - 1 }
 }
 
-fn both(a: bool, b: bool) -> bool
+// Both tests pass.
+pub fn both(a: bool, b: bool) -> bool
     ensures { λ r. ⌜ r ≡ (a && b) ⌝ }
 {
     if a { b } else { false }

@@ -14,6 +14,7 @@ pub use entry::answer;
 pub use entry::enter;
 pub use judging::Judged;
 pub use judging::Span;
+pub use judging::both;
 pub use judging::boundary_span;
 pub use judging::fault_span;
 pub use judging::fresh_span;

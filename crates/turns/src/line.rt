@@ -49,7 +49,7 @@ fn pass(cursor: Cursor, states: &[u8], returned: &mut [u8]) -> Cursor
 {
     let at = cursor.at;
     let from = cursor.written;
-    let end = highs_end(states, at);
+    let end = intake::highs_end(states, at);
     let w = append(returned, from, &states[at..end]);
     crate::cursor::aim(cursor.count, cursor.front, end, w, Sent::Nothing, states)
 }
@@ -66,21 +66,6 @@ fn append(returned: &mut [u8], from: usize, states: &[u8]) -> usize
         i += 1;
     }
     from + n
-}
-
-// Where the high states from a place on end.
-fn highs_end(states: &[u8], at: usize) -> usize
-    requires { ⌜ at ≤ length (now states) ⌝ }
-    ensures { λ r. ⌜ r ≡ at + highs (drop at (now (states .entry))) ⌝ }
-{
-    let mut i = at;
-    while i < states.len() {
-        if states[i] < 2 {
-            return i;
-        }
-        i += 1;
-    }
-    i
 }
 
 fn smaller(a: usize, b: usize) -> usize

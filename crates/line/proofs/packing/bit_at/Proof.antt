@@ -1,4 +1,3 @@
-use Rattle.line.specs.States.{digitAt}
 use mathlib.Core.Path.{sym, ap}
 use Prim.Native.Nat.{ℕ, _%_}
 use lib.ListN.{List·getD-eq-default}

@@ -1,16 +1,16 @@
-use Rattle.line.specs.States.{dataBits, digitAt}
-use Rattle.line.proofs.Laws.{number-next, getD-bytesOf, length-padded}
-use Rattle.bits.specs.Bits.{number, padded, bytesOf, bytesFor}
+use Rattle.line.specs.States.{dataBits}
+use Rattle.line.proofs.Laws.{number-next, getD-bytesOf, length-padded-eights}
+use Rattle.bits.specs.Bits.{number, padded, bytesFor}
 use mathlib.Core.Path.{_≡_, refl, sym, ap, ap₂, _∙_}
 use mathlib.Core.List.{List}
-use Prim.Native.Nat.{ℕ, _+_, _-_, _/_, _%_, _^_, _≤_, _<_, _*_}
+use Prim.Native.Nat.{ℕ, _+_, _-_, _^_, _≤_, _<_, _*_}
 use mathlib.Core.Bool.{Bool}
 use native.Mathlib.Nat.{mod-eq-of-lt, lt-of-lt-of-le}
 use native.Mathlib.Numerals.{add-one}
 use Rattle.bits.proofs.Laws.{number-take-lt}
 use lib.Pow.{pow-mono}
 use native.Mathlib.Omega.{arith}
-use lib.ListN.{length, getD, take, drop, length-map}
+use lib.ListN.{length, take, drop, length-map}
 use borrow.Author.Needs.{needs}
 use Rattle.line.proofs.packing.byte_at.Statement.{statement}
 use Rattle.line.proofs.packing.byte_at.Tie as tie
@@ -59,7 +59,7 @@ loop-again : tie.Need-loop-again Inv-loop μ-loop
 loop-again c = let l = c .before .before .loop in
     let a = c .before .before .before .before .args in
     let bs : List Bool = padded (dataBits (a .states .now)) in
-    let long : length bs ≡ 8 * bytesFor (length (a .states .now)) = length-padded (dataBits (a .states .now)) ∙ ap (λ (n : ℕ). 8 * bytesFor n) (length-map (a .states .now) _) in
+    let long : length bs ≡ 8 * bytesFor (length (a .states .now)) = length-padded-eights (dataBits (a .states .now)) ∙ ap (λ (n : ℕ). 8 * bytesFor n) (length-map (a .states .now) _) in
     let h : a .place * 8 + l .k < length bs = omega arith in (
       omega arith,
       ap₂ (λ (x y : ℕ). x * 2 + y) (l .inv .1) (c .bit-at .ensures)

@@ -1,7 +1,7 @@
 use Rattle.parts.proofs.Rows.{yes, no}
 use mathlib.Core.Path.{refl, sym, ap, _∙_}
 use mathlib.Core.Bool.{not}
-use borrow.Author.Tests.{lt-ltb, le-ltb, not-true}
+use borrow.Author.Tests.{lt-ltb, le-ltb}
 use borrow.Author.Needs.{needs}
 use Rattle.line.proofs.packing.judge_states.Statement.{statement}
 use Rattle.line.proofs.packing.judge_states.Tie as tie

@@ -1,10 +1,9 @@
 use Rattle.line.specs.States.{dataBits}
 use Rattle.line.proofs.Laws.{paste-next, paste-over}
-use Rattle.bits.specs.Bits.{bytesOf, bytesFor, over}
+use Rattle.bits.specs.Bits.{bytesOf, bytesFor}
 use Rattle.bits.proofs.Laws.{length-bytesOf}
 use mathlib.Core.Path.{_≡_, refl, sym, ap, _∙_}
-use mathlib.Core.List.{List}
-use Prim.Native.Nat.{ℕ, _+_, _-_, _≤_, _<_, _*_}
+use Prim.Native.Nat.{_-_, _≤_}
 use native.Mathlib.Omega.{arith}
 use lib.ListN.{length, length-map, length-set}
 use lib.Seq.{paste, paste-zero}

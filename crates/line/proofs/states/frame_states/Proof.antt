@@ -2,10 +2,7 @@ use Rattle.line.specs.States.{frameRows, frameStates, clockedAnswer, clo
 use Rattle.line.specs.declared.states.Line.the-variants as L
 use Rattle.bits.specs.Bits.{over}
 use Rattle.parts.proofs.Rows as rows
-use mathlib.Core.Path.{_≡_, refl, sym, _∙_}
-use mathlib.Core.List.{List}
-use Prim.Native.Nat.{ℕ, _≤_}
-use native.Mathlib.Omega.{arith}
+use mathlib.Core.Path.{refl, sym, _∙_}
 use lib.ListN.{length}
 use borrow.Author.Tests.{eqb-true, ltb-false, not-false}
 use borrow.Author.Needs.{needs}

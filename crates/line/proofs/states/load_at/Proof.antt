@@ -1,5 +1,4 @@
-use borrow.Author.Tests.{eq-eqb, ne-eqb, lt-ltb, le-ltb}
-use borrow.Author.Needs.{needs}
+use borrow.Author.Tests.{lt-ltb, le-ltb}
 use Rattle.line.proofs.states.load_at.Statement.{statement}
 use Rattle.line.proofs.states.load_at.Tie as tie
 

@@ -1,9 +1,6 @@
 use Rattle.line.specs.States.{frameStates}
 use Rattle.line.proofs.Laws.{length-frameStates, getD-frameStates, paste-next, paste-over, load-le}
-use Rattle.bits.specs.Bits.{over}
-use mathlib.Core.Bool.{cond}
-use mathlib.Core.Path.{_≡_, refl, sym, ap, ap₂, _∙_}
-use mathlib.Core.List.{List, _++_}
+use mathlib.Core.Path.{_≡_, refl, sym, ap, _∙_}
 use Prim.Native.Nat.{ℕ, _+_, _-_, _/_, _%_, _^_, _≤_, _<_, _*_}
 use native.Mathlib.Omega.{arith}
 use lib.Dec.{ltb}

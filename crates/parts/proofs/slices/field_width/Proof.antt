@@ -1,4 +1,3 @@
-use mathlib.Core.Path.{ap}
 use borrow.Author.Needs.{needs}
 use Rattle.parts.proofs.slices.field_width.Statement.{statement}
 use Rattle.parts.proofs.slices.field_width.Tie as tie

@@ -1,5 +1,5 @@
 use borrow.Author.Tests.{lt-ltb, le-ltb}
-use Rattle.turns.proofs.Lines.{drop-on}
+use Rattle.intake.proofs.Lines.{drop-on}
 use lib.ListN.{drop-of-length-le}
 use borrow.Author.Needs.{needs}
 use Rattle.turns.proofs.cursor.face.Statement.{statement}

@@ -3,7 +3,7 @@ use mathlib.Core.List.{List}
 use mathlib.Core.Path.{_∙_, ap}
 use native.Mathlib.Omega.{arith}
 use Rattle.turns.specs.Front.{putAll}
-use Rattle.turns.proofs.Lines.{highs-within, part-length, part-list}
+use Rattle.turns.proofs.Lines.{highs-behind, highs-within, part-length, part-list}
 use borrow.Author.Needs.{needs}
 use Rattle.turns.proofs.line.pass.Statement.{statement}
 use Rattle.turns.proofs.line.pass.Tie as tie
@@ -12,25 +12,25 @@ highs-end-requires : tie.Need-highs-end-requires
 highs-end-requires c κs = search needs
 
 sub-append : tie.Need-sub-append
-sub-append c = search needs
+sub-append c = omega (arith, (c .before .highs-end .ensures ∙ highs-behind _ _))
 
 part-append-start : tie.Need-part-append-start
-part-append-start c = search needs
+part-append-start c = omega (arith, (c .before .highs-end .ensures ∙ highs-behind _ _))
 
 part-append-end : tie.Need-part-append-end
-part-append-end c = omega (arith, c .before .highs-end .ensures, highs-within (c .before .before .before .before .args .states .now) (c .before .before .before .before .args .cursor .at) (c .before .before .before .before .pre .0))
+part-append-end c = omega (arith, (c .before .highs-end .ensures ∙ highs-behind _ _), highs-within (c .before .before .before .before .args .states .now) (c .before .before .before .before .args .cursor .at) (c .before .before .before .before .pre .0))
 
 append-requires : tie.Need-append-requires
 append-requires c κs = search needs
 
 aim-requires : tie.Need-aim-requires
-aim-requires c κs = omega (arith, c .before .before .before .before .before .highs-end .ensures, highs-within (c .before .before .before .before .before .before .before .before .args .states .now) (c .before .before .before .before .before .before .before .before .args .cursor .at) (c .before .before .before .before .before .before .before .before .pre .0))
+aim-requires c κs = omega (arith, (c .before .before .before .before .before .highs-end .ensures ∙ highs-behind _ _), highs-within (c .before .before .before .before .before .before .before .before .args .states .now) (c .before .before .before .before .before .before .before .before .args .cursor .at) (c .before .before .before .before .before .before .before .before .pre .0))
 
 same-length : tie.Need-same-length
 same-length c = search needs
 
 returns : tie.Need-returns
-returns c = (rw (c .aim .ensures, c .before .before .before .append .ensures .0, part-length (c .before .before .before .before .before .before .before .before .before .args .states .now) (c .before .before .before .before .before .before .before .before .before .args .cursor .at) _ (c .before .before .before .before .before .before .highs-end .ensures), c .before .before .before .before .before .before .highs-end .ensures), c .before .before .before .append .ensures .1 ∙ ap (λ (xs : List ℕ). putAll (c .before .before .before .before .before .before .before .before .before .args .returned .now) (c .before .before .before .before .before .before .before .before .before .args .cursor .written) xs) (part-list _ _ _ (c .before .before .before .before .before .before .highs-end .ensures)))
+returns c = (rw (c .aim .ensures, c .before .before .before .append .ensures .0, part-length (c .before .before .before .before .before .before .before .before .before .args .states .now) (c .before .before .before .before .before .before .before .before .before .args .cursor .at) _ ((c .before .before .before .before .before .before .highs-end .ensures ∙ highs-behind _ _)), (c .before .before .before .before .before .before .highs-end .ensures ∙ highs-behind _ _)), c .before .before .before .append .ensures .1 ∙ ap (λ (xs : List ℕ). putAll (c .before .before .before .before .before .before .before .before .before .args .returned .now) (c .before .before .before .before .before .before .before .before .before .args .cursor .written) xs) (part-list _ _ _ ((c .before .before .before .before .before .before .highs-end .ensures ∙ highs-behind _ _))))
 
 pub pass-spec : {M : Type 1} → statement M
 pass-spec =

@@ -1,13 +1,15 @@
 -- Lists of calls on one lent chain: what each leaves, the states that the accepted runs were given, joined, and those that they wrote into
--- the room that each was lent.
+-- the room that each was lent. Then the calls that document 01 allows during a restore and after it.
 use Prim.Native.Nat.{ℕ}
 use mathlib.Core.Path.{_≡_}
-use mathlib.Core.Bool.{Bool}
+use mathlib.Core.Bool.{Bool, true}
 use mathlib.Core.List.{List, [], _∷_, _++_}
+use mathlib.Core.Logic.{_⊎_}
 use lib.ListN.{length, take}
+use Rattle.parts.specs.Lists.{allBelow}
 use Rattle.parts.specs.Refusals.{Row, content}
 use Rattle.device.specs.declared.device.Device.{Device}
-use Rattle.calls.specs.Calls.{freshTable, runTable, boundaryTable, faultTable, freshRefusal, freshAfter, runRefusal, runAfter, runRoom, returned, boundaryRefusal, boundaryAfter, faultRefusal, faultAfter}
+use Rattle.calls.specs.Calls.{freshTable, runTable, boundaryTable, faultTable, freshRefusal, freshDevices, freshAfter, runRefusal, runDevices, runAfter, runRoom, returned, boundaryRefusal, boundaryDevices, boundaryAfter, faultRefusal, faultDevices, faultAfter}
 
 -- fresh: the part. run: states, and the lent room as it is. fault: device, kind, flag
 pub data Call : Type 0 where
@@ -29,6 +31,13 @@ refusalOf ds (fresh part) = freshRefusal part (length ds)
 refusalOf ds (run ss out) = runRefusal ds ss (length out)
 refusalOf ds boundary = boundaryRefusal ds
 refusalOf ds (fault device kind flag) = faultRefusal ds device kind
+
+-- what an accepted call makes of the records
+abbrev pub effect : List Device → Call → List Device
+effect ds (fresh part) = freshDevices part ds
+effect ds (run ss out) = runDevices ds ss
+effect ds boundary = boundaryDevices ds
+effect ds (fault device kind flag) = faultDevices ds device kind flag
 
 -- the records that a call leaves
 unfoldable pub after : List Device → Call → List Device
@@ -66,26 +75,32 @@ unfoldable pub answers : List Device → List Call → List ℕ
 answers ds [] = []
 answers ds (c ∷ cs) = answered ds c ++ answers (after ds c) cs
 
--- a call is a run, or is refused where it stands
-abbrev pub RunOrRefused : List Device → Call → Type 0
-RunOrRefused ds (fresh part) = refusalOf ds (fresh part) ≡ 0 → ⊥
-RunOrRefused ds (run ss out) = Unit {0}
-RunOrRefused ds boundary = refusalOf ds boundary ≡ 0 → ⊥
-RunOrRefused ds (fault device kind flag) = refusalOf ds (fault device kind flag) ≡ 0 → ⊥
+-- ---- what may be called during a restore, and after it
+
+-- a call leaves every record as it is, as each refused one does
+abbrev pub Keeps : List Device → Call → Type 0
+Keeps ds c = after ds c ≡ ds
+
+-- until the fourth frame ends: a run, or a call that leaves the records as they are
+abbrev pub RunOrKeeps : List Device → Call → Type 0
+RunOrKeeps ds (fresh part) = Keeps ds (fresh part)
+RunOrKeeps ds (run ss out) = Unit {0}
+RunOrKeeps ds boundary = Keeps ds boundary
+RunOrKeeps ds (fault device kind flag) = Keeps ds (fault device kind flag)
 
 -- and so is each of a list
 abbrev pub Runs : List Device → List Call → Type 0
 Runs ds [] = Unit {0}
-Runs ds (c ∷ cs) = RunOrRefused ds c × Runs (after ds c) cs
+Runs ds (c ∷ cs) = RunOrKeeps ds c × Runs (after ds c) cs
 
--- a call sets a fault, or is refused where it stands
-abbrev pub FaultOrRefused : List Device → Call → Type 0
-FaultOrRefused ds (fresh part) = refusalOf ds (fresh part) ≡ 0 → ⊥
-FaultOrRefused ds (run ss out) = refusalOf ds (run ss out) ≡ 0 → ⊥
-FaultOrRefused ds boundary = refusalOf ds boundary ≡ 0 → ⊥
-FaultOrRefused ds (fault device kind flag) = Unit {0}
+-- between the fourth frame and the boundary: a fault setting, a run of low states, or a call that leaves the records as they are
+abbrev pub FaultOrLow : List Device → Call → Type 0
+FaultOrLow ds (fresh part) = Keeps ds (fresh part)
+FaultOrLow ds (run ss out) = (allBelow ss 2 ≡ true) ⊎ Keeps ds (run ss out)
+FaultOrLow ds boundary = Keeps ds boundary
+FaultOrLow ds (fault device kind flag) = Unit {0}
 
--- and so does each of a list
-abbrev pub Faults : List Device → List Call → Type 0
-Faults ds [] = Unit {0}
-Faults ds (c ∷ cs) = FaultOrRefused ds c × Faults (after ds c) cs
+-- and so is each of a list
+abbrev pub Settles : List Device → List Call → Type 0
+Settles ds [] = Unit {0}
+Settles ds (c ∷ cs) = FaultOrLow ds c × Settles (after ds c) cs

@@ -1,4 +1,5 @@
--- The plain chain of records, the four calls on it, and lists of calls.
+-- The plain chain of records, the four calls on it, lists of calls, and what a caller knows by them.
 pub mod Chain
 pub mod Calls
 pub mod History
+pub mod Told

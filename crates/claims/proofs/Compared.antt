@@ -15,11 +15,11 @@ use Rattle.calls.specs.Chain.{blank}
 use Rattle.model.specs.Lists.{All, Both}
 use Rattle.model.specs.Set.{Set, Own, owned}
 use Rattle.model.proofs.Set.{length-owned}
-use Rattle.link.specs.Records.{Holds}
+use Rattle.link.specs.View.{Arrays, Holds}
 use Rattle.compare.specs.declared.compared.Compared.{Compared}
 use Rattle.compare.specs.Compare.{differsAt, Pair, groups, inGroups, compared, same, difference, compareRefusal, comparison}
 use Rattle.compare.specs.Search.{given}
-use Rattle.compare.specs.Differences.{Arrays, ofSet, ofDevice, DiffersFirst, FirstDifference}
+use Rattle.compare.specs.Differences.{ofSet, ofDevice, DiffersFirst, FirstDifference}
 use Rattle.claims.specs.Claims.{SameHolds, HoldsSame, Named}
 use Rattle.compare.proofs.Lists.{differs-first}
 use Rattle.compare.proofs.Holding.{Sized, dealt-sized, sides, equal-holds, holds-groups, groups-equal, GroupAt, group-named, nowhere}

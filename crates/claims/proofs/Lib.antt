@@ -1,6 +1,9 @@
--- The proofs of the claims: demand 3 and the calls in Demand, the comparison in Compared and RestoredSame, the rest
--- cited in Claims.
+-- The claims' proofs.
+pub mod Tables
+pub mod Sent
+pub mod Chains
 pub mod Demand
 pub mod Compared
 pub mod RestoredSame
+pub mod Examples
 pub mod Claims

@@ -1,13 +1,13 @@
 -- After a restore and a boundary a comparison says same: the chain then holds the set, and nothing refuses the comparison. The records are of
--- the set's part, since runs, fault settings, boundaries and refused calls keep it.
+-- the set's part, since no call of a restore, nor what settles after it, changes it.
 use mathlib.Core.Path.{_≡_, refl, ap, ap₂, sym, subst, _∙_}
-use mathlib.Core.Bool.{Bool, true, not, cond, _&&_}
+use mathlib.Core.Bool.{Bool, true, not, _&&_}
 use mathlib.Core.List.{List, [], _∷_, _++_}
-use Prim.Native.Nat.{ℕ, _≤_}
+use Prim.Native.Nat.{_≤_}
 use native.Mathlib.Omega.{arith}
 use lib.Dec.{ltb}
 use lib.ListN.{length}
-use borrow.Author.Tests.{eq-eqb, ne-eqb, le-leb, not-false}
+use borrow.Author.Tests.{eq-eqb, le-leb, not-false}
 use Rattle.parts.specs.Lists.{allBelow}
 use Rattle.parts.specs.Parts.{known, partOf, limit, subframes}
 use Rattle.parts.specs.declared.command.Command.{Command}
@@ -17,50 +17,17 @@ use Rattle.frames.specs.declared.told.Tail.{Tail}
 use Rattle.device.specs.Judgement.{fits}
 use Rattle.device.specs.declared.device.Device.{Device}
 use Rattle.calls.specs.Chain.{every, hasPart}
-use Rattle.calls.specs.History.{Call, fresh, run, boundary, fault, refusalOf, after, afterCalls, RunOrRefused, Runs, FaultOrRefused, Faults}
+use Rattle.calls.specs.History.{Call, boundary, afterCalls}
 use Rattle.model.specs.Lists.{All}
 use Rattle.model.specs.Set.{Set}
 use Rattle.link.specs.Restore.{Writable}
-use Rattle.link.specs.Records.{start}
 use Rattle.link.proofs.View.{Sound}
-use Rattle.link.proofs.Calls.{Whole, partBy, partAfter, whole-calls, whole-start, length-afterCalls}
+use Rattle.link.proofs.Calls.{Whole, whole-runs, whole-settles, whole-boundary, length-afterCalls, calls-append}
 use Rattle.link.proofs.Frames.{taken, writable-proper}
-use Rattle.claims.proofs.Demand.{restored}
+use Rattle.claims.proofs.Demand.{whole, devices, held}
 use Rattle.compare.specs.Compare.{compareTable, compareRefusal}
-use Rattle.claims.specs.Claims.{RestoredSame}
+use Rattle.claims.specs.Claims.{start, RestoredSame}
 use Rattle.claims.proofs.Compared.{holds-same}
-
--- ---- the part
-
-refused-part : (ds : List Device) (p : ℕ) (c : Call) → (refusalOf ds c ≡ 0 → ⊥) → partBy ds p c ≡ p
-refused-part ds p (fresh q) e = ap (λ (b : Bool). cond b q p) (ne-eqb (refusalOf ds (fresh q)) 0 e)
-refused-part ds p (run ss out) e = refl
-refused-part ds p boundary e = refl
-refused-part ds p (fault device kind flag) e = refl
-
-run-part : (ds : List Device) (p : ℕ) (c : Call) → RunOrRefused ds c → partBy ds p c ≡ p
-run-part ds p (fresh q) r = refused-part ds p (fresh q) r
-run-part ds p (run ss out) r = refl
-run-part ds p boundary r = refl
-run-part ds p (fault device kind flag) r = refl
-
-fault-part : (ds : List Device) (p : ℕ) (c : Call) → FaultOrRefused ds c → partBy ds p c ≡ p
-fault-part ds p (fresh q) r = refused-part ds p (fresh q) r
-fault-part ds p (run ss out) r = refl
-fault-part ds p boundary r = refl
-fault-part ds p (fault device kind flag) r = refl
-
-part-runs : (ds : List Device) (p : ℕ) (cs es : List Call) → Runs ds cs → partAfter ds p (cs ++ es) ≡ partAfter (afterCalls ds cs) p es
-unfolding partAfter afterCalls
-part-runs ds p [] es r = refl
-part-runs ds p (c ∷ cs) es r =
-    ap (λ (q : ℕ). partAfter (after ds c) q (cs ++ es)) (run-part ds p c (r .0)) ∙ part-runs (after ds c) p cs es (r .1)
-
-part-faults : (ds : List Device) (p : ℕ) (cs : List Call) → Faults ds cs → partAfter ds p (cs ++ boundary ∷ []) ≡ p
-unfolding partAfter
-part-faults ds p [] r = refl
-part-faults ds p (c ∷ cs) r =
-    ap (λ (q : ℕ). partAfter (after ds c) q (cs ++ boundary ∷ [])) (fault-part ds p c (r .0)) ∙ part-faults (after ds c) p cs (r .1)
 
 -- ---- nothing refuses the comparison
 
@@ -95,19 +62,13 @@ accepts s tail ds w h l =
     )
 
 pub restored-same : RestoredSame
-unfolding afterCalls
 restored-same p records earlier during later s gap tail last b e r =
     let ds : List Device = start p records earlier in
     let calls : List Call = during ++ (later ++ boundary ∷ []) in
     let now : List Device = afterCalls ds calls in
-    let q : ℕ = partAfter (after records (fresh p)) p earlier in
-    let w : Whole q ds = whole-calls p (after records (fresh p)) earlier (whole-start p records (b .accepted)) in
-    let part : partAfter ds q calls ≡ s .part =
-    part-runs ds q during (later ++ boundary ∷ []) (b .runs) ∙ part-faults (afterCalls ds during) q later r ∙ one-part ds q (s .part) (w .someDevice) (w .onePart) (b .part) in
-    let whole : Whole (s .part) now = subst (λ (n : ℕ). Whole n now) part (whole-calls q ds calls w) in
-    holds-same s now (accepts s tail now (b .writable) whole (b .devices ∙ sym (length-afterCalls ds calls)))
-    (restored p records earlier during later s gap tail last b e r)
-  where
-    one-part : (ds : List Device) (m n : ℕ) → 1 ≤ length ds → All (λ d. d .registers .part ≡ m) ds → All (λ d. d .registers .part ≡ n) ds → m ≡ n
-    one-part [] m n l g h = absurd (omega (arith, l))
-    one-part (d ∷ ds) m n l g h = sym (g .0) ∙ h .0
+    let w = whole-runs (s .part) ds during (whole p records earlier during s tail b) (b .runs) in
+    let v = whole-boundary (s .part) (afterCalls (afterCalls ds during) later) (whole-settles (s .part) (afterCalls ds during) later w r) in
+    let same : afterCalls (afterCalls (afterCalls ds during) later) (boundary ∷ []) ≡ now =
+    sym (calls-append ds during (later ++ boundary ∷ []) ∙ calls-append (afterCalls ds during) later (boundary ∷ [])) in
+    holds-same s now (accepts s tail now (b .writable) (subst (Whole (s .part)) same v) (devices p records earlier during s tail b ∙ sym (length-afterCalls ds calls)))
+    (held p records earlier during s tail b gap last e later r)

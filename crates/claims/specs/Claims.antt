@@ -10,16 +10,17 @@ use lib.Dec.{leb}
 use lib.IntN.{pos, negℤ}
 use lib.ListN.{length, take, getD}
 use lib.Signed.{_<ℤ_}
-use Rattle.bits.specs.Bits.{fields, bytesOf}
+use Rattle.bits.specs.Bits.{digit, fields, bytesOf, bytesFor, over}
 use Rattle.parts.specs.Parts.{Part, partOf, subframes}
-use Rattle.parts.specs.Refusals.{first, Applies, Lowest}
-use Rattle.parts.specs.Wire.{stateOf, lows}
+use Rattle.parts.specs.Refusals.{first}
+use Rattle.parts.specs.Wire.{Line, lineOf, stateOf, lows}
 use Rattle.parts.specs.declared.command.Command.{Command}
 use Rattle.parts.specs.declared.command.Command.the-variants.{Individual}
-use Rattle.line.specs.States.{dataBits}
+use Rattle.line.specs.States.{dataBits, frameStates, frameRows, clockedAnswer, clockedOut, stateRows, packedAnswer, packedOut}
+use Rattle.line.specs.declared.states.Line.the-variants as L
 use Rattle.frames.specs.Frames.{fieldCount, frameOf}
 use Rattle.frames.specs.Writing.{settings, writeTable, written, writtenOut}
-use Rattle.frames.specs.Reading.{heldFields, roomShort, readTable, found, read, readBytes, readValues}
+use Rattle.frames.specs.Reading.{heldFields, roomShort, readTable, found, bytesFound, valuesFound, read, readBytes, readValues}
 use Rattle.frames.specs.Returns as returns
 use Rattle.frames.specs.declared.told.Told.{Told}
 use Rattle.frames.specs.declared.told.Tail.{Tail}
@@ -27,27 +28,110 @@ use Rattle.frames.specs.declared.told.Written.the-variants as W
 use Rattle.frames.specs.declared.told.Read.the-variants as Q
 use Rattle.frames.specs.declared.told.Returned.the-variants as R
 use Rattle.frame_laws.specs.RoundTrip.{ReadBack, WrittenAgain, byteRead, bytesRead, valuesRead}
-use Rattle.device.specs.Judgement.{fits}
+use Rattle.device.specs.Step.{step}
+use Rattle.device.specs.Judgement.{fits, judgement, stepRefusals, taken, refusedWith, stepAnswer}
 use Rattle.device.specs.declared.device.Device.{Device}
+use Rattle.device.specs.declared.device.Answer.{Answer}
 use Rattle.calls.specs.Chain.{blank}
-use Rattle.calls.specs.Calls.{roomFor, returned}
-use Rattle.calls.specs.History.{Call, fresh, run, boundary, tableOf, refusalOf, after, afterCalls, fed, answers, Faults}
+use Rattle.calls.specs.Calls.{roomFor, returned, runTable, runRoom}
+use Rattle.calls.specs.History.{Call, fresh, run, boundary, tableOf, refusalOf, effect, after, afterCalls, fed, answered, answers, Runs, Settles}
+use Rattle.calls.specs.Told.{partTold, flagIn, flagTold, ownTable}
 use Rattle.model.specs.Lists.{All, Both}
+use Rattle.model.specs.Device.{faults, stepDevice}
+use Rattle.model.specs.Device as model
 use Rattle.model.specs.Set.{Set, Own, owned}
-use Rattle.model.specs.Restore.{restoreOrder}
-use Rattle.link.specs.Restore.{framePart, restorePart, restoreStates, arrival, flags, returnsOf}
-use Rattle.link.specs.Records.{Holds, CutFields, start, Begun, ownTable}
-use Rattle.compare.specs.Compare.{same, compareRefusal, comparison}
-use Rattle.compare.specs.Differences.{Arrays, FirstDifference}
-use Rattle.schedule.specs.Light.{count, level, isOn, leadOf, isEven, litAt}
-use Rattle.schedule.specs.Answers.{litRows, litAnswer}
-use Rattle.schedule.specs.declared.answer.Asked.the-variants.{Is}
+use Rattle.model.specs.Restore.{restoreOrder, CutFields}
+use Rattle.link.specs.View.{deviceOf, stepRecord, Arrays, registersAt, registersAll, Holds}
+use Rattle.link.specs.Called.{called}
+use Rattle.link.specs.Restore.{Writable, framePart, restorePart, restoreStates, restoreThen, gapAfter, arrival, returnsOf}
+use Rattle.turns.specs.Entry.{ran, runAnswer}
+use Rattle.turns.specs.declared.entry.Ran.{Ran}
+use Rattle.schedule.specs.Light.{count, level, isOn, leadOf, isLit, isEven, litAt}
+use Rattle.schedule.specs.Answers.{onRows, leadRows, litRows, onAnswer, leadAnswer, litAnswer}
+use Rattle.schedule.specs.OfDevice.{isShown, deviceRows, deviceAnswer}
+use Rattle.schedule.specs.declared.answer.Asked.the-variants as A
+use Rattle.schedule.specs.declared.answer.Lead.the-variants as D
 use Rattle.schedule.proofs.Lit.{inRun, litFrom, litTo, litClocks}
+use Rattle.compare.specs.Compare.{same, compared, difference, compareTable, compareRefusal, comparison}
+use Rattle.compare.specs.Differences.{FirstDifference}
+use Rattle.compare.specs.declared.compared.Compared.{Compared}
+use Rattle.report.specs.Arguments.{parsed, valueOf, askedRows, asked}
+use Rattle.report.specs.declared.arguments.Asked.the-variants as B
+use Rattle.claims.specs.Tables.{Exactly, Answers, Leaves, lineNumber, writtenNumber, readNumber, returnedNumber, askedNumber, leadNumber, argumentsNumber}
 use Rattle.claims.specs.Examples.{Each, examples}
 
 -- each is a byte
 abbrev pub Bytes : List ℕ → Type 0
 Bytes bytes = (i : ℕ) → getD bytes i 0 < 256
+
+-- ---- demands 1 and 2: every operation accepts exactly what no number of its table refuses, and refuses with the lowest that applies
+
+-- the writer: the frame's bytes, and in front of the output the frame
+abbrev pub Writes : Told → Tail → ℕ → List ℕ → List ℕ → List ℕ → Type 0
+Writes t tail byte bytes values out =
+    let frame : List ℕ = frameOf t tail (settings t byte bytes values) in
+    Answers writtenNumber (writeTable t tail byte bytes values (length out)) W.Refused (W.Bytes (length frame)) (written t tail byte bytes values (length out))
+    × Leaves (writtenNumber (written t tail byte bytes values (length out))) out (over frame out) (writtenOut t tail byte bytes values out)
+
+-- the reader: the byte or how many values, and these in front of the lent list of its command
+abbrev pub Reads : Told → Tail → List ℕ → List ℕ → List ℕ → Type 0
+Reads t tail frame bytes values =
+    let number : ℕ = readNumber (read t tail frame (length bytes) (length values)) in
+    Answers readNumber (readTable t tail frame (length bytes) (length values)) Q.Refused (found t (t .command) (heldFields t frame)) (read t tail frame (length bytes) (length values))
+    × Leaves number bytes (bytesFound (t .command) (heldFields t frame) bytes) (readBytes t tail frame bytes (length values))
+    × Leaves number values (valuesFound (t .command) (heldFields t frame) values) (readValues t tail frame (length bytes) values)
+
+-- the return reader: the count
+abbrev pub ReadsReturn : ℕ → ℕ → Command → Tail → List ℕ → Type 0
+ReadsReturn part devices c tail frame =
+    Answers returnedNumber (returns.returnTable part devices c tail frame) R.Refused (R.Count (returns.countOf (fields 8 frame))) (returns.returned part devices c tail frame)
+
+-- a frame's line states: how many, and these in front of the lent states
+abbrev pub GivesStates : List ℕ → ℕ → List ℕ → Type 0
+GivesStates frame n out =
+    Answers lineNumber (frameRows (length frame) n (length out)) L.Refused (L.Written n) (clockedAnswer frame n out)
+    × Leaves (lineNumber (clockedAnswer frame n out)) out (over (frameStates frame n) out) (clockedOut frame n out)
+
+-- returned states, packed: how many bytes, and these in front of the lent bytes
+abbrev pub PacksStates : List ℕ → List ℕ → Type 0
+PacksStates states out =
+    Answers lineNumber (stateRows states (length out)) L.Refused (L.Written (bytesFor (length states))) (packedAnswer states out)
+    × Leaves (lineNumber (packedAnswer states out)) out (over (bytesOf (dataBits states)) out) (packedOut states out)
+
+-- a call on a lent chain: its effect on the records
+abbrev pub Calls : List Device → Call → Type 0
+Calls ds c = Exactly (tableOf ds c) (refusalOf ds c) × Leaves (refusalOf ds c) ds (effect ds c) (after ds c)
+
+-- a run, beside that: how many states the last device sent, and these in front of the lent room
+abbrev pub RunAnswers : List Device → List ℕ → List ℕ → Type 0
+RunAnswers ds ss out =
+    Answers (λ (r : Ran). r .refusal) (runTable ds ss (length out)) (λ n. ran n 0) (ran 0 (length (returned ds ss))) (runAnswer ds ss (length out))
+    × Leaves (runAnswer ds ss (length out) .refusal) out (over (returned ds ss) out) (runRoom ds ss out)
+
+-- every public operation that can refuse, for any input
+pub record AcceptedExactly : Type 0 where
+  pub writes : (t : Told) (tail : Tail) (byte : ℕ) (bytes values out : List ℕ) → Writes t tail byte bytes values out
+  pub reads : (t : Told) (tail : Tail) (frame bytes values : List ℕ) → Reads t tail frame bytes values
+  pub readsReturn : (part devices : ℕ) (c : Command) (tail : Tail) (frame : List ℕ) → ReadsReturn part devices c tail frame
+  pub givesStates : (frame : List ℕ) (n : ℕ) (out : List ℕ) → GivesStates frame n out
+  pub packsStates : (states out : List ℕ) → PacksStates states out
+  pub judges : (d : Device) → Exactly (judgement d) (first (judgement d))
+  pub steps : (d : Device) (s : ℕ) → Answers (λ (a : Answer). a .refusal) (stepRefusals d s) (refusedWith d) (taken (step d s)) (stepAnswer d s)
+  pub calls : (ds : List Device) (c : Call) → Calls ds c
+  pub runs : (ds : List Device) (ss out : List ℕ) → RunAnswers ds ss out
+  pub compares : (s : Set) (ds : List Device)
+      → Answers (λ (r : Compared). r .refusal) (compareTable s ds) (λ n. compared n 0 0 0) (difference 1 (owned s) ds) (comparison s ds)
+  pub on : (part configuration global s : ℕ)
+      → Answers askedNumber (onRows part configuration s) A.Refused (A.Is (isOn (partOf part) configuration global s)) (onAnswer part configuration global s)
+  pub lead : (part configuration global from w : ℕ)
+      → Answers leadNumber (leadRows part configuration from w) D.Refused (D.By (leadOf (partOf part) configuration global from w)) (leadAnswer part configuration global from w)
+  pub lit : (part configuration global value output s clock phase : ℕ)
+      → Answers askedNumber (litRows part configuration value output s clock phase) A.Refused (A.Is (isLit (partOf part) configuration global value output s clock))
+      (litAnswer part configuration global value output s clock phase)
+  pub deviceLit : (d : Device) (output s clock phase : ℕ)
+      → Answers askedNumber (deviceRows d output s clock phase) A.Refused (A.Is (isShown (d .registers) output s clock phase)) (deviceAnswer d output s clock phase)
+  pub arguments : (part devices : List ℕ)
+      → Answers argumentsNumber (askedRows (parsed part) (parsed devices)) B.Refused (B.Chain (valueOf (parsed part)) (valueOf (parsed devices))) (asked part devices)
 
 -- ---- demand 2: frames
 
@@ -71,56 +155,73 @@ ReadWritten =
     → length frame ≤ length out
     → WrittenAgain t tail frame (byteRead t tail frame bytes values) (bytesRead t tail frame bytes values) (valuesRead t tail frame bytes values) out
 
--- the writer accepts exactly what no number refuses; a refusal is the lowest number that applies, and the output stays as it was
-pub record Writes (t : Told) (tail : Tail) (byte : ℕ) (bytes values out : List ℕ) : Type 0 where
-  pub accepts : ((k : ℕ) → Applies k (writeTable t tail byte bytes values (length out)) → ⊥)
-      → written t tail byte bytes values (length out) ≡ W.Bytes (length (frameOf t tail (settings t byte bytes values)))
-  pub refuses : (n : ℕ) → written t tail byte bytes values (length out) ≡ W.Refused n
-      → Lowest n (writeTable t tail byte bytes values (length out)) × (writtenOut t tail byte bytes values out ≡ out)
+-- ---- demand 2: registers. The device that reads like document 01 is model/specs/Device; a record is seen as one by link/specs/View
 
--- the reader likewise, and both lent lists stay as they were
-pub record Reads (t : Told) (tail : Tail) (frame bytes values : List ℕ) : Type 0 where
-  pub accepts : ((k : ℕ) → Applies k (readTable t tail frame (length bytes) (length values)) → ⊥)
-      → read t tail frame (length bytes) (length values) ≡ found t (t .command) (heldFields t frame)
-  pub refuses : (n : ℕ) → read t tail frame (length bytes) (length values) ≡ Q.Refused n
-      → Lowest n (readTable t tail frame (length bytes) (length values))
-      × (readBytes t tail frame bytes (length values) ≡ bytes)
-      × (readValues t tail frame (length bytes) values ≡ values)
+-- one line state: a record that fits steps as the model's device does, and still fits
+abbrev pub StepModelled : Type 0
+StepModelled =
+    (d : Device) (s : ℕ)
+    → Arrays d
+    → fits d ≡ true
+    → ((deviceOf ((stepRecord d s) .0), map lineOf ((stepRecord d s) .1)) ≡ stepDevice (deviceOf d) (lineOf s)) × (fits ((stepRecord d s) .0) ≡ true)
 
--- the return reader likewise
-pub record ReadsReturn (part devices : ℕ) (c : Command) (tail : Tail) (frame : List ℕ) : Type 0 where
-  pub accepts : ((k : ℕ) → Applies k (returns.returnTable part devices c tail frame) → ⊥)
-      → returns.returned part devices c tail frame ≡ R.Count (returns.countOf (fields 8 frame))
-  pub refuses : (n : ℕ) → returns.returned part devices c tail frame ≡ R.Refused n → Lowest n (returns.returnTable part devices c tail frame)
-
--- accepted exactly: of any told frame, tail, values and lent lists
-abbrev pub AcceptedExactly : Type 0
-AcceptedExactly =
-    ((t : Told) (tail : Tail) (byte : ℕ) (bytes values out : List ℕ) → Writes t tail byte bytes values out)
-    × ((t : Told) (tail : Tail) (frame bytes values : List ℕ) → Reads t tail frame bytes values)
-    × ((part devices : ℕ) (c : Command) (tail : Tail) (frame : List ℕ) → ReadsReturn part devices c tail frame)
+-- a call: an accepted fresh, run, boundary or fault setting does to the records what it does to the model's devices, and a run returns the same
+abbrev pub CallModelled : Type 0
+CallModelled =
+    (ds : List Device) (c : Call)
+    → All Arrays ds
+    → refusalOf ds c ≡ 0
+    → _≡_ {A = List model.Device × List Line} (map deviceOf (after ds c), map lineOf (answered ds c)) (called (map deviceOf ds) c)
 
 -- ---- demand 3
 
--- the runs gave the set's restore, with any low clocks after it; then any fault settings, and a boundary: every device's registers in use
--- hold the values of its own slices
-abbrev pub Restored : Type 0
-Restored =
-    (p : ℕ) (records : List Device) (earlier during later : List Call) (s : Set) (gap : Command → List Bool) (tail : Command → Tail) (last : List Bool)
-    → Begun p records earlier during s tail
-    → fed (start p records earlier) during ≡ restoreStates s gap tail ++ map stateOf (lows last)
-    → Faults (afterCalls (start p records earlier) during) later
-    → Both Holds (owned s) (afterCalls (start p records earlier) (during ++ (later ++ boundary ∷ [])))
+-- any records, told to be a part's and made fresh, and any calls after that
+abbrev pub start : ℕ → List Device → List Call → List Device
+start p records earlier = afterCalls records (fresh p ∷ earlier)
 
--- while the first j frames come in, the runs write the first j returns into the lent room, and nothing else
-abbrev pub Returned : Type 0
-Returned =
-    (p : ℕ) (records : List Device) (earlier during : List Call) (s : Set) (gap : Command → List Bool) (tail : Command → Tail) (last : List Bool) (j : ℕ)
-    → Begun p records earlier during s tail
-    → fed (start p records earlier) during ≡ restorePart s gap tail j ++ map stateOf (lows last)
-    → dataBits (answers (start p records earlier) during) ≡ flatten (take j (returnsOf (start p records earlier) tail))
+-- the part told to the last accepted fresh of them
+abbrev pub startPart : ℕ → List Device → List Call → ℕ
+startPart p records earlier = partTold (after records (fresh p)) p earlier
 
--- what the runs write while the frame after the first j comes in, packed, is what the return reader accepts: it gives the flags' number
+-- the fresh was accepted; then a set for as many devices and the part told last, which the writer accepts, and the calls of a restore
+pub record Begun (p : ℕ) (records : List Device) (earlier during : List Call) (s : Set) (tail : Command → Tail) : Type 0 where
+  pub accepted : refusalOf records (fresh p) ≡ 0
+  pub writable : Writable s tail
+  pub devices : s .devices ≡ length records
+  pub part : s .part ≡ startPart p records earlier
+  pub runs : Runs (start p records earlier) during
+
+-- what holds of a chain `now`, as it stood before the restore, once the calls `during` gave the first k states of the set's restore
+pub record Outcome (now : List Device) (during : List Call) (s : Set) (gap : Command → List Bool) (tail : Command → Tail) (last : List Bool) (k : ℕ) : Type 0 where
+  -- all four frames were given; then fault settings, runs of low states and calls that change nothing, and a boundary: each device's
+  -- registers in use hold the values of its own slices
+  pub restored :
+      length (restoreStates s gap tail) ≤ k
+      → (later : List Call)
+      → Settles (afterCalls now during) later
+      → Both Holds (owned s) (afterCalls now (during ++ (later ++ boundary ∷ [])))
+  -- j frames were given, and of what follows them at most the clocks at low load: the runs wrote the first j returns, and nothing else
+  pub returned :
+      (j : ℕ)
+      → length (restorePart s gap tail j) ≤ k
+      → k ≤ length (restorePart s gap tail j) + length (gapAfter gap last j)
+      → dataBits (answers now during) ≡ flatten (take j (returnsOf tail (registersAll now)))
+  -- in each device, 1 to N, each group is new exactly where its slice had fully arrived
+  pub cut :
+      (device : ℕ) (o : Own)
+      → 1 ≤ device
+      → device ≤ s .devices
+      → CutFields (λ c. leb (arrival s gap tail c device) k) (getD (owned s) (device - 1) o) (registersAt now device) (registersAt (afterCalls now during) device)
+
+-- any records made fresh, any calls, then the calls of a restore, whose runs gave the first k states of it, for any k
+abbrev pub DemandThree : Type 0
+DemandThree =
+    (p : ℕ) (records : List Device) (earlier during : List Call) (s : Set) (gap : Command → List Bool) (tail : Command → Tail) (last : List Bool) (k : ℕ)
+    → Begun p records earlier during s tail
+    → fed (start p records earlier) during ≡ take k (restoreThen s gap tail last)
+    → Outcome (start p records earlier) during s gap tail last k
+
+-- what the runs write while the frame after the first j comes in, packed, is what the return reader accepts: it gives the number of flags up
 abbrev pub Counted : Type 0
 Counted =
     (p : ℕ) (records : List Device) (earlier former during : List Call) (s : Set) (gap : Command → List Bool) (tail : Command → Tail) (last : List Bool) (j : ℕ)
@@ -130,53 +231,55 @@ Counted =
     let now : List Device = afterCalls (start p records earlier) former in
     fed (start p records earlier) former ≡ restorePart s gap tail j
     → fed now during ≡ framePart s gap tail c ++ map stateOf (lows last)
-    → returns.returned (s .part) (s .devices) c (tail c) (bytesOf (dataBits (answers now during))) ≡ R.Count (flags c (start p records earlier))
+    → returns.returned (s .part) (s .devices) c (tail c) (bytesOf (dataBits (answers now during))) ≡ R.Count (faults c (registersAll (start p records earlier)))
 
--- the runs gave the first k states of the restore: in each device, 1 to N, each group is new exactly where its slice had fully arrived
-abbrev pub Cut : Type 0
-Cut =
-    (p : ℕ) (records : List Device) (earlier during : List Call) (s : Set) (gap : Command → List Bool) (tail : Command → Tail) (k device : ℕ) (o : Own)
-    → Begun p records earlier during s tail
-    → fed (start p records earlier) during ≡ take k (restoreStates s gap tail)
-    → 1 ≤ device
-    → device ≤ s .devices
-    → CutFields (λ c. leb (arrival s gap tail c device) k) (getD (owned s) (device - 1) o)
-    (getD (start p records earlier) (device - 1) blank .registers)
-    (getD (afterCalls (start p records earlier) during) (device - 1) blank .registers)
-
--- nothing above is empty: whatever was called since an accepted fresh, one run and a boundary restore any set for the chain
+-- nothing above is empty: whatever was called since an accepted fresh, one run of the restore of any set for the chain is accepted, meets the
+-- premises above, and with a boundary restores the set
 abbrev pub Restorable : Type 0
 Restorable =
     (p : ℕ) (records : List Device) (earlier : List Call) (s : Set) (gap : Command → List Bool) (tail : Command → Tail) (out : List ℕ)
-    → Begun p records earlier [] s tail
+    → refusalOf records (fresh p) ≡ 0
+    → Writable s tail
+    → s .devices ≡ length records
+    → s .part ≡ startPart p records earlier
     → roomFor (length (restoreStates s gap tail)) ≤ length out
     → let now : List Device = start p records earlier in
-    (refusalOf now (run (restoreStates s gap tail) out) ≡ 0) × Both Holds (owned s) (afterCalls now (run (restoreStates s gap tail) out ∷ boundary ∷ []))
+    let restore : Call = run (restoreStates s gap tail) out in
+    (refusalOf now restore ≡ 0)
+    × Begun p records earlier (restore ∷ []) s tail
+    × (fed now (restore ∷ []) ≡ restoreThen s gap tail [])
+    × Both Holds (owned s) (afterCalls now (restore ∷ boundary ∷ []))
 
 -- ---- the calls themselves
 
--- of any lent records, whose arrays have the length of their type: an accepted run of n states returns at most n + 23, and has that room
+-- of any lent records: an accepted run of n states returns at most n + 23, and has that room
 abbrev pub Room : Type 0
 Room =
     (ds : List Device) (ss out : List ℕ)
-    → All (λ d. length (d .registers .slice) ≡ 48) ds
     → refusalOf ds (run ss out) ≡ 0
     → (length (returned ds ss) ≤ roomFor (length ss)) × (roomFor (length ss) ≤ length out)
 
--- of any lent records: a call is refused with the lowest number that applies and then changes no record; it is accepted where none applies
-abbrev pub Judged : Type 0
-Judged =
-    (ds : List Device) (c : Call)
-    → ((refusalOf ds c ≡ 0 → ⊥) → Lowest (refusalOf ds c) (tableOf ds c) × (after ds c ≡ ds))
-    × (refusalOf ds c ≡ 0 → (n : ℕ) → Applies n (tableOf ds c) → ⊥)
-
--- after an accepted fresh and any calls, every record fits, and no call is refused for its records
+-- after an accepted fresh and any calls, there are as many records, each of the part told last, each fits, and no call is refused for them
 abbrev pub Kept : Type 0
 Kept =
     (p : ℕ) (records : List Device) (earlier : List Call) (c : Call)
     → refusalOf records (fresh p) ≡ 0
     → let now : List Device = start p records earlier in
-    (length now ≡ length records) × All (λ d. fits d ≡ true) now × (refusalOf now c ≡ first (ownTable (length now) c))
+    (length now ≡ length records)
+    × All (λ d. d .registers .part ≡ startPart p records earlier) now
+    × All (λ d. fits d ≡ true) now
+    × (refusalOf now c ≡ first (ownTable (length records) c))
+
+-- flags are inputs: after an accepted fresh and any calls, a device's flag of a kind is what the last accepted setting of it since the last
+-- accepted fresh gave, and 0 where there was none
+abbrev pub Flags : Type 0
+Flags =
+    (p : ℕ) (records : List Device) (earlier : List Call) (device kind : ℕ)
+    → refusalOf records (fresh p) ≡ 0
+    → 1 ≤ device
+    → device ≤ length records
+    → kind < 2
+    → flagIn (getD (start p records earlier) (device - 1) blank .registers) kind ≡ digit (flagTold (after records (fresh p)) device kind false earlier)
 
 -- ---- is it running?
 
@@ -196,13 +299,13 @@ HoldsSame =
     → Both Holds (owned s) ds
     → comparison s ds ≡ same
 
--- after a restore, any fault settings and a boundary: a comparison of that set and that chain is not refused, and says same
+-- after a restore, whatever settles and a boundary: a comparison of that set and that chain is not refused, and says same
 abbrev pub RestoredSame : Type 0
 RestoredSame =
     (p : ℕ) (records : List Device) (earlier during later : List Call) (s : Set) (gap : Command → List Bool) (tail : Command → Tail) (last : List Bool)
     → Begun p records earlier during s tail
-    → fed (start p records earlier) during ≡ restoreStates s gap tail ++ map stateOf (lows last)
-    → Faults (afterCalls (start p records earlier) during) later
+    → fed (start p records earlier) during ≡ restoreThen s gap tail last
+    → Settles (afterCalls (start p records earlier) during) later
     → comparison s (afterCalls (start p records earlier) (during ++ (later ++ boundary ∷ []))) ≡ same
 
 -- neither refused nor same: the first difference
@@ -225,9 +328,9 @@ FrameOn =
 -- the lead of every window lies strictly between -S and S
 abbrev pub WindowLead : Type 0
 WindowLead =
-    (part configuration global start length : ℕ)
-    → (negℤ (pos (subframes (partOf part) configuration)) <ℤ leadOf (partOf part) configuration global start length)
-    × (leadOf (partOf part) configuration global start length <ℤ pos (subframes (partOf part) configuration))
+    (part configuration global from w : ℕ)
+    → (negℤ (pos (subframes (partOf part) configuration)) <ℤ leadOf (partOf part) configuration global from w)
+    × (leadOf (partOf part) configuration global from w <ℤ pos (subframes (partOf part) configuration))
 
 -- in an ON subframe an output is lit in one run of clocks, from litFrom up to litTo, and at no other; in an OFF one never
 abbrev pub LitRun : Type 0
@@ -236,8 +339,8 @@ LitRun =
     → first (litRows part configuration value output subframe clock phase) ≡ 0
     → ((isOn (partOf part) configuration global subframe ≡ true)
     → litAnswer part configuration global value output subframe clock phase
-    ≡ Is (inRun (litFrom (partOf part) value (isEven output)) (litTo (partOf part) value (isEven output)) clock))
-    × ((isOn (partOf part) configuration global subframe ≡ false) → litAnswer part configuration global value output subframe clock phase ≡ Is false)
+    ≡ A.Is (inRun (litFrom (partOf part) value (isEven output)) (litTo (partOf part) value (isEven output)) clock))
+    × ((isOn (partOf part) configuration global subframe ≡ false) → litAnswer part configuration global value output subframe clock phase ≡ A.Is false)
 
 -- those clocks are as many as the value has outside the edge zones, for an even output and for an odd one, of any row
 abbrev pub LitCount : Type 0

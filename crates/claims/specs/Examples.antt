@@ -1,34 +1,47 @@
--- Document 01's lettered examples, a to k, as one list: frames (a to f, h), a return (g), light (i to k).
-use Prim.Native.Nat.{ℕ}
+-- Document 01's lettered examples, a to k, as one list in the order of their letters and with the paper's own numbers.
+use Prim.Native.Nat.{ℕ, zero, suc, _-_}
 use mathlib.Core.Path.{_≡_}
-use mathlib.Core.Bool.{true}
-use mathlib.Core.List.{List, [], _∷_, _++_, map}
+use mathlib.Core.Bool.{Bool, true, false, _&&_}
+use mathlib.Core.List.{List, [], _∷_, _++_}
+use lib.Dec.{leb}
+use lib.IntN.{ℤ, pos, negℤ}
+use lib.ListN.{length, replicate}
 use Rattle.bits.specs.Bits.{bits, fields, bytesOf}
+use Rattle.parts.specs.Parts.{partOf}
+use Rattle.parts.specs.Refusals.{first}
 use Rattle.parts.specs.Wire.{frame, statesOf}
-use Rattle.parts.specs.declared.command.Command.the-variants.{Calibration}
+use Rattle.parts.specs.declared.command.Command.{Command}
+use Rattle.parts.specs.declared.command.Command.the-variants.{Individual, Calibration, Global, Configuration}
 use Rattle.line.specs.States.{dataBits}
-use Rattle.frame_laws.specs.Examples as frames
+use Rattle.frames.specs.Writing.{written, writtenOut}
+use Rattle.frames.specs.Reading.{readRefusal}
+use Rattle.frames.specs.declared.told.Told.{Told}
+use Rattle.frames.specs.declared.told.Tail.{Tail}
+use Rattle.frames.specs.declared.told.Written.the-variants as W
 use Rattle.device.specs.Step.{faulted, freshDevice}
 use Rattle.device.specs.declared.device.Device.{Device}
 use Rattle.calls.specs.Calls.{returned}
-use Rattle.schedule.proofs.Examples as light
+use Rattle.schedule.specs.Light.{isEven, isOn}
+use Rattle.schedule.specs.Answers.{litRows, onAnswer, leadAnswer, litAnswer}
+use Rattle.schedule.specs.declared.answer.Asked.the-variants.{Is}
+use Rattle.schedule.specs.declared.answer.Lead.the-variants.{By}
 
--- an example: a frame that is written and read, or refused; a chain, the states it is given and the bytes it returns; light
-pub data Example : Type 0 where
-  wire : frames.Example → Example
-  return : List Device → List ℕ → List ℕ → Example
-  lights : light.Example → Example
+-- what a frame is told by, at configuration 0
+abbrev told : ℕ → ℕ → Command → Told
+told part devices command = record { part = part; devices = devices; command = command; configuration = 0 }
 
--- what an example says
-abbrev pub Says : Example → Type 0
-Says (wire e) = frames.right e ≡ true
-Says (return ds states bytes) = bytesOf (dataBits (returned ds states)) ≡ bytes
-Says (lights e) = light.Holds e
+-- a tail: a number in so many bits
+abbrev tail : ℕ → ℕ → Tail
+tail number long = record { number = number; length = long }
 
--- each of a list
-abbrev pub Each : List Example → Type 0
-Each [] = Unit {0}
-Each (e ∷ es) = Says e × Each es
+-- no tail
+abbrev none : Tail
+none = tail 0 0
+
+-- a list again and again
+abbrev times : ℕ → List ℕ → List ℕ
+times zero xs = []
+times (suc n) xs = xs ++ times n xs
 
 -- three 6974 devices, of which the first and the last have open LEDs
 abbrev pub threeDevices : List Device
@@ -36,10 +49,84 @@ threeDevices = faulted (freshDevice 6974) 1 1 ∷ freshDevice 6974 ∷ faulted (
 
 -- a calibration frame for them with the tail 0xA5 in 8 bits
 unfoldable pub threeStates : List ℕ
-threeStates = statesOf (frame Calibration 0 (fields 8 (0xA9 ∷ 0x10 ∷ 0x01 ∷ 0xA9 ∷ 0x10 ∷ 0x01 ∷ 0xA9 ∷ 0x10 ∷ 0x01 ∷ [])) (bits 8 0xA5))
+threeStates = statesOf (frame Calibration 0 (fields 8 (times 3 (0xA9 ∷ 0x10 ∷ 0x01 ∷ []))) (bits 8 0xA5))
 
--- a to f and h, g, i to k
-abbrev pub examples : List Example
+-- ---- what an example says
+
+pub data Example : Type 0 where
+  -- from a byte, bytes and values the writer writes this frame, and the reader accepts it
+  sends : Told → Tail → ℕ → List ℕ → List ℕ → List ℕ → Example
+  -- the reader refuses this frame with a number
+  refuses : Told → Tail → List ℕ → ℕ → Example
+  -- a chain that is given these states returns these bytes
+  returns : List Device → List ℕ → List ℕ → Example
+  -- of a part at configuration 0 and a global byte, a subframe is ON or off
+  subframe : ℕ → ℕ → ℕ → Bool → Example
+  -- the lead of the subframes from one to another, both included
+  lead : ℕ → ℕ → ℕ → ℕ → ℤ → Example
+  -- an output of a part, by its value and whether it is even, is lit from one clock to another, both included, and at no other
+  lit : ℕ → ℕ → Bool → ℕ → ℕ → Example
+  -- is lit at no clock
+  dark : ℕ → ℕ → Bool → Example
+
+-- what is answered of every output of a parity with a value, at every clock of every ON subframe, in every phase that there is
+abbrev pub Lights : ℕ → ℕ → Bool → (ℕ → Bool) → Type 0
+Lights part value even said =
+    (configuration global output s clock phase : ℕ)
+    → first (litRows part configuration value output s clock phase) ≡ 0
+    → isOn (partOf part) configuration global s ≡ true
+    → isEven output ≡ even
+    → litAnswer part configuration global value output s clock phase ≡ Is (said clock)
+
+-- the lent lists have room for one device
+abbrev pub Says : Example → Type 0
+Says (sends t tail byte bytes values bs) =
+    (written t tail byte bytes values (length bs) ≡ W.Bytes (length bs))
+    × (writtenOut t tail byte bytes values (replicate (length bs) 0) ≡ bs)
+    × (readRefusal t tail bs 3 24 ≡ 0)
+Says (refuses t tail bs n) = readRefusal t tail bs 3 24 ≡ n
+Says (returns ds states bs) = bytesOf (dataBits (returned ds states)) ≡ bs
+Says (subframe part global s b) = onAnswer part 0 global s ≡ Is b
+Says (lead part global from to z) = leadAnswer part 0 global from (suc to - from) ≡ By z
+Says (lit part value even from to) = Lights part value even (λ clock. leb from clock && leb clock to)
+Says (dark part value even) = Lights part value even (λ clock. false)
+
+-- all that stands under one letter
+abbrev pub All-say : List Example → Type 0
+All-say [] = Unit {0}
+All-say (e ∷ es) = Says e × All-say es
+
+-- ---- the list
+
+pub data Letter : Type 0 where
+  a b c d e f g h i j k : Letter
+
+infix 10 _says_
+pub data Lettered : Type 0 where
+  _says_ : Letter → List Example → Lettered
+
+-- each of a list holds
+abbrev pub Each : List Lettered → Type 0
+Each [] = Unit {0}
+Each ((letter says es) ∷ rest) = All-say es × Each rest
+
+-- a to k
+abbrev pub examples : List Lettered
 examples =
-    map wire frames.frames
-    ++ (return threeDevices threeStates (0xE8 ∷ 0x54 ∷ 0x02 ∷ 0xA5 ∷ []) ∷ map lights light.examples)
+    (a says sends (told 6974 1 Configuration) none 0x00 [] [] (0xE8 ∷ 0xFC ∷ 0x00 ∷ 0x00 ∷ 0x00 ∷ 0x00 ∷ []) ∷ [])
+    ∷ (b says sends (told 6974 2 Configuration) none 0x01 [] [] (0xE8 ∷ 0xFC ∷ 0x00 ∷ 0x01 ∷ 0x01 ∷ 0x01 ∷ 0x01 ∷ 0x01 ∷ 0x01 ∷ []) ∷ [])
+    ∷ (c says sends (told 6974 1 Calibration) none 0 (0xA9 ∷ 0x10 ∷ 0x01 ∷ []) [] (0xE8 ∷ 0x54 ∷ 0x00 ∷ 0xA9 ∷ 0x10 ∷ 0x01 ∷ []) ∷ [])
+    ∷ (d says sends (told 6974 1 Global) none 96 [] [] (0xE8 ∷ 0xA8 ∷ 0x00 ∷ 0x60 ∷ 0x60 ∷ 0x60 ∷ []) ∷ [])
+    ∷ (e says sends (told 6974 1 Individual) none 0 [] (replicate 24 2560) (0xE8 ∷ 0x00 ∷ 0x00 ∷ times 12 (0xA0 ∷ 0x0A ∷ 0x00 ∷ [])) ∷ [])
+    ∷ (f says sends (told 6975 1 Individual) none 0 [] (replicate 24 1)
+    (0xE8 ∷ 0x00 ∷ 0x00 ∷ times 6 (0x00 ∷ 0x04 ∷ 0x00 ∷ 0x10 ∷ 0x00 ∷ 0x40 ∷ 0x01 ∷ [])) ∷ [])
+    ∷ (g says returns threeDevices threeStates (0xE8 ∷ 0x54 ∷ 0x02 ∷ 0xA5 ∷ []) ∷ [])
+    ∷ (h says sends (told 6974 1 Configuration) (tail 0b101 3) 0x00 [] [] (0xE8 ∷ 0xFC ∷ 0x00 ∷ 0x00 ∷ 0x00 ∷ 0x00 ∷ 0xA0 ∷ [])
+    ∷ refuses (told 6974 1 Configuration) (tail 0b101 3) (0xE8 ∷ 0xFC ∷ 0x00 ∷ 0x00 ∷ 0x00 ∷ 0x00 ∷ 0xA1 ∷ []) 11 ∷ [])
+    ∷ (i says subframe 6974 96 0 false
+    ∷ subframe 6974 96 1 true ∷ subframe 6974 96 2 true ∷ subframe 6974 96 3 true
+    ∷ subframe 6974 96 4 false
+    ∷ lead 6974 96 0 0 (negℤ (pos 97)) ∷ lead 6974 96 1 3 (pos 93) ∷ [])
+    ∷ (j says lit 6974 2560 true 16 2559 ∷ lit 6974 2560 false 1536 4079 ∷ [])
+    ∷ (k says dark 6975 32 true ∷ dark 6975 32 false ∷ lit 6975 33 true 32 32 ∷ lit 6975 33 false 16351 16351 ∷ [])
+    ∷ []

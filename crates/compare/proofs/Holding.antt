@@ -17,10 +17,10 @@ use Rattle.model.specs.Device.{multiplexed, evens, odds}
 use Rattle.model.specs.Lists.{All}
 use Rattle.model.specs.Restore.{InUse}
 use Rattle.model.specs.Set.{Own, deal}
-use Rattle.link.specs.Records.{Holds}
+use Rattle.link.specs.View.{Arrays, Holds}
 use Rattle.compare.specs.declared.compared.Compared.{Compared}
 use Rattle.compare.specs.Compare.{differsAt, inTurns, activeValues, Pair, _against_, groups, inGroups, compared, same}
-use Rattle.compare.specs.Differences.{Arrays, ofSet, ofDevice}
+use Rattle.compare.specs.Differences.{ofSet, ofDevice}
 use Rattle.compare.proofs.Lists.{differs-refl, differs-equal, length-inTurns, evens-inTurns, odds-inTurns, inTurns-halves}
 use Rattle.compare.proofs.Groups.{group-same, byte-same, no-group}
 

@@ -8,15 +8,9 @@ use Rattle.device.specs.declared.device.Device.{Device}
 use Rattle.calls.specs.Chain.{blank}
 use Rattle.model.specs.Lists.{All, Both}
 use Rattle.model.specs.Set.{Own}
-use Rattle.link.specs.Records.{Holds}
+use Rattle.link.specs.View.{Holds}
 use Rattle.compare.specs.declared.compared.Compared.{Compared}
 use Rattle.compare.specs.Compare.{Pair, _against_, groups}
-
--- a record's arrays have their lengths, as in every record that is lent
-pub record Arrays (d : Device) : Type 0 where
-  pub calibration : length (d .registers .calibration) ≡ 3
-  pub active0 : length (d .registers .active0) ≡ 24
-  pub active1 : length (d .registers .active1) ≡ 24
 
 -- the two sides of what is compared
 abbrev pub ofSet : Pair → List ℕ

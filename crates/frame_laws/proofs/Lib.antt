@@ -1,9 +1,7 @@
 -- What a user of `frames` may rely on, and how it is shown.
 pub mod Packed
 pub mod Frame
-pub mod Refusals
 pub mod Configuration
 pub mod RoundTrip
 pub mod Slices
 pub mod Returns
-pub mod Examples

@@ -1,4 +1,3 @@
 -- What the theorems on frames are stated with.
 pub mod RoundTrip
 pub mod Slices
-pub mod Examples

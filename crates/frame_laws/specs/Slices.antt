@@ -1,4 +1,4 @@
--- The fields of a frame by device: N lists of k, and each list as a slice of bits.
+-- Inside: the fields of a frame by device: N lists of k, and each list as a slice of bits.
 use Prim.Native.Nat.{ℕ, zero, suc}
 use mathlib.Core.Bool.{Bool}
 use mathlib.Core.List.{List, [], _∷_, _++_}

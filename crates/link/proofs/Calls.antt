@@ -1,5 +1,5 @@
 -- Calls on records: a chain that was made fresh stays one that no call is refused for, whatever is called (`whole-calls`); a boundary of the
--- records is a boundary of the model; calls that are runs or are refused are one run of what they were given (`ran`). By induction on the
+-- records is a boundary of the model; the calls of a restore are one run of what they were given (`ran`). By induction on the
 -- calls. Assumes nothing.
 use mathlib.Core.Path.{_≡_, refl, sym, ap, _∙_, subst}
 use mathlib.Core.Bool.{Bool, true, false, cond, _&&_}
@@ -15,7 +15,7 @@ use Rattle.parts.specs.Lists.{allBelow}
 use Rattle.parts.specs.Parts.{known}
 use Rattle.parts.specs.Refusals.{first, content}
 use Rattle.parts.proofs.Rows.{clear}
-use Rattle.device.specs.Held.{activated}
+use Rattle.device.specs.Held.{showing, activated}
 use Rattle.device.specs.Phases.{phaseOf}
 use Rattle.device.specs.Step.{freshDevice, bounded, faulted}
 use Rattle.device.specs.Judgement.{fits}
@@ -27,26 +27,21 @@ use Rattle.device.proofs.Places.{and-both, cond-both}
 use Rattle.device.proofs.Kept.{kept-bounded, kept-faulted, kept-fresh}
 use Rattle.calls.specs.Chain.{every, hasPart, allKnown, sameParts, allFit, isCount, blank}
 use Rattle.calls.specs.Calls.{freshTable, freshRefusal, freshDevices, runRefusal, runDevices, returned, boundaryRefusal, boundaryDevices, faultRefusal, faultDevices}
-use Rattle.calls.specs.History.{Call, fresh, run, boundary, fault, refusalOf, after, afterCalls, given, answered, fed, answers, RunOrRefused, Runs}
+use Rattle.calls.specs.History.{Call, fresh, run, boundary, fault, refusalOf, effect, after, afterCalls, given, answered, fed, answers, Keeps, RunOrKeeps, Runs, FaultOrLow, Settles}
+use Rattle.calls.specs.Told.{partBy, partTold, ownTable}
 use Rattle.model.specs.Lists.{All}
 use Rattle.model.specs.Run.{chain}
 use Rattle.model.specs.Run as machine
 use Rattle.model.specs.Device as model
 use Rattle.model.proofs.Lists.{All-replicate}
 use Rattle.model.proofs.Run.{chain-append, chain-nil, chain-holds}
-use Rattle.link.specs.Records.{ownTable}
-use Rattle.link.proofs.View.{phaseIn, deviceOf, stepRecord, Sound}
+use Rattle.link.specs.View.{phaseIn, deviceOf, stepRecord}
+use Rattle.link.proofs.View.{Sound}
 use Rattle.link.proofs.Device.{step-part, through-same, chain-keep}
 
 -- ---- what an accepted call leaves
 
-abbrev pub effect : List Device → Call → List Device
-effect ds (fresh part) = freshDevices part ds
-effect ds (run ss out) = runDevices ds ss
-effect ds boundary = boundaryDevices ds
-effect ds (fault device kind flag) = faultDevices ds device kind flag
-
-after-effect : (ds : List Device) (c : Call) → after ds c ≡ content (refusalOf ds c) ds (effect ds c)
+pub after-effect : (ds : List Device) (c : Call) → after ds c ≡ content (refusalOf ds c) ds (effect ds c)
 unfolding after refusalOf
 after-effect ds (fresh part) = refl
 after-effect ds (run ss out) = refl
@@ -95,14 +90,18 @@ own-refusal p ds (fault device kind flag) w =
 
 -- ---- a boundary of the records is a boundary of the model
 
--- a change of registers that leaves part, configuration and slice leaves the phase
+-- a change of flags and active values leaves the phase
+pub showing-phase : (r : Registers) (overtemperature openled active : ℕ) (active0 active1 : List ℕ) (p : Phase)
+    → phaseIn (showing r overtemperature openled active active0 active1) p ≡ phaseIn r p
+showing-phase r overtemperature openled active active0 active1 (Hunting w) = refl
+showing-phase r overtemperature openled active active0 active1 (Opening read) = refl
+showing-phase r overtemperature openled active active0 active1 (Counting c read) = refl
+showing-phase r overtemperature openled active active0 active1 (Slice c n t) = refl
+showing-phase r overtemperature openled active active0 active1 Passing = refl
+showing-phase r overtemperature openled active active0 active1 Lost = refl
+
 activated-phase : (r : Registers) (p : Phase) → phaseIn (activated r) p ≡ phaseIn r p
-activated-phase r (Hunting w) = refl
-activated-phase r (Opening read) = refl
-activated-phase r (Counting c read) = refl
-activated-phase r (Slice c n t) = refl
-activated-phase r Passing = refl
-activated-phase r Lost = refl
+activated-phase r p = showing-phase r (r .overtemperature) (r .openled) (r .waiting) (r .waiting0) (r .waiting1) p
 
 pub boundary-same : (ds : List Device) → map deviceOf (boundaryDevices ds) ≡ model.boundary (map deviceOf ds)
 unfolding model.boundary deviceOf model.activated
@@ -146,15 +145,8 @@ unfolding chain
 length-chain [] ss = refl
 length-chain (d ∷ ds) ss = ap suc (length-chain ds ((machine.run stepRecord d ss) .1))
 
-run-devices : (ds : List Device) (ss : List ℕ) → runDevices ds ss ≡ (chain stepRecord ds ss) .0
+pub run-devices : (ds : List Device) (ss : List ℕ) → runDevices ds ss ≡ (chain stepRecord ds ss) .0
 run-devices ds ss = ap (λ (x : List Device × List ℕ). x .0) (through-same ds ss)
-
--- the part that stands after a call
-abbrev pub partBy : List Device → ℕ → Call → ℕ
-partBy ds p (fresh q) = cond (eqb (refusalOf ds (fresh q)) 0) q p
-partBy ds p (run ss out) = p
-partBy ds p boundary = p
-partBy ds p (fault device kind flag) = p
 
 pub whole-fresh : (q : ℕ) (ds : List Device) → refusalOf ds (fresh q) ≡ 0 → Whole q (freshDevices q ds)
 unfolding refusalOf freshRefusal
@@ -202,12 +194,8 @@ whole-after p ds c w = rw (after-effect ds c) (go (eqb (refusalOf ds c) 0) refl)
     go true e = whole-effect p ds c w (eqb-true (refusalOf ds c) 0 e)
     go false e = rw (refused-part ds p c (eqb-false (refusalOf ds c) 0 e)) w
 
-unfoldable pub partAfter : List Device → ℕ → List Call → ℕ
-partAfter ds p [] = p
-partAfter ds p (c ∷ cs) = partAfter (after ds c) (partBy ds p c) cs
-
-pub whole-calls : (p : ℕ) (ds : List Device) (cs : List Call) → Whole p ds → Whole (partAfter ds p cs) (afterCalls ds cs)
-unfolding afterCalls partAfter
+pub whole-calls : (p : ℕ) (ds : List Device) (cs : List Call) → Whole p ds → Whole (partTold ds p cs) (afterCalls ds cs)
+unfolding afterCalls partTold
 whole-calls p ds [] w = w
 whole-calls p ds (c ∷ cs) w = whole-calls (partBy ds p c) (after ds c) cs (whole-after p ds c w)
 
@@ -221,7 +209,7 @@ length-effect ds (run ss out) = ap (λ (es : List Device). length es) (run-devic
 length-effect ds boundary = length-map ds bounded
 length-effect ds (fault device kind flag) = length-set ds (device - 1) _
 
-length-after : (ds : List Device) (c : Call) → length (after ds c) ≡ length ds
+pub length-after : (ds : List Device) (c : Call) → length (after ds c) ≡ length ds
 length-after ds c = rw (after-effect ds c) (cond-both (λ (es : List Device). length es ≡ length ds) (eqb (refusalOf ds c) 0) _ _ (λ _. length-effect ds c) (λ _. refl))
 
 pub length-afterCalls : (ds : List Device) (cs : List Call) → length (afterCalls ds cs) ≡ length ds
@@ -229,29 +217,61 @@ unfolding afterCalls
 length-afterCalls ds [] = refl
 length-afterCalls ds (c ∷ cs) = length-afterCalls (after ds c) cs ∙ length-after ds c
 
--- ---- runs, and calls that are refused
+-- ---- runs, and calls that leave the records as they are
 
-pub refused-after : (ds : List Device) (c : Call) → (refusalOf ds c ≡ 0 → ⊥) → after ds c ≡ ds
+pub refused-after : (ds : List Device) (c : Call) → (refusalOf ds c ≡ 0 → ⊥) → Keeps ds c
 refused-after ds c h = rw (after-effect ds c, ne-eqb (refusalOf ds c) 0 h)
 
-run-one : (ds : List Device) (c : Call) → RunOrRefused ds c → _≡_ {A = List Device × List ℕ} (after ds c, answered ds c) (chain stepRecord ds (given ds c))
+-- a run, accepted or refused, is a run of what it was given
+pub ran-one : (ds : List Device) (ss out : List ℕ)
+    → _≡_ {A = List Device × List ℕ} (after ds (run ss out), answered ds (run ss out)) (chain stepRecord ds (given ds (run ss out)))
 unfolding after
-run-one ds (fresh p) h = rw (refused-after ds (fresh p) h, chain-nil stepRecord ds)
-run-one ds (run ss out) h = go (eqb (runRefusal ds ss (length out)) 0) refl
+ran-one ds ss out = go (eqb (runRefusal ds ss (length out)) 0) refl
   where
     go : (b : Bool) → eqb (runRefusal ds ss (length out)) 0 ≡ b
         → _≡_ {A = List Device × List ℕ} (cond b (runDevices ds ss) ds, cond b (take (length (returned ds ss)) (cond b (over (returned ds ss) out) out)) [])
         (chain stepRecord ds (cond b ss []))
     go true e = rw (take-over (returned ds ss) out, through-same ds ss)
     go false e = rw (chain-nil stepRecord ds)
-run-one ds boundary h = rw (refused-after ds boundary h, chain-nil stepRecord ds)
-run-one ds (fault device kind flag) h = rw (refused-after ds (fault device kind flag) h, chain-nil stepRecord ds)
+
+run-one : (ds : List Device) (c : Call) → RunOrKeeps ds c → _≡_ {A = List Device × List ℕ} (after ds c, answered ds c) (chain stepRecord ds (given ds c))
+run-one ds (fresh p) h = rw (h, chain-nil stepRecord ds)
+run-one ds (run ss out) h = ran-one ds ss out
+run-one ds boundary h = rw (h, chain-nil stepRecord ds)
+run-one ds (fault device kind flag) h = rw (h, chain-nil stepRecord ds)
 
 -- the calls of a restore are one run of what they were given
 pub ran : (ds : List Device) (cs : List Call) → Runs ds cs → _≡_ {A = List Device × List ℕ} (afterCalls ds cs, answers ds cs) (chain stepRecord ds (fed ds cs))
 unfolding afterCalls answers fed
 ran ds [] r = rw (chain-nil stepRecord ds)
 ran ds (c ∷ cs) r = rw (chain-append stepRecord ds (given ds c) (fed (after ds c) cs), ← run-one ds c (r .0), ← ran (after ds c) cs (r .1))
+
+-- during a restore and after it the part stays, and with it all that no call is refused for
+whole-ran : (p : ℕ) (ds : List Device) (c : Call) → Whole p ds → RunOrKeeps ds c → Whole p (after ds c)
+whole-ran p ds (fresh q) w r = rw r w
+whole-ran p ds (run ss out) w r = whole-after p ds (run ss out) w
+whole-ran p ds boundary w r = rw r w
+whole-ran p ds (fault device kind flag) w r = rw r w
+
+pub whole-runs : (p : ℕ) (ds : List Device) (cs : List Call) → Whole p ds → Runs ds cs → Whole p (afterCalls ds cs)
+unfolding afterCalls
+whole-runs p ds [] w r = w
+whole-runs p ds (c ∷ cs) w r = whole-runs p (after ds c) cs (whole-ran p ds c w (r .0)) (r .1)
+
+pub whole-settled : (p : ℕ) (ds : List Device) (c : Call) → Whole p ds → FaultOrLow ds c → Whole p (after ds c)
+whole-settled p ds (fresh q) w r = rw r w
+whole-settled p ds (run ss out) w r = whole-after p ds (run ss out) w
+whole-settled p ds boundary w r = rw r w
+whole-settled p ds (fault device kind flag) w r = whole-after p ds (fault device kind flag) w
+
+pub whole-settles : (p : ℕ) (ds : List Device) (cs : List Call) → Whole p ds → Settles ds cs → Whole p (afterCalls ds cs)
+unfolding afterCalls
+whole-settles p ds [] w r = w
+whole-settles p ds (c ∷ cs) w r = whole-settles p (after ds c) cs (whole-settled p ds c w (r .0)) (r .1)
+
+pub whole-boundary : (p : ℕ) (ds : List Device) → Whole p ds → Whole p (afterCalls ds (boundary ∷ []))
+unfolding afterCalls
+whole-boundary p ds w = whole-after p ds boundary w
 
 pub calls-append : (ds : List Device) (cs es : List Call) → afterCalls ds (cs ++ es) ≡ afterCalls (afterCalls ds cs) es
 unfolding afterCalls

@@ -14,7 +14,7 @@ use Rattle.parts.specs.Wire.{low, high, lineOf, header}
 use Rattle.parts.specs.declared.command.Command.{Command}
 use Rattle.parts.specs.declared.command.Command.the-variants.{Individual, Calibration, Global, Configuration}
 use Rattle.device.specs.Phases.{phaseOf, windowOf, heard, rising, opened, opening, counting}
-use Rattle.device.specs.Held.{took, stored, copies}
+use Rattle.device.specs.Held.{holding, took, stored, copies}
 use Rattle.device.specs.Step.{moved, sliceLength, step, stepHigh}
 use Rattle.device.specs.Judgement.{placeFits, fits}
 use Rattle.device.specs.Run as records
@@ -33,7 +33,8 @@ use Rattle.model.specs.Device.{slice, stepDevice}
 use Rattle.model.specs.Device as model
 use Rattle.model.proofs.Run.{chain-view, chain-holds}
 use Rattle.link.proofs.Numbers.{digit-bit}
-use Rattle.link.proofs.View.{phaseIn, viewed, deviceOf, stepRecord, Sound, seen, seen-sending}
+use Rattle.link.specs.View.{phaseIn, viewed, deviceOf, stepRecord}
+use Rattle.link.proofs.View.{Sound, seen, seen-sending}
 use Rattle.link.proofs.Header.{rising-same, opening-same, counting-same}
 use Rattle.link.proofs.Slice.{slice-same}
 
@@ -143,26 +144,37 @@ keep d s o = record {
   slots = cond-both Slots (ltb s 2) _ _ (λ _. o .slots) (λ _. high-slots (d .registers) (phaseOf (d .place)) s (o .slots));
 }
 
--- no step changes a record's part
-stored-part : (r : Registers) (c : Command) → (stored r c) .part ≡ r .part
-stored-part r Individual = cond-both (λ (q : Registers). q .part ≡ r .part) (eqb (multiplex (r .configuration)) 0) _ _ (λ _. refl) (λ _. refl)
-stored-part r Calibration = refl
-stored-part r Global = cond-both (λ (q : Registers). q .part ≡ r .part) (copies (r .slice)) _ _ (λ _. refl) (λ _. refl)
-stored-part r Configuration = cond-both (λ (q : Registers). q .part ≡ r .part) (copies (r .slice)) _ _ (λ _. refl) (λ _. refl)
+-- ---- what no slice touches, no step changes
 
-high-part : (r : Registers) (p : Phase) (s : ℕ) → (stepHigh r p s) .device .registers .part ≡ r .part
-high-part r (Hunting w) s = refl
-high-part r (Opening read) s = refl
-high-part r (Counting c read) s = refl
-high-part r (Slice c n t) s =
-    cond-both (λ (x : Stepped). x .device .registers .part ≡ r .part) (ltb (t + 1) (sliceLength r c)) _ _ (λ _. refl)
-    (λ _. stored-part (took r (t / fieldWidth (partOf (r .part)) c) (s % 2) (fieldLimit (partOf (r .part)) c)) c)
-high-part r Passing s = refl
-high-part r Lost s = refl
+module _ {A : Type 0} (f : Registers → A)
+    (untouched : (r : Registers) (configuration : ℕ) (calibration : List ℕ) (waiting : ℕ) (waiting0 waiting1 slots : List ℕ)
+    → f (holding r configuration calibration waiting waiting0 waiting1 slots) ≡ f r) where
+  abbrev Same : Registers → Registers → Type 0
+  Same r q = f q ≡ f r
+
+  stored-keeps : (r : Registers) (c : Command) → Same r (stored r c)
+  stored-keeps r Individual = cond-both (Same r) (eqb (multiplex (r .configuration)) 0) _ _ (λ _. untouched r _ _ _ _ _ _) (λ _. untouched r _ _ _ _ _ _)
+  stored-keeps r Calibration = untouched r _ _ _ _ _ _
+  stored-keeps r Global = cond-both (Same r) (copies (r .slice)) _ _ (λ _. untouched r _ _ _ _ _ _) (λ _. refl)
+  stored-keeps r Configuration = cond-both (Same r) (copies (r .slice)) _ _ (λ _. untouched r _ _ _ _ _ _) (λ _. refl)
+
+  high-keeps : (r : Registers) (p : Phase) (s : ℕ) → Same r ((stepHigh r p s) .device .registers)
+  high-keeps r (Hunting w) s = refl
+  high-keeps r (Opening read) s = refl
+  high-keeps r (Counting c read) s = refl
+  high-keeps r (Slice c n t) s =
+      let q : Registers = took r (t / fieldWidth (partOf (r .part)) c) (s % 2) (fieldLimit (partOf (r .part)) c) in
+      let k : Same r q = untouched r _ _ _ _ _ _ in
+      cond-both (λ (x : Stepped). Same r (x .device .registers)) (ltb (t + 1) (sliceLength r c)) _ _ (λ _. k) (λ _. stored-keeps q c ∙ k)
+  high-keeps r Passing s = refl
+  high-keeps r Lost s = refl
+
+  pub step-keeps : (d : Device) (s : ℕ) → f ((stepRecord d s) .0 .registers) ≡ f (d .registers)
+  unfolding stepRecord
+  step-keeps d s = cond-both (λ (x : Stepped). Same (d .registers) (x .device .registers)) (ltb s 2) _ _ (λ _. refl) (λ _. high-keeps (d .registers) (phaseOf (d .place)) s)
 
 pub step-part : (d : Device) (s : ℕ) → (stepRecord d s) .0 .registers .part ≡ d .registers .part
-unfolding stepRecord
-step-part d s = cond-both (λ (x : Stepped). x .device .registers .part ≡ d .registers .part) (ltb s 2) _ _ (λ _. refl) (λ _. high-part (d .registers) (phaseOf (d .place)) s)
+step-part d s = step-keeps (λ r. r .part) (λ r configuration calibration waiting waiting0 waiting1 slots. refl) d s
 
 -- ---- chains of records
 

@@ -1,12 +1,12 @@
 -- The frames that the writer writes from a set are the model's frames of each device's slices, state for state: the bytes hold the bits of
--- the frame, the fields of the frame are those of the slices. So a restore, its parts and the arrival of a slice are the model's; and a
--- set whose frames the writer accepts is proper. Assumes nothing.
+-- the frame, the fields of the frame are those of the slices. So a restore and its parts are the model's; and a set whose frames the writer
+-- accepts is proper. Assumes nothing.
 use mathlib.Core.Path.{_≡_, refl, sym, ap, ap₂, _∙_}
 use mathlib.Core.Bool.{Bool, true, false}
 use mathlib.Core.List.{List, [], _∷_, _++_, map, flatten, map-append}
-use Prim.Native.Nat.{ℕ, suc, _-_, _%_, _<_}
+use Prim.Native.Nat.{ℕ, _-_, _%_, _<_}
 use native.Mathlib.Omega.{arith}
-use lib.ListN.{length, take, length-map, replicate}
+use lib.ListN.{length, take, replicate}
 use lib.Seq.{take-at}
 use borrow.Author.Tests.{ltb-true, eqb-true, not-false}
 use Rattle.bits.specs.Bits.{fields, bytesOf, padded}
@@ -31,8 +31,8 @@ use Rattle.model.specs.Set.{Set, Proper, owned, sliceOf, frameFields}
 use Rattle.model.specs.Restore.{restoreOrder, Piece, pieceStates, pieceOf, piecesOf}
 use Rattle.model.specs.Restore as model
 use Rattle.model.proofs.Lists.{take-map}
-use Rattle.model.proofs.Set.{fields-slices, length-owned-slices}
-use Rattle.link.specs.Restore.{told, byteOf, written, Writable, frameSize, framePart, restorePart, restoreStates, before, arrival}
+use Rattle.model.proofs.Set.{fields-slices}
+use Rattle.link.specs.Restore.{told, byteOf, written, Writable, frameSize, framePart, restorePart, restoreStates}
 
 all-below : (m : ℕ) (xs : List ℕ) → allBelow xs m ≡ true → All (λ v. v < m) xs
 all-below m [] h = tt
@@ -106,15 +106,3 @@ module _ (s : Set) (tail : Command → Tail) (w : Writable s tail) where
         ap (λ (l : List (List ℕ)). flatten l) (take-map (framePart s gap tail) j restoreOrder)
         ∙ parts-states (take j restoreOrder)
         ∙ ap (λ (l : List Piece). map stateOf (flatten (map pieceStates l))) (sym (take-map piece j restoreOrder))
-
-    length-part : (c : Command) → length (framePart s gap tail c) ≡ length (pieceStates (piece c))
-    length-part c = ap (λ (l : List ℕ). length l) (part-states c) ∙ length-map (pieceStates (piece c)) stateOf
-
-    before-same : (c : Command) → before s gap tail c ≡ model.before (partOf (s .part)) (owned s) gap tails c
-    before-same Configuration = refl
-    before-same Calibration = length-part Configuration
-    before-same Global = rw (length-part Configuration, length-part Calibration)
-    before-same Individual = rw (length-part Configuration, length-part Calibration, length-part Global)
-
-    pub arrival-same : (c : Command) (i : ℕ) → i < s .devices → arrival s gap tail c (suc i) ≡ model.arrival (partOf (s .part)) (owned s) gap tails c i
-    arrival-same c i l = rw (before-same c, ← length-owned-slices s writable-proper c (suc i) l)

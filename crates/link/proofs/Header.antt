@@ -25,8 +25,10 @@ use Rattle.device.specs.declared.registers.Registers.{Registers}
 use Rattle.device.proofs.Fields.{field-width-pos}
 use Rattle.model.specs.Device.{lost, taking, command, count, slice, named, stepDevice}
 use Rattle.model.specs.Device as model
-use Rattle.link.proofs.Numbers.{digit-bit, pow-back, number-last, rest, rest-next, rest-number, gotten-none}
-use Rattle.link.proofs.View.{registersOf, phaseIn, viewed, take-more, take-last}
+use Rattle.link.specs.View.{rest}
+use Rattle.link.proofs.Numbers.{digit-bit, pow-back, number-last, rest-next, rest-number, gotten-none}
+use Rattle.link.specs.View.{registersOf, phaseIn, viewed}
+use Rattle.link.proofs.View.{take-more, take-last}
 
 module _ (read bit : ℕ) (one : 1 ≤ read) (top : read < 1024) (small : bit < 2) where
   abbrev got : List Bool

@@ -5,5 +5,7 @@ pub mod Header
 pub mod Slice
 pub mod Device
 pub mod Calls
+pub mod Modelled
+pub mod Flags
 pub mod Frames
 pub mod Records

@@ -15,6 +15,7 @@ use borrow.Author.Tests.{ltb-true, ltb-false, lt-ltb, le-ltb}
 use Rattle.bits.specs.Bits.{isOne, digit, bits, number, split}
 use Rattle.bits.proofs.Laws.{length-bits, bits-add, bits-mod, number-bits, number-append}
 use Rattle.device.specs.Phases.{pushed}
+use Rattle.link.specs.View.{rest, gotten}
 
 -- ---- a bit at the low end
 
@@ -58,11 +59,6 @@ pow-back i j h = go (ltb i j) refl
 
 -- ---- a one and then bits
 
--- the bits after the leading one, at most k of them
-unfoldable pub rest : ℕ → ℕ → List Bool
-rest zero n = []
-rest (suc k) n = cond (ltb n 2) [] (rest k (n / 2) ++ eqb (n % 2) 1 ∷ [])
-
 rest-suc : (k n : ℕ) → rest (suc k) n ≡ cond (ltb n 2) [] (rest k (n / 2) ++ eqb (n % 2) 1 ∷ [])
 unfolding rest
 rest-suc k n = refl
@@ -94,10 +90,6 @@ rest-number (suc k) n h l = go (ltb n 2) refl (rest-number k (n / 2))
         rw (number-last (rest k (n / 2)) (eqb (n % 2) 1), digit-bit (n % 2) (omega arith), length-append, add-one, p) (omega arith)
 
 -- ---- the fields of a slice, of w bits each, of which t bits have come
-
-unfoldable pub gotten : ℕ → List ℕ → ℕ → List Bool
-gotten w [] t = []
-gotten w (v ∷ vs) t = cond (ltb t w) (bits t v) (bits w v ++ gotten w vs (t - w))
 
 gotten-in : (w v : ℕ) (vs : List ℕ) (t : ℕ) → t < w → gotten w (v ∷ vs) t ≡ bits t v
 unfolding gotten

@@ -1,68 +1,50 @@
--- From the model to the records: what the model says of its devices is what the records' fields hold, field by field; a flag is 0 or 1 in
--- a record that fits; what a whole chain sends is taken frame by frame. Assumes nothing.
-use mathlib.Core.Path.{_≡_, refl, ap, _∙_}
-use mathlib.Core.Bool.{Bool, true, false, cond, _&&_}
+-- Records through the view: the registers of a lent chain are those of the model's chain, a run of low states leaves them, and what waits in
+-- them is what a boundary makes active. What a whole chain sends is taken frame by frame. Assumes nothing.
+use mathlib.Core.Path.{_≡_, refl, sym, ap, subst, _∙_}
+use mathlib.Core.Bool.{Bool, true}
 use mathlib.Core.List.{List, [], _∷_, map}
-use Prim.Native.Nat.{ℕ, zero, suc, _<_}
+use mathlib.Core.Logic.{⊎-elim}
+use Prim.Native.Nat.{ℕ, zero, suc, _-_, _%_}
 use native.Mathlib.Omega.{arith}
-use lib.ListN.{length, take, getD}
-use Rattle.bits.specs.Bits.{isOne, digit}
+use lib.Dec.{eqb}
+use lib.ListN.{length, take, getD, set, List·getD-map}
+use borrow.Author.Tests.{lt-ltb}
+use Rattle.bits.specs.Bits.{digit}
+use Rattle.parts.specs.Lists.{allBelow}
 use Rattle.parts.specs.Parts.{partOf}
-use Rattle.parts.specs.Wire.{lineOf, dataBit}
-use Rattle.parts.specs.declared.command.Command.{Command}
-use Rattle.parts.specs.declared.command.Command.the-variants.{Individual, Calibration, Global, Configuration}
+use Rattle.parts.specs.Wire.{Line, lows, lineOf, dataBit}
 use Rattle.line.specs.States.{dataBits}
-use Rattle.frames.specs.Returns as reader
-use Rattle.device.specs.Held as held
-use Rattle.device.specs.Judgement.{fits, placeFits}
-use Rattle.device.specs.declared.registers.Registers.{Registers}
+use Rattle.device.specs.Step.{faulted}
 use Rattle.device.specs.declared.device.Device.{Device}
-use Rattle.device.proofs.Places.{and-both}
-use Rattle.device.proofs.Kept.{Below, below-of}
-use Rattle.calls.specs.History.{boundary, fault, refusalOf, after, afterCalls}
+use Rattle.device.proofs.Places.{cond-both}
+use Rattle.device.proofs.Kept.{below-head}
+use Rattle.calls.specs.Chain.{blank}
+use Rattle.calls.specs.Calls.{runRefusal, faultRefusal, boundaryDevices}
+use Rattle.calls.specs.History.{Call, fresh, run, boundary, fault, refusalOf, after, afterCalls, given, FaultOrLow, Settles}
 use Rattle.model.specs.Lists.{All, Both}
 use Rattle.model.specs.Run.{chain}
-use Rattle.model.specs.Device.{multiplexed, odds, faults, registersIn}
+use Rattle.model.specs.Device.{registersIn}
 use Rattle.model.specs.Device as model
 use Rattle.model.specs.Set.{Own, OwnProper}
 use Rattle.model.specs.Restore.{Piece}
 use Rattle.model.specs.Restore as restore
+use Rattle.model.proofs.Frame.{quiet}
 use Rattle.model.proofs.Restore.{sendPiece, sendPieces, Ready}
-use Rattle.model.proofs.Restore as model-restore
-use Rattle.link.specs.Restore.{flags}
-use Rattle.link.specs.Records.{Holds, CutFields}
-use Rattle.link.proofs.View.{registersOf, deviceOf, Sound}
-use Rattle.link.proofs.Calls.{Whole, own-refusal, boundary-same}
-use Rattle.link.proofs.Frames.{taken}
+use Rattle.link.specs.View.{registersOf, deviceOf, stepRecord, registersAll, Holds}
+use Rattle.link.proofs.View.{Sound}
+use Rattle.link.proofs.Device.{chain-agree}
+use Rattle.link.proofs.Calls.{Whole, own-refusal, whole-settled, ran-one}
+use Rattle.link.proofs.Modelled.{flagged-registers}
 
-pub to-holds : (os : List Own) (ds : List Device) → Both restore.Holds os (registersIn (map deviceOf ds)) → Both Holds os ds
+-- ---- the registers of a chain
+
+pub registers-all : (ds : List Device) → registersIn (map deviceOf ds) ≡ registersAll ds
 unfolding deviceOf
-to-holds [] [] h = tt
-to-holds [] (d ∷ ds) h = absurd h
-to-holds (o ∷ os) [] h = absurd h
-to-holds (o ∷ os) (d ∷ ds) h =
-    let x = h .0 in
-    (record { configuration = x .configuration; calibration = x .calibration; global = x .global; individual = x .individual }, to-holds os ds (h .1))
+registers-all [] = refl
+registers-all (d ∷ ds) = rw (registers-all ds)
 
-flag-digit : (f : ℕ) → f < 2 → digit (isOne f) ≡ f
-flag-digit zero h = refl
-flag-digit (suc zero) h = refl
-flag-digit (suc (suc f)) h = absurd (omega arith)
-
-fault-same : (c : Command) (r : Registers) → Below r → digit (model.fault c (registersOf r)) ≡ held.fault r c
-unfolding model.fault
-fault-same Individual r b = flag-digit (r .overtemperature) (b .hot)
-fault-same Calibration r b = flag-digit (r .openled) (b .lit)
-fault-same Global r b = flag-digit (r .overtemperature) (b .hot)
-fault-same Configuration r b = flag-digit (r .openled) (b .lit)
-
-sound-below : (d : Device) → Sound d → Below (d .registers)
-sound-below d o = below-of (d .registers) (and-both (placeFits (d .place) (d .registers)) _ (o .fit) .1)
-
-pub flags-same : (c : Command) (ds : List Device) → All Sound ds → faults c (registersIn (map deviceOf ds)) ≡ flags c ds
-unfolding faults flags deviceOf
-flags-same c [] h = refl
-flags-same c (d ∷ ds) h = rw (fault-same c (d .registers) (sound-below d (h .0)), flags-same c ds (h .1))
+pub registers-at : (ds : List Device) (i : ℕ) → getD (registersIn (map deviceOf ds)) i (registersOf (blank .registers)) ≡ registersOf (getD ds i blank .registers)
+registers-at ds i = rw (registers-all ds) (List·getD-map (λ (d : Device). registersOf (d .registers)) ds i blank)
 
 pub ready-of : (n : ℕ) (os : List Own) (ds : List Device) → All (OwnProper (partOf n)) os → length os ≡ length ds → All (λ d. d .registers .part ≡ n) ds
     → Both (Ready (partOf n)) os (registersIn (map deviceOf ds))
@@ -72,9 +54,73 @@ ready-of n [] (d ∷ ds) a e u = absurd (omega arith)
 ready-of n (o ∷ os) [] a e u = absurd (omega arith)
 ready-of n (o ∷ os) (d ∷ ds) a e u = ((a .0, ap partOf (u .0)), ready-of n os ds (a .1) (omega arith) (u .1))
 
-pub boundary-whole : (p : ℕ) (ds : List Device) → Whole p ds → map deviceOf (afterCalls ds (boundary ∷ [])) ≡ model.boundary (map deviceOf ds)
+-- ---- low states
+
+low-lines : (ss : List ℕ) → allBelow ss 2 ≡ true → map lineOf ss ≡ lows (map (λ s. eqb (s % 2) 1) ss)
+low-lines [] h = refl
+low-lines (s ∷ ss) h = let t = below-head s ss 2 h in rw (lt-ltb s 2 (t .0), low-lines ss (t .1))
+
+low-registers : (ds : List Device) (ss : List ℕ) → All Sound ds → allBelow ss 2 ≡ true → registersAll ((chain stepRecord ds ss) .0) ≡ registersAll ds
+low-registers ds ss o h =
+    let e = ap (λ (x : List model.Device × List Line). registersIn (x .0)) (chain-agree ds ss o) in
+    sym (registers-all ((chain stepRecord ds ss) .0))
+    ∙ e
+    ∙ rw (low-lines ss h) (quiet (map (λ s. eqb (s % 2) 1) ss) (map deviceOf ds))
+    ∙ registers-all ds
+
+-- ---- what waits
+
+-- a boundary would make each device's registers in use its own
+abbrev pub Waits : List Own → List Device → Type 0
+Waits os ds = Both restore.Holds os (map model.activated (registersAll ds))
+
+pub boundary-holds : (os : List Own) (ds : List Device) → Waits os ds → Both Holds os (boundaryDevices ds)
+unfolding model.activated
+boundary-holds [] [] h = tt
+boundary-holds [] (d ∷ ds) h = absurd h
+boundary-holds (o ∷ os) [] h = absurd h
+boundary-holds (o ∷ os) (d ∷ ds) h = (h .0, boundary-holds os ds (h .1))
+
+pub boundary-after : (p : ℕ) (ds : List Device) → Whole p ds → afterCalls ds (boundary ∷ []) ≡ boundaryDevices ds
 unfolding afterCalls after refusalOf
-boundary-whole p ds w = rw (own-refusal p ds boundary w) (boundary-same ds)
+boundary-after p ds w = rw (own-refusal p ds boundary w)
+
+-- a fault setting leaves it
+faulted-waits : (kind : ℕ) (flag : Bool) (o : Own) (d : Device) → restore.Holds o (model.activated (registersOf (d .registers)))
+    → restore.Holds o (model.activated (registersOf (faulted d kind (digit flag) .registers)))
+unfolding model.activated
+faulted-waits kind flag o d h =
+    subst (λ (r : model.Registers). restore.Holds o (model.activated r)) (sym (flagged-registers (d .registers) kind flag))
+    (record { configuration = h .configuration; calibration = h .calibration; global = h .global; individual = h .individual })
+
+set-waits : (f : Device → Device) → ((o : Own) (d : Device) → restore.Holds o (model.activated (registersOf (d .registers))) → restore.Holds o (model.activated (registersOf (f d .registers))))
+    → (os : List Own) (ds : List Device) (i : ℕ) (z : Device) → Waits os ds → Waits os (set ds i (f (getD ds i z)))
+set-waits f k os [] i z h = h
+set-waits f k [] (d ∷ ds) i z h = absurd h
+set-waits f k (o ∷ os) (d ∷ ds) zero z h = (k o d (h .0), h .1)
+set-waits f k (o ∷ os) (d ∷ ds) (suc i) z h = (h .0, set-waits f k os ds i z (h .1))
+
+low-run : (ds : List Device) (ss out : List ℕ) → All Sound ds → allBelow ss 2 ≡ true → registersAll (after ds (run ss out)) ≡ registersAll ds
+low-run ds ss out o h =
+    ap (λ (x : List Device × List ℕ). registersAll (x .0)) (ran-one ds ss out)
+    ∙ low-registers ds (given ds (run ss out)) o (cond-both (λ (zs : List ℕ). allBelow zs 2 ≡ true) (eqb (runRefusal ds ss (length out)) 0) _ _ (λ _. h) (λ _. refl))
+
+settled-waits : (p : ℕ) (os : List Own) (ds : List Device) (c : Call) → Whole p ds → FaultOrLow ds c → Waits os ds → Waits os (after ds c)
+unfolding after
+settled-waits p os ds (fresh part) w r h = rw r h
+settled-waits p os ds (run ss out) w r h =
+    ⊎-elim (λ l. rw (low-run ds ss out (w .sound) l) h) (λ e. rw e h) r
+settled-waits p os ds boundary w r h = rw r h
+settled-waits p os ds (fault device kind flag) w r h =
+    cond-both (λ (es : List Device). Waits os es) (eqb (faultRefusal ds device kind) 0) _ _
+    (λ _. set-waits (λ d. faulted d kind (digit flag)) (faulted-waits kind flag) os ds (device - 1) blank h) (λ _. h)
+
+pub settles-waits : (p : ℕ) (os : List Own) (ds : List Device) (cs : List Call) → Whole p ds → Settles ds cs → Waits os ds → Waits os (afterCalls ds cs)
+unfolding afterCalls
+settles-waits p os ds [] w r h = h
+settles-waits p os ds (c ∷ cs) w r h = settles-waits p os (after ds c) cs (whole-settled p ds c w (r .0)) (r .1) (settled-waits p os ds c w (r .0) h)
+
+-- ---- what a whole chain sends
 
 pub take-sent : (ds : List model.Device) (ps : List Piece) (j : ℕ) → (sendPieces ds (take j ps)) .1 ≡ take j ((sendPieces ds ps) .1)
 unfolding sendPieces sendPiece
@@ -85,27 +131,3 @@ take-sent ds (p ∷ ps) (suc j) = rw (take-sent ((sendPiece ds p) .0) ps j)
 pub data-lines : (ss : List ℕ) → dataBits ss ≡ map dataBit (map lineOf ss)
 data-lines [] = refl
 data-lines (s ∷ ss) = rw (data-lines ss)
-
-pub registers-at : (ds : List Device) (i : ℕ) (z : Device) → getD (registersIn (map deviceOf ds)) i (registersOf (z .registers)) ≡ registersOf (getD ds i z .registers)
-unfolding deviceOf
-registers-at [] i z = refl
-registers-at (d ∷ ds) zero z = refl
-registers-at (d ∷ ds) (suc i) z = registers-at ds i z
-
-cond-and : {A : Type 0} (a b : Bool) (x y : A) → cond a (cond b x y) y ≡ cond (a && b) x y
-cond-and true b x y = refl
-cond-and false b x y = refl
-
-pub to-cut : (arrived : Command → Bool) (o : Own) (old new : Registers)
-    → restore.CutFields (arrived Configuration) (arrived Calibration) (arrived Global) (arrived Individual) o (registersOf old) (registersOf new)
-    → CutFields arrived o old new
-to-cut arrived o old new h = record {
-  configuration = h .configuration;
-  calibration = h .calibration;
-  global = h .global;
-  mux0 = h .mux0;
-  mux1 = h .mux1 ∙ cond-and (arrived Individual) (multiplexed (o .configuration)) (odds (o .individual)) (old .waiting1);
-  active = ap (λ (v : model.Values). v .global) (h .active);
-  active0 = ap (λ (v : model.Values). v .mux0) (h .active);
-  active1 = ap (λ (v : model.Values). v .mux1) (h .active);
-}

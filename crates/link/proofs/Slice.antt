@@ -28,8 +28,10 @@ use Rattle.model.specs.Device.{slice, stepDevice, load, counted, evens, odds, h
 use Rattle.model.specs.Device as model
 use Rattle.model.proofs.Set.{double}
 use Rattle.model.proofs.Wire.{lines-states}
-use Rattle.link.proofs.Numbers.{gotten, gotten-next, gotten-fields}
-use Rattle.link.proofs.View.{registersOf, viewed, seen, seen-sending, take-more, take-last}
+use Rattle.link.specs.View.{gotten}
+use Rattle.link.proofs.Numbers.{gotten-next, gotten-fields}
+use Rattle.link.specs.View.{registersOf, viewed}
+use Rattle.link.proofs.View.{seen, seen-sending, take-more, take-last}
 
 strided-tail : (x : ℕ) (s : List ℕ) (a k n : ℕ) → strided (x ∷ s) (suc a) k n ≡ strided s a k n
 unfolding strided

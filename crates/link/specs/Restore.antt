@@ -1,13 +1,13 @@
 -- A restore as a caller makes it: the four frames that the writer writes from a set, put onto the line in restore order, each with any
--- tail and any clocks at low load before it; how many states each slice takes to arrive; and what the chain returns.
-use Prim.Native.Nat.{ℕ, _+_, _*_, _<_}
+-- tail and any clocks at low load before it. What then comes back, and when a slice has arrived, is said in model/specs/Restore.
+use Prim.Native.Nat.{ℕ, _+_, _<_}
 use mathlib.Core.Path.{_≡_}
 use mathlib.Core.Bool.{Bool, true}
 use mathlib.Core.List.{List, [], _∷_, _++_, map, flatten}
-use lib.ListN.{length, take}
+use lib.ListN.{take, getD}
 use Rattle.parts.specs.Lists.{allBelow}
-use Rattle.parts.specs.Parts.{partOf, multiplex, sliceBits}
-use Rattle.parts.specs.Wire.{stateOf, lows, returnOf}
+use Rattle.parts.specs.Parts.{partOf}
+use Rattle.parts.specs.Wire.{stateOf, lows}
 use Rattle.parts.specs.declared.command.Command.{Command}
 use Rattle.parts.specs.declared.command.Command.the-variants.{Individual, Calibration, Global, Configuration}
 use Rattle.line.specs.States.{frameStates}
@@ -15,10 +15,10 @@ use Rattle.frames.specs.Frames.{slicesBits, tailBits, frameOf, frameLength}
 use Rattle.frames.specs.Writing.{settings, writeRefusal}
 use Rattle.frames.specs.declared.told.Told.{Told}
 use Rattle.frames.specs.declared.told.Tail.{Tail}
-use Rattle.device.specs.Held.{fault}
-use Rattle.device.specs.declared.device.Device.{Device}
-use Rattle.model.specs.Set.{Set}
+use Rattle.model.specs.Device.{Registers}
+use Rattle.model.specs.Set.{Set, owned}
 use Rattle.model.specs.Restore.{restoreOrder}
+use Rattle.model.specs.Restore as model
 
 -- ---- the frames
 
@@ -49,10 +49,6 @@ pub record Writable (s : Set) (tail : Command → Tail) : Type 0 where
 
 -- ---- their states
 
--- bits of one device's slice
-abbrev pub sliceLength : Set → Command → ℕ
-sliceLength s c = sliceBits (partOf (s .part)) c (multiplex (s .configuration))
-
 -- bits of a frame
 abbrev pub frameSize : Set → Command → Tail → ℕ
 frameSize s c tail = 24 + slicesBits (told s c) + tail .length
@@ -70,24 +66,20 @@ module _ (s : Set) (gap : Command → List Bool) (tail : Command → Tail) where
   abbrev pub restoreStates : List ℕ
   restoreStates = flatten (map framePart restoreOrder)
 
-  -- how many states come before a frame's own
-  abbrev pub before : Command → ℕ
-  before Configuration = 0
-  before Calibration = length (framePart Configuration)
-  before Global = length (framePart Configuration) + length (framePart Calibration)
-  before Individual = length (framePart Configuration) + length (framePart Calibration) + length (framePart Global)
+  -- all four, and any clocks at low load after them
+  abbrev pub restoreThen : List Bool → List ℕ
+  restoreThen last = restoreStates ++ map stateOf (lows last)
 
-  -- how many states give a frame's header and the slices of the devices 1 to `device`: its slice has then fully arrived
-  abbrev pub arrival : Command → ℕ → ℕ
-  arrival c device = before c + (length (gap c) + (24 + device * sliceLength s c))
+-- the clocks at low load after the first j frames: those before the next frame, or those after the last
+abbrev pub gapAfter : (Command → List Bool) → List Bool → ℕ → List Bool
+gapAfter gap last j = getD (map gap restoreOrder ++ last ∷ []) j []
 
--- ---- the returns
+-- ---- what comes back, and when a slice has arrived
 
--- how many devices have the flag of the kind of a command's frame: a flag is 0 or 1
-unfoldable pub flags : Command → List Device → ℕ
-flags c [] = 0
-flags c (d ∷ ds) = fault (d .registers) c + flags c ds
+-- the four returns of a chain with these registers, as its last device sends them
+abbrev pub returnsOf : (Command → Tail) → List Registers → List (List Bool)
+returnsOf tail rs = model.returnsOf (λ c. tailBits (tail c)) rs
 
--- the four returns of a chain
-abbrev pub returnsOf : List Device → (Command → Tail) → List (List Bool)
-returnsOf ds tail = map (λ c. returnOf c (flags c ds) (tailBits (tail c))) restoreOrder
+-- how many states give a frame's header and the slices of the devices 1 to `device`
+abbrev pub arrival : Set → (Command → List Bool) → (Command → Tail) → Command → ℕ → ℕ
+arrival s gap tail c device = model.arrival (partOf (s .part)) (owned s) gap (λ c. tailBits (tail c)) c device

@@ -13,9 +13,10 @@ use Rattle.parts.specs.Parts.{Part}
 use Rattle.parts.specs.Wire.{Line, low, high, lows, highs, sync}
 use Rattle.parts.specs.declared.command.Command.{Command}
 use Rattle.parts.specs.declared.command.Command.the-variants.{Individual, Calibration, Global, Configuration}
-use Rattle.model.specs.Lists.{Both}
+use Rattle.model.specs.Lists.{Both, howMany}
 use Rattle.model.specs.Run.{run, chain}
 use Rattle.model.specs.Device.{Registers, Device, Phase, hunting, lost, taking, passing, Field, command, count, slice, at, sliceLength, load, fault, faults, counted, finish, headerStates, frameStates, stepDevice, runDevice, runChain, registersIn, window}
+use Rattle.model.proofs.Lists.{howMany-cons}
 use Rattle.model.proofs.Run.{run-then, chain-cons, chain-nil}
 use Rattle.model.proofs.Wire.{pairs, header-states, frame-states}
 
@@ -90,13 +91,14 @@ passings rs = map (λ r. at r passing) rs
 -- A frame through a chain, from any phases
 pub framed-all : (c : Command) (ds : List Device) (n : ℕ) (ss : List (List Bool)) (tail : List Bool) → n < 1024 → Fits c ss (registersIn ds)
     → runChain ds (frameStates c n ss tail) ≡ (passings (loadAll c ss (registersIn ds)), frameStates c ((n + faults c (registersIn ds)) % 1024) [] tail)
-unfolding loadAll faults chain
+unfolding loadAll howMany chain
 framed-all c [] n [] tail h f = let e : (n + 0) % 1024 ≡ n = omega arith in rw e
 framed-all c [] n (s ∷ ss) tail h f = absurd f
 framed-all c (d ∷ ds) n [] tail h f = absurd f
 framed-all c (d ∷ ds) n (s ∷ ss) tail h f =
     let e : ((counted n (fault c (d .registers))) + faults c (registersIn ds)) % 1024 ≡ (n + (digit (fault c (d .registers)) + faults c (registersIn ds))) % 1024 = omega arith in
-    chain-cons stepDevice d ds _ (framed d c n s ss tail h (f .0 .0) (f .0 .1)) (rw e at (framed-all c ds (counted n (fault c (d .registers))) ss tail (omega arith) (f .1)))
+    let t = howMany-cons (fault c) (d .registers) (registersIn ds) in
+    rw t (chain-cons stepDevice d ds _ (framed d c n s ss tail h (f .0 .0) (f .0 .1)) (rw e at (framed-all c ds (counted n (fault c (d .registers))) ss tail (omega arith) (f .1))))
 
 -- clocks at low load change nothing but phases
 quiet-one : (g : List Bool) (d : Device) → (p : Phase) × (runDevice d (lows g) ≡ (at (d .registers) p, []))

@@ -3,22 +3,21 @@
 use mathlib.Core.Path.{_≡_, refl, sym, ap, _∙_}
 use mathlib.Core.Bool.{Bool, true, false}
 use mathlib.Core.List.{List, [], _∷_, _++_, map, flatten, map-append}
-use Prim.Native.Nat.{ℕ, suc, _+_, _*_, _%_, _≤_, _<_}
+use Prim.Native.Nat.{ℕ, suc, _+_, _*_, _%_, _<_}
 use native.Mathlib.Omega.{arith}
 use native.Mathlib.Nat.{mul-pos}
 use lib.ListN.{length, length-map, length-replicate}
-use Rattle.bits.specs.Bits.{digit}
 use Rattle.bits.proofs.Laws.{length-fields}
 use Rattle.parts.specs.Parts.{Part, multiplex}
 use Rattle.parts.specs.Wire.{Line, lows, dataBit, returnOf}
 use Rattle.parts.specs.declared.command.Command.{Command}
 use Rattle.parts.specs.declared.command.Command.the-variants.{Individual, Calibration, Global, Configuration}
-use Rattle.model.specs.Lists.{Both}
+use Rattle.model.specs.Lists.{Both, howMany}
 use Rattle.model.specs.Run.{andThen}
 use Rattle.model.specs.Device.{Values, Registers, Device, at, sliceLength, multiplexed, withIndividual, load, fault, faults, activated, frameStates, stepDevice, runChain, boundary, registersIn}
 use Rattle.model.specs.Set.{Own, OwnProper, sliceOf}
 use Rattle.model.specs.Restore.{Piece, pieceStates, pieceOf, piecesOf, returnsOf, InUse, Holds}
-use Rattle.model.proofs.Lists.{both-map}
+use Rattle.model.proofs.Lists.{both-map, howMany-le}
 use Rattle.model.proofs.Run.{chain-append, chain-nil, chain-keeps}
 use Rattle.model.proofs.Wire.{bits-return}
 use Rattle.model.proofs.Frame.{loadAll, Fits, passings, framed-all, quiet, quiet-sends, partOf, step-part}
@@ -51,22 +50,13 @@ pieces-sent ds (p ∷ ps) h =
     let i = pieces-sent ((runChain a f) .0) ps (rw (length-run, length-run) h) in
     rw (chain-append stepDevice ds (lows (p .gap) ++ f) (flatten (map pieceStates ps)), chain-append stepDevice ds (lows (p .gap)) f, quiet-sends (p .gap) ds h, map-append, i)
 
-bit-le : (b : Bool) → digit b ≤ 1
-bit-le true = omega arith
-bit-le false = omega arith
-
-pub faults-le : (c : Command) (rs : List Registers) → faults c rs ≤ length rs
-unfolding faults
-faults-le c [] = omega arith
-faults-le c (r ∷ rs) = let h = faults-le c rs in omega (arith, bit-le (fault c r))
-
 pub piece-law : (ds : List Device) (rs : List Registers) (p : Piece) → registersIn ds ≡ rs → length rs < 1024 → Fits (p .kind) (p .slices) rs
     → sendPiece ds p ≡ (passings (loadAll (p .kind) (p .slices) rs), returnOf (p .kind) (faults (p .kind) rs) (p .tail) ∷ [])
 unfolding sendPiece
 piece-law ds rs p e h f =
     let a : List Device = (runChain ds (lows (p .gap))) .0 in
     let q : registersIn a ≡ rs = quiet (p .gap) ds ∙ e in
-    let m : (0 + faults (p .kind) rs) % 1024 ≡ faults (p .kind) rs = omega (arith, faults-le (p .kind) rs) in
+    let m : (0 + faults (p .kind) rs) % 1024 ≡ faults (p .kind) rs = omega (arith, howMany-le (fault (p .kind)) rs) in
     rw (rw (q, m) at (framed-all (p .kind) a 0 (p .slices) (p .tail) (omega arith) (rw q f)), bits-return)
 
 registers-passings : (rs : List Registers) → registersIn (passings rs) ≡ rs
@@ -101,7 +91,7 @@ fault-kept Global c s r = overtemperature-kept c s r
 fault-kept Configuration c s r = openled-kept c s r
 
 faults-kept : (k c : Command) (ss : List (List Bool)) (rs : List Registers) → faults k (loadAll c ss rs) ≡ faults k rs
-unfolding loadAll faults
+unfolding loadAll howMany
 faults-kept k c [] rs = refl
 faults-kept k c (s ∷ ss) [] = refl
 faults-kept k c (s ∷ ss) (r ∷ rs) = rw (fault-kept k c s r, faults-kept k c ss rs)
@@ -180,7 +170,7 @@ module _ (w : Part) (o : Own) (r : Registers) where
   to-all : GlobalWaiting w o r → AllWaiting w o (load Individual (sliceOf w Individual o) r)
   to-all h = rw (load-individual w o (h .0 .0 .0 .0) r (h .0 .0 .0 .1) (h .0 .0 .1)) ((h .0, global-own (multiplexed (o .configuration)) (o .individual) (r .waiting) ∙ h .1), in-use-own (multiplexed (o .configuration)) (o .individual) (r .waiting))
 
-registers-boundary : (ds : List Device) → registersIn (boundary ds) ≡ map activated (registersIn ds)
+pub registers-boundary : (ds : List Device) → registersIn (boundary ds) ≡ map activated (registersIn ds)
 unfolding boundary
 registers-boundary [] = refl
 registers-boundary (d ∷ ds) = rw (registers-boundary ds)

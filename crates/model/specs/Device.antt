@@ -3,11 +3,13 @@ use Prim.Native.Nat.{ℕ, zero, suc, pred, _+_, _*_, _%_}
 use mathlib.Core.Bool.{Bool, true, false, _&&_, cond}
 use mathlib.Core.List.{List, [], _∷_, _++_, map, flatten}
 use lib.Dec.{eqb}
+use lib.ListN.{replicate}
 use Rattle.bits.specs.Bits.{digit, number, split}
 use Rattle.parts.specs.Parts.{Part, multiplex, sliceFields, sliceBits}
 use Rattle.parts.specs.Wire.{Line, low, high, header, frame, clocked}
 use Rattle.parts.specs.declared.command.Command.{Command}
 use Rattle.parts.specs.declared.command.Command.the-variants.{Individual, Calibration, Global, Configuration}
+use Rattle.model.specs.Lists.{howMany}
 use Rattle.model.specs.Run.{run, chain}
 
 -- what waits for a frame boundary and becomes active there
@@ -153,6 +155,34 @@ activated r = record {
   openled = r .openled;
 }
 
+-- with one fault flag set: of kind 0 overtemperature, of any other open LED
+abbrev pub flagged : ℕ → Bool → Registers → Registers
+flagged kind flag r = record {
+  part = r .part;
+  configuration = r .configuration;
+  calibration = r .calibration;
+  waiting = r .waiting;
+  active = r .active;
+  overtemperature = cond (eqb kind 0) flag (r .overtemperature);
+  openled = cond (eqb kind 0) (r .openled) flag;
+}
+
+-- a value of 0 for every output, in both phases
+abbrev pub dark : Part → Values
+dark p = record { global = 0; mux0 = replicate (8 * p .banks) 0; mux1 = replicate (8 * p .banks) 0 }
+
+-- zeros and no faults
+abbrev pub zeros : Part → Registers
+zeros p = record {
+  part = p;
+  configuration = 0;
+  calibration = replicate (p .banks) 0;
+  waiting = dark p;
+  active = dark p;
+  overtemperature = false;
+  openled = false;
+}
+
 -- ---- one clock
 
 -- the fault of a frame's kind
@@ -218,15 +248,26 @@ runDevice d ls = run stepDevice d ls
 abbrev pub runChain : List Device → List Line → List Device × List Line
 runChain ds ls = chain stepDevice ds ls
 
+-- a device after a frame boundary
+abbrev pub bounded : Device → Device
+bounded d = at (activated (d .registers)) (d .phase)
+
 -- a frame boundary, for the whole chain
 unfoldable pub boundary : List Device → List Device
-boundary ds = map (λ d. at (activated (d .registers)) (d .phase)) ds
+boundary ds = map bounded ds
+
+-- a device whose flag of a kind is set, 0 overtemperature and else open LED
+abbrev pub faulted : ℕ → Bool → Device → Device
+faulted kind flag d = at (flagged kind flag (d .registers)) (d .phase)
+
+-- a fresh device of a part: zeros, no faults, hunting
+abbrev pub freshDevice : Part → Device
+freshDevice p = at (zeros p) (hunting 0)
 
 -- the registers of each device
 abbrev pub registersIn : List Device → List Registers
 registersIn ds = map (λ d. d .registers) ds
 
--- how many report the fault of a frame's kind
-unfoldable pub faults : Command → List Registers → ℕ
-faults c [] = 0
-faults c (r ∷ rs) = digit (fault c r) + faults c rs
+-- how many have the flag of a frame's kind up
+abbrev pub faults : Command → List Registers → ℕ
+faults c rs = howMany (fault c) rs

@@ -1,8 +1,8 @@
 -- A restore: the four frames of a set, each with any tail and any clocks at low load before it; what a device then holds and the chain
 -- returns; and when a slice has fully arrived. Said over any list of what is each device's own.
-use Prim.Native.Nat.{ℕ, suc, _+_}
+use Prim.Native.Nat.{ℕ, _+_}
 use mathlib.Core.Path.{_≡_}
-use mathlib.Core.Bool.{Bool, true, false, cond}
+use mathlib.Core.Bool.{Bool, true, false, _&&_, cond}
 use mathlib.Core.List.{List, [], _∷_, _++_, map, flatten}
 use lib.ListN.{length, take}
 use Rattle.parts.specs.Parts.{Part}
@@ -48,9 +48,9 @@ module _ (w : Part) (os : List Own) (gap tail : Command → List Bool) where
   before Individual =
       length (pieceStates (pieceOf Configuration)) + length (pieceStates (pieceOf Calibration)) + length (pieceStates (pieceOf Global))
 
-  -- how many states give the frame's header and the slices of the devices up to place i, from 0
+  -- how many states give the frame's header and the slices of the devices 1 to `device`: its slice has then fully arrived
   abbrev pub arrival : Command → ℕ → ℕ
-  arrival c i = before c + (length (gap c) + (24 + length (flatten (take (suc i) (map (sliceOf w c) os)))))
+  arrival c device = before c + (length (gap c) + (24 + length (flatten (take device (map (sliceOf w c) os)))))
 
 -- the four returns of a chain with these registers
 abbrev pub returnsOf : (Command → List Bool) → List Registers → List (List Bool)
@@ -68,12 +68,12 @@ pub record Holds (o : Own) (r : Registers) : Type 0 where
   pub global : r .active .global ≡ o .global
   pub individual : InUse (multiplexed (o .configuration)) (o .individual) (r .active .mux0) (r .active .mux1)
 
--- what a cut leaves in one device, by which of its four slices had fully arrived: each group new or old
-pub record CutFields (b1 b2 b3 b4 : Bool) (o : Own) (old new : Registers) : Type 0 where
+-- what a cut leaves in one device: each group new where its slice had fully arrived, else old; what is active old
+pub record CutFields (arrived : Command → Bool) (o : Own) (old new : Registers) : Type 0 where
   pub part : new .part ≡ old .part
-  pub configuration : new .configuration ≡ cond b1 (o .configuration) (old .configuration)
-  pub calibration : new .calibration ≡ cond b2 (o .calibration) (old .calibration)
-  pub global : new .waiting .global ≡ cond b3 (o .global) (old .waiting .global)
-  pub mux0 : new .waiting .mux0 ≡ cond b4 (cond (multiplexed (o .configuration)) (evens (o .individual)) (o .individual)) (old .waiting .mux0)
-  pub mux1 : new .waiting .mux1 ≡ cond b4 (cond (multiplexed (o .configuration)) (odds (o .individual)) (old .waiting .mux1)) (old .waiting .mux1)
+  pub configuration : new .configuration ≡ cond (arrived Configuration) (o .configuration) (old .configuration)
+  pub calibration : new .calibration ≡ cond (arrived Calibration) (o .calibration) (old .calibration)
+  pub global : new .waiting .global ≡ cond (arrived Global) (o .global) (old .waiting .global)
+  pub mux0 : new .waiting .mux0 ≡ cond (arrived Individual) (cond (multiplexed (o .configuration)) (evens (o .individual)) (o .individual)) (old .waiting .mux0)
+  pub mux1 : new .waiting .mux1 ≡ cond (arrived Individual && multiplexed (o .configuration)) (odds (o .individual)) (old .waiting .mux1)
   pub active : new .active ≡ old .active

@@ -1,0 +1,64 @@
+-- The claims about the calls on a chain, and about one step: the model's devices, room, what calls keep, flags. Each is a law of link or turns
+-- said of the claim's own terms. Assumes nothing.
+use mathlib.Core.Path.{_≡_, refl, ap, _∙_}
+use mathlib.Core.Bool.{true, false, _&&_}
+use mathlib.Core.List.{List, [], _∷_}
+use Prim.Native.Nat.{ℕ}
+use lib.ListN.{length}
+use borrow.Author.Tests.{not-false, ltb-false}
+use Rattle.parts.specs.Lists.{allBelow}
+use Rattle.parts.specs.Refusals.{first}
+use Rattle.parts.proofs.Rows.{clear}
+use Rattle.device.specs.Judgement.{fits}
+use Rattle.device.specs.declared.device.Device.{Device}
+use Rattle.device.proofs.Places.{and-both}
+use Rattle.calls.specs.Chain.{allFit}
+use Rattle.calls.specs.Calls.{runTable, runRefusal, roomFor}
+use Rattle.calls.specs.History.{Call, fresh, refusalOf, after, afterCalls}
+use Rattle.calls.specs.Told.{ownTable}
+use Rattle.model.specs.Lists.{All}
+use Rattle.link.proofs.View.{Sound}
+use Rattle.link.proofs.Device.{agree, keep}
+use Rattle.link.proofs.Calls.{Whole, own-refusal, whole-calls, whole-start, length-afterCalls, length-after}
+use Rattle.link.proofs.Modelled.{call-same}
+use Rattle.link.proofs.Flags.{flag-calls, flag-start}
+use Rattle.turns.proofs.Room.{surplus}
+use Rattle.claims.specs.Claims.{start, startPart, StepModelled, CallModelled, Room, Kept, Flags}
+
+pub step-modelled : StepModelled
+step-modelled d s a f =
+    let o : Sound d = record { fit = f; slots = a .slice } in
+    (agree d s o, keep d s o .fit)
+
+pub call-modelled : CallModelled
+call-modelled = call-same
+
+pub room : Room
+unfolding refusalOf runRefusal
+room ds ss out e =
+    let t = clear (runTable ds ss (length out)) refl e in
+    let f = and-both (allBelow ss 4) (allFit ds) (not-false (allBelow ss 4 && allFit ds) (t .1 .1 .1 .1 .0)) in
+    (surplus ds ss (f .1), ltb-false (length out) (roomFor (length ss)) (t .1 .1 .1 .0))
+
+-- a chain that was made fresh, and what was called since
+pub whole-begun : (p : ℕ) (records : List Device) (earlier : List Call) → refusalOf records (fresh p) ≡ 0 → Whole (startPart p records earlier) (start p records earlier)
+unfolding afterCalls
+whole-begun p records earlier e = whole-calls p (after records (fresh p)) earlier (whole-start p records e)
+
+pub length-start : (p : ℕ) (records : List Device) (earlier : List Call) → length (start p records earlier) ≡ length records
+length-start p records earlier = length-afterCalls records (fresh p ∷ earlier)
+
+sound-fits : (ds : List Device) → All Sound ds → All (λ d. fits d ≡ true) ds
+sound-fits [] h = tt
+sound-fits (d ∷ ds) h = (h .0 .fit, sound-fits ds (h .1))
+
+pub kept : Kept
+kept p records earlier c e =
+    let w = whole-begun p records earlier e in
+    let l = length-start p records earlier in
+    (l, w .onePart, sound-fits (start p records earlier) (w .sound), own-refusal _ (start p records earlier) c w ∙ ap (λ (n : ℕ). first (ownTable n c)) l)
+
+pub flags : Flags
+unfolding afterCalls
+flags p records earlier device kind e one many small =
+    flag-calls device kind one small (after records (fresh p)) earlier false (rw (length-after records (fresh p)) many) (flag-start p records device kind e)

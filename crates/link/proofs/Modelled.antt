@@ -1,0 +1,125 @@
+-- What is not a clock, seen in the model: a fresh device, a frame boundary, a fault setting; then every accepted call on a chain. By cases on
+-- the call: a run is `chain-agree`, the others change registers that no phase looks at. Assumes nothing.
+use mathlib.Core.Path.{_≡_, refl, ap, _∙_}
+use mathlib.Core.Bool.{Bool, true, false, cond, _&&_}
+use mathlib.Core.List.{List, [], _∷_, map}
+use Prim.Native.Nat.{ℕ, zero, suc, _-_}
+use lib.Dec.{eqb}
+use lib.ListN.{length, length-map, getD, set, replicate, List·getD-map}
+use borrow.Author.Tests.{eq-eqb, not-false}
+use Rattle.bits.specs.Bits.{isOne, digit}
+use Rattle.parts.specs.Parts.{partOf}
+use Rattle.parts.specs.Lists.{allBelow}
+use Rattle.parts.specs.Wire.{Line, lineOf}
+use Rattle.parts.proofs.Laws.{banks-three}
+use Rattle.parts.proofs.Rows.{clear}
+use Rattle.device.specs.Held.{flagged, showing}
+use Rattle.device.specs.Phases.{phaseOf}
+use Rattle.device.specs.Step.{freshDevice, faulted}
+use Rattle.device.specs.Judgement.{fits}
+use Rattle.device.specs.declared.phase.Phase.{Phase}
+use Rattle.device.specs.declared.registers.Registers.{Registers}
+use Rattle.device.specs.declared.device.Device.{Device}
+use Rattle.device.proofs.Places.{and-both, cond-both}
+use Rattle.calls.specs.Chain.{allFit, blank}
+use Rattle.calls.specs.Calls.{runTable, runRefusal}
+use Rattle.calls.specs.History.{Call, fresh, run, boundary, fault, refusalOf, effect, after, given, answered}
+use Rattle.model.specs.Lists.{All}
+use Rattle.model.specs.Run.{chain}
+use Rattle.model.specs.Device as model
+use Rattle.link.specs.View.{registersOf, phaseIn, deviceOf, stepRecord, Arrays}
+use Rattle.link.specs.Called.{called}
+use Rattle.link.proofs.View.{Sound}
+use Rattle.link.proofs.Device.{chain-agree}
+use Rattle.link.proofs.Calls.{after-effect, showing-phase, boundary-same, ran-one}
+
+one-digit : (b : Bool) → isOne (digit b) ≡ b
+one-digit true = refl
+one-digit false = refl
+
+-- ---- a fresh device
+
+pub fresh-same : (part : ℕ) → deviceOf (freshDevice part) ≡ model.freshDevice (partOf part)
+unfolding deviceOf
+fresh-same part = rw (banks-three part)
+
+replicate-map : {A B : Type 0} (f : A → B) (n : ℕ) (x : A) → map f (replicate n x) ≡ replicate n (f x)
+replicate-map f zero x = refl
+replicate-map f (suc n) x = rw (replicate-map f n x)
+
+-- ---- a fault setting
+
+pub flagged-registers : (r : Registers) (kind : ℕ) (flag : Bool) → registersOf (flagged r kind (digit flag)) ≡ model.flagged kind flag (registersOf r)
+flagged-registers r kind flag = go (eqb kind 0)
+  where
+    go : (b : Bool)
+        → registersOf (cond b (showing r (digit flag) (r .openled) (r .active) (r .active0) (r .active1)) (showing r (r .overtemperature) (digit flag) (r .active) (r .active0) (r .active1)))
+        ≡ record {
+          part = partOf (r .part);
+          configuration = r .configuration;
+          calibration = r .calibration;
+          waiting = registersOf r .waiting;
+          active = registersOf r .active;
+          overtemperature = cond b flag (isOne (r .overtemperature));
+          openled = cond b (isOne (r .openled)) flag;
+        }
+    go true = rw (one-digit flag)
+    go false = rw (one-digit flag)
+
+flagged-phase : (r : Registers) (kind flag : ℕ) (p : Phase) → phaseIn (flagged r kind flag) p ≡ phaseIn r p
+flagged-phase r kind flag p =
+    cond-both (λ (q : Registers). phaseIn q p ≡ phaseIn r p) (eqb kind 0) _ _
+    (λ _. showing-phase r flag (r .openled) (r .active) (r .active0) (r .active1) p)
+    (λ _. showing-phase r (r .overtemperature) flag (r .active) (r .active0) (r .active1) p)
+
+pub fault-same : (d : Device) (kind : ℕ) (flag : Bool) → deviceOf (faulted d kind (digit flag)) ≡ model.faulted kind flag (deviceOf d)
+unfolding deviceOf
+fault-same d kind flag = rw (flagged-registers (d .registers) kind flag, flagged-phase (d .registers) kind (digit flag) (phaseOf (d .place)))
+
+set-map : {A B : Type 0} (f : A → B) (xs : List A) (i : ℕ) (x : A) → map f (set xs i x) ≡ set (map f xs) i (f x)
+set-map f [] i x = refl
+set-map f (y ∷ ys) zero x = refl
+set-map f (y ∷ ys) (suc i) x = rw (set-map f ys i x)
+
+-- ---- every accepted call
+
+-- records that fit and whose arrays have their lengths
+pub all-sound : (ds : List Device) → allFit ds ≡ true → All Arrays ds → All Sound ds
+all-sound [] e h = tt
+all-sound (d ∷ ds) e h = let f = and-both (fits d) (allFit ds) e in (record { fit = f .0; slots = h .0 .slice }, all-sound ds (f .1) (h .1))
+
+run-fit : (ds : List Device) (ss : List ℕ) (room : ℕ) → runRefusal ds ss room ≡ 0 → allFit ds ≡ true
+unfolding runRefusal
+run-fit ds ss room e =
+    let t = clear (runTable ds ss room) refl e in
+    and-both (allBelow ss 4) (allFit ds) (not-false (allBelow ss 4 && allFit ds) (t .1 .1 .1 .1 .0)) .1
+
+accepted-given : (ds : List Device) (ss out : List ℕ) → refusalOf ds (run ss out) ≡ 0 → given ds (run ss out) ≡ ss
+unfolding refusalOf
+accepted-given ds ss out e = rw (eq-eqb (runRefusal ds ss (length out)) 0 e)
+
+accepted-fit : (ds : List Device) (ss out : List ℕ) → refusalOf ds (run ss out) ≡ 0 → allFit ds ≡ true
+unfolding refusalOf
+accepted-fit ds ss out e = run-fit ds ss (length out) e
+
+accepted-after : (ds : List Device) (c : Call) → refusalOf ds c ≡ 0 → after ds c ≡ effect ds c
+accepted-after ds c e = after-effect ds c ∙ rw (eq-eqb (refusalOf ds c) 0 e)
+
+pub call-same : (ds : List Device) (c : Call) → All Arrays ds → refusalOf ds c ≡ 0
+    → _≡_ {A = List model.Device × List Line} (map deviceOf (after ds c), map lineOf (answered ds c)) (called (map deviceOf ds) c)
+call-same ds (fresh part) a e =
+    rw (accepted-after ds (fresh part) e, length-map, replicate-map deviceOf (length ds) (freshDevice part), fresh-same part)
+call-same ds (run ss out) a e =
+    let f = accepted-given ds ss out e in
+    let x = ran-one ds ss out in
+    ap (λ (y : List Device × List ℕ). (map deviceOf (y .0), map lineOf (y .1))) x
+    ∙ ap (λ (zs : List ℕ). (map deviceOf ((chain stepRecord ds zs) .0), map lineOf ((chain stepRecord ds zs) .1))) f
+    ∙ chain-agree ds ss (all-sound ds (accepted-fit ds ss out e) a)
+call-same ds boundary a e = rw (accepted-after ds boundary e, boundary-same ds)
+call-same ds (fault device kind flag) a e =
+    rw (
+      accepted-after ds (fault device kind flag) e,
+      set-map deviceOf ds (device - 1) (faulted (getD ds (device - 1) blank) kind (digit flag)),
+      fault-same (getD ds (device - 1) blank) kind flag,
+      List·getD-map deviceOf ds (device - 1) blank,
+    )

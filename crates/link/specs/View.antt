@@ -1,0 +1,91 @@
+-- A record seen as a device of the model: its registers field by field, its phase with the bits that have come as a list. A record keeps the
+-- command bits and the count bits as a number after a leading one, and the bits of a slice in the slice's fields.
+use mathlib.Core.Path.{_≡_}
+use mathlib.Core.Bool.{Bool, cond}
+use mathlib.Core.List.{List, [], _∷_, _++_, map}
+use Prim.Native.Nat.{ℕ, zero, suc, _-_, _/_, _%_}
+use lib.Dec.{eqb, ltb}
+use lib.ListN.{length, getD}
+use Rattle.bits.specs.Bits.{isOne, bits}
+use Rattle.parts.specs.Parts.{partOf, fieldWidth}
+use Rattle.device.specs.Phases.{phaseOf}
+use Rattle.device.specs.Step.{sentStates, sliceLength, step}
+use Rattle.device.specs.declared.phase.Phase.{Phase}
+use Rattle.device.specs.declared.phase.Phase.the-variants.{Hunting, Opening, Counting, Slice, Passing, Lost}
+use Rattle.device.specs.declared.registers.Registers.{Registers}
+use Rattle.device.specs.declared.device.Device.{Device}
+use Rattle.calls.specs.Chain.{blank}
+use Rattle.model.specs.Device.{hunting, lost, taking, passing, command, count, slice}
+use Rattle.model.specs.Device as model
+use Rattle.model.specs.Set.{Own}
+use Rattle.model.specs.Restore as restore
+
+-- ---- bits as a record keeps them
+
+-- the bits after a number's leading one, at most k of them
+unfoldable pub rest : ℕ → ℕ → List Bool
+rest zero n = []
+rest (suc k) n = cond (ltb n 2) [] (rest k (n / 2) ++ eqb (n % 2) 1 ∷ [])
+
+-- the t bits that have come of a slice with fields of w bits: those of the last field are its low bits
+unfoldable pub gotten : ℕ → List ℕ → ℕ → List Bool
+gotten w [] t = []
+gotten w (v ∷ vs) t = cond (ltb t w) (bits t v) (bits w v ++ gotten w vs (t - w))
+
+-- ---- a record
+
+-- its registers; a flag is up where it is not 0
+abbrev pub registersOf : Registers → model.Registers
+registersOf r = record {
+  part = partOf (r .part);
+  configuration = r .configuration;
+  calibration = r .calibration;
+  waiting = record { global = r .waiting; mux0 = r .waiting0; mux1 = r .waiting1 };
+  active = record { global = r .active; mux0 = r .active0; mux1 = r .active1 };
+  overtemperature = isOne (r .overtemperature);
+  openled = isOne (r .openled);
+}
+
+-- its phase: the bits that have come, and how many more come after the next
+abbrev pub phaseIn : Registers → Phase → model.Phase
+phaseIn r (Hunting window) = hunting window
+phaseIn r (Opening read) = taking command (5 - length (rest 10 read)) (rest 10 read)
+phaseIn r (Counting c read) = taking (count c) (9 - length (rest 10 read)) (rest 10 read)
+phaseIn r (Slice c n t) = taking (slice c n) (sliceLength r c - suc t) (gotten (fieldWidth (partOf (r .part)) c) (r .slice) t)
+phaseIn r Passing = passing
+phaseIn r Lost = lost
+
+-- registers and a phase
+abbrev pub viewed : Registers → Phase → model.Device
+viewed r p = model.at (registersOf r) (phaseIn r p)
+
+-- the whole record
+unfoldable pub deviceOf : Device → model.Device
+deviceOf d = viewed (d .registers) (phaseOf (d .place))
+
+-- the step of a record, with the states that it sends on
+unfoldable pub stepRecord : Device → ℕ → Device × List ℕ
+stepRecord d s = (step d s .device, sentStates (step d s .sent))
+
+-- its arrays have the lengths that their types say, as those of every record that is lent do
+pub record Arrays (d : Device) : Type 0 where
+  pub calibration : length (d .registers .calibration) ≡ 3
+  pub waiting0 : length (d .registers .waiting0) ≡ 24
+  pub waiting1 : length (d .registers .waiting1) ≡ 24
+  pub active0 : length (d .registers .active0) ≡ 24
+  pub active1 : length (d .registers .active1) ≡ 24
+  pub slice : length (d .registers .slice) ≡ 48
+
+-- ---- a lent chain
+
+-- the registers of device n, counted from 1
+abbrev pub registersAt : List Device → ℕ → model.Registers
+registersAt ds n = registersOf (getD ds (n - 1) blank .registers)
+
+-- the registers of every device
+abbrev pub registersAll : List Device → List model.Registers
+registersAll ds = map (λ d. registersOf (d .registers)) ds
+
+-- the registers in use hold the values of the device's own slices
+abbrev pub Holds : Own → Device → Type 0
+Holds o d = restore.Holds o (registersOf (d .registers))

@@ -189,6 +189,7 @@ pub record Begun (p : ℕ) (records : List Device) (earlier during : List Call) 
   pub writable : Writable s tail
   pub devices : s .devices ≡ length records
   pub part : s .part ≡ startPart p records earlier
+  -- until the fourth frame ends no boundary falls and no fault flag changes
   pub runs : Runs (start p records earlier) during
 
 -- what holds of a chain `now`, as it stood before the restore, once the calls `during` gave the first k states of the set's restore

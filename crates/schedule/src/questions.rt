@@ -22,14 +22,14 @@ pub fn is_on(part: u16, configuration: u8, global: u8, subframe: u32) -> Asked
 }
 
 // How far does a window of subframes lead?
-pub fn lead_of(part: u16, configuration: u8, global: u8, start: u32, length: u32) -> Lead
-    ensures { λ r. ⌜ r ≡ leadAnswer part configuration global start length ⌝ }
+pub fn lead_of(part: u16, configuration: u8, global: u8, from: u32, w: u32) -> Lead
+    ensures { λ r. ⌜ r ≡ leadAnswer part configuration global from w ⌝ }
 {
-    let refusal = judge_window(part, configuration, start, length);
+    let refusal = judge_window(part, configuration, from, w);
     if refusal != 0 {
         return Lead::Refused(refusal);
     }
-    Lead::By(window_lead(part, configuration, global, start, length))
+    Lead::By(window_lead(part, configuration, global, from, w))
 }
 
 // Is an output lit at a clock of a subframe, where its value in the phase asked for is `value`?

@@ -9,7 +9,7 @@ add-result : tie.Need-add-result
 add-result c = search needs
 
 mul-result : tie.Need-mul-result
-mul-result c = record { fits = omega (arith, product-lt {m = c .args .subframe} {n = c .args .level + 1} (search needs) (search needs)) }
+mul-result c = record { fits = omega (arith, product-lt {m = c .args .s} {n = c .args .g + 1} (search needs) (search needs)) }
 
 div-result : tie.Need-div-result
 div-result c = search needs

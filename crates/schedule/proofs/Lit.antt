@@ -11,6 +11,7 @@ use borrow.Author.Tests.{eqb-true, eqb-false, eq-eqb, ne-eqb, ltb-true, ltb-fals
 use Rattle.bits.specs.Bits.{digit}
 use Rattle.parts.specs.Parts.{Part, partOf, subframes, multiplex}
 use Rattle.parts.proofs.Laws.{each-row}
+use Rattle.parts.proofs.Rows.{or-second}
 use Rattle.schedule.specs.Answers.{positionOver}
 use Rattle.schedule.specs.Light.{count, total, nameNumber, litAt, litBy, isEven, inRun, litFrom, litTo, litCount, isOn, isLit, litFirst, litEnd}
 
@@ -167,3 +168,16 @@ position-within p configuration output subframe clock phase e =
     let g = or-none (leb (subframes p configuration) subframe) (leb (p .clocks) clock || ltb (multiplex configuration) phase) (f .1) in
     let h = or-none (leb (p .clocks) clock) (ltb (multiplex configuration) phase) (g .1) in
     (leb-false (8 * p .banks) output (f .0), leb-false (subframes p configuration) subframe (g .0), leb-false (p .clocks) clock (h .0), ltb-false (multiplex configuration) phase (h .1))
+
+-- a subframe that has a clock has clock 0
+pub position-zero :
+    (p : Part) (configuration output subframe clock phase : ℕ)
+    → positionOver p configuration output subframe clock phase ≡ false
+    → positionOver p configuration output subframe 0 phase ≡ false
+unfolding positionOver
+position-zero p configuration output subframe clock phase e =
+    let w = position-within p configuration output subframe clock phase e in
+    let h : 0 < p .clocks = omega (arith, w .2) in
+    or-second (lt-leb (8 * p .banks) output (w .0))
+    (or-second (lt-leb (subframes p configuration) subframe (w .1))
+    (or-second (lt-leb (p .clocks) 0 h) (le-ltb (multiplex configuration) phase (w .3))))

@@ -5,9 +5,11 @@ use mathlib.Core.List.{List, [], _∷_}
 use lib.Dec.{ltb, leb}
 use Rattle.parts.specs.Refusals.{Row, _when_, first, answer}
 use Rattle.parts.specs.Parts.{Part, known, partOf, multiplex, subframes, limit}
-use Rattle.schedule.specs.Light.{isOn, leadOf, isLit}
+use Rattle.schedule.specs.Light.{isOn, leadOf, isLit, litFirst, litEnd}
 use Rattle.schedule.specs.declared.answer.Asked.{Asked}
 use Rattle.schedule.specs.declared.answer.Asked.the-variants as asked
+use Rattle.schedule.specs.declared.answer.Clocks.{Clocks}
+use Rattle.schedule.specs.declared.answer.Clocks.the-variants as clocks
 use Rattle.schedule.specs.declared.answer.Lead.{Lead}
 use Rattle.schedule.specs.declared.answer.Lead.the-variants as lead
 
@@ -52,3 +54,14 @@ unfoldable pub litAnswer : ℕ → ℕ → ℕ → ℕ → ℕ → ℕ → ℕ �
 litAnswer part configuration global value output subframe clock phase =
     answer (first (litRows part configuration value output subframe clock phase)) asked.Refused
     (asked.Is (isLit (partOf part) configuration global value output subframe clock))
+
+-- the first and the end clock of an output with a value in a subframe
+abbrev pub litRun : Part → ℕ → ℕ → ℕ → ℕ → ℕ → Clocks
+litRun p configuration global value output subframe =
+    clocks.Run (litFirst p configuration global value output subframe) (litEnd p configuration global value output subframe)
+
+-- at which clocks of a subframe is it lit, in a phase: refused as the question about clock 0, which every part has
+unfoldable pub litClocksAnswer : ℕ → ℕ → ℕ → ℕ → ℕ → ℕ → ℕ → Clocks
+litClocksAnswer part configuration global value output subframe phase =
+    answer (first (litRows part configuration value output subframe 0 phase)) clocks.Refused
+    (litRun (partOf part) configuration global value output subframe)

@@ -14,7 +14,8 @@ pub fn judge_subframe(part: u16, configuration: u8, subframe: u32) -> u8
     if !is_known(part) {
         return 1;
     }
-    if subframe >= subframes_of(part, configuration) as u32 {
+    let subframes = subframes_of(part, configuration) as u32;
+    if subframe >= subframes {
         return 13;
     }
     0

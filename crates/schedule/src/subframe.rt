@@ -35,7 +35,7 @@ fn level_of(part: u16, configuration: u8, global: u8) -> u32
 
 // The ON subframes before subframe s of a frame of `all`, at level g.
 fn on_first(all: u32, g: u32, s: u32) -> u32
-    requires { ⌜ (0 < all) × (g < 128) × (s ≤ 128) ⌝ }
+    requires { ⌜ (0 < all) × (g < 128) × (s ≤ 256) ⌝ }
     ensures { λ r. ⌜ r ≡ onFirst all g s ⌝ }
 {
     s * (g + 1) / all

@@ -74,7 +74,7 @@ mul-difference-2 : tie.Need-mul-difference-2
 mul-difference-2 c = record { fits = omega (arith, within c .due) }
 
 difference-requires : tie.Need-difference-requires
-difference-requires c κs = (within c .on, within c .due)
+difference-requires c κs = (within c .on, omega (arith, within c .due))
 
 returns : tie.Need-returns
 returns c = let a = c .before .before .before .before .before .args in

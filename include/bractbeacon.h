@@ -144,6 +144,13 @@ struct bb_signed {
     uint8_t refusal;
 };
 
+/* Clocks of a subframe, from `first` on and before `end`, or a refusal. Where there are none, and where refused, both are 0. */
+struct bb_clocks {
+    uint32_t first; /* the first clock */
+    uint32_t end;   /* the clock after the last */
+    uint8_t refusal;
+};
+
 /* The first difference between a set and a chain, or a refusal. All numbers are 0 where they are the same. */
 struct bb_compared {
     uint64_t device; /* 1 to N */
@@ -320,6 +327,18 @@ struct bb_answer bb_lit(uint16_t part, uint8_t configuration, uint8_t global, ui
  */
 struct bb_answer bb_device_lit(struct bb_device device, uint32_t output, uint32_t subframe, uint32_t clock,
                                uint32_t phase);
+
+/*
+ * The clocks of a subframe at which an output is lit, as one run: bb_lit says 1 at each clock from `first` on and before
+ * `end`, and 0 at every other. Both are 0 in a subframe that is not ON, and for a value up to the edge zone, 16 (6974)
+ * or 32 (6975).
+ * Refused as bb_lit is, apart from the clock.
+ */
+struct bb_clocks bb_lit_clocks(uint16_t part, uint8_t configuration, uint8_t global, uint16_t value, uint32_t output,
+                               uint32_t subframe, uint32_t phase);
+
+/* The same of a device, by its configuration and active values. Refused as bb_device_lit is, apart from the clock. */
+struct bb_clocks bb_device_lit_clocks(struct bb_device device, uint32_t output, uint32_t subframe, uint32_t phase);
 
 /* ---- Is it running? ---- */
 

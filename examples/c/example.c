@@ -150,6 +150,11 @@ static void light(const struct bb_device *chain)
         odd += (unsigned)b7;
     }
     printf("lit clocks in subframe 1: R0 %u, B7 %u\n", even, odd);
+    struct bb_clocks run = bb_device_lit_clocks(chain[0], 23, 1, 0);
+    printf("R0 in subframe 1: clocks %u to %u\n", (unsigned)run.first, (unsigned)run.end - 1);
+    expect("the run of R0 is 16 to 2559", run.refusal == 0 && run.first == 16 && run.end == 2560);
+    struct bb_clocks none = bb_lit_clocks(6975, 0, 31, 32, 23, 0, 0);
+    expect("a 6975 with value 32: R0 at no clock", none.refusal == 0 && none.first == 0 && none.end == 0);
     expect("a 6975 with value 33: R0 at 32", bb_lit(6975, 0, 31, 33, 23, 0, 32, 0).value == 1);
     expect("nonmultiplexed, phase MUX1 is 13", bb_lit(6975, 0, 31, 33, 23, 0, 32, 1).refusal == 13);
 }

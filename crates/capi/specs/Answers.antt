@@ -23,9 +23,12 @@ use Rattle.device.specs.declared.phase.Sent.{Sent}
 use Rattle.device.specs.declared.phase.Sent.the-variants as S
 use Rattle.schedule.specs.declared.answer.Asked.{Asked}
 use Rattle.schedule.specs.declared.answer.Asked.the-variants as Q
+use Rattle.schedule.specs.declared.answer.Clocks.{Clocks as LitClocks}
+use Rattle.schedule.specs.declared.answer.Clocks.the-variants as K
 use Rattle.schedule.specs.declared.answer.Lead.{Lead}
 use Rattle.schedule.specs.declared.answer.Lead.the-variants as W
 use Rattle.capi.specs.declared.answer.Answer.{Answer}
+use Rattle.capi.specs.declared.answer.Clocks.{Clocks}
 use Rattle.capi.specs.declared.answer.Signed.{Signed}
 use Rattle.capi.specs.declared.steps.Stepped.{Stepped}
 
@@ -90,6 +93,11 @@ ofAsked (Q.Refused number) = refused number
 abbrev pub ofLead : Lead → Signed
 ofLead (W.By value) = record { value = value; refusal = 0 }
 ofLead (W.Refused number) = record { value = pos 0; refusal = number }
+
+-- a run of clocks
+abbrev pub ofClocks : LitClocks → Clocks
+ofClocks (K.Run from to) = record { first = from; end = to; refusal = 0 }
+ofClocks (K.Refused number) = record { first = 0; end = 0; refusal = number }
 
 -- ---- one device
 

@@ -33,3 +33,11 @@ pub struct Signed {
     pub value: i32,
     pub refusal: u8,
 }
+
+// Clocks from the first on and before the end, or a refusal: 0 as above, and both 0 where there are none.
+#[repr(C)]
+pub struct Clocks {
+    pub first: u32,
+    pub end: u32,
+    pub refusal: u8,
+}

@@ -9,12 +9,15 @@ mod steps;
 mod wire;
 
 pub use answer::Answer;
+pub use answer::Clocks;
 pub use answer::Signed;
 pub use bytes::bb_pack;
 pub use bytes::bb_unpack;
 pub use light::bb_device_lit;
+pub use light::bb_device_lit_clocks;
 pub use light::bb_lead;
 pub use light::bb_lit;
+pub use light::bb_lit_clocks;
 pub use light::bb_on;
 pub use lines::bb_data_bytes;
 pub use lines::bb_states;

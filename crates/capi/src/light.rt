@@ -1,9 +1,10 @@
 // The questions about light.
 ghost use mathlib.Core.Path.{_≡_};
-ghost use Rattle.schedule.specs.Answers.{onAnswer, leadAnswer, litAnswer};
-ghost use Rattle.schedule.specs.OfDevice.{deviceAnswer};
-ghost use Rattle.capi.specs.Answers.{ofAsked, ofLead};
+ghost use Rattle.schedule.specs.Answers.{onAnswer, leadAnswer, litAnswer, litClocksAnswer};
+ghost use Rattle.schedule.specs.OfDevice.{deviceAnswer, deviceClocksAnswer};
+ghost use Rattle.capi.specs.Answers.{ofAsked, ofLead, ofClocks};
 use crate::answer::Answer;
+use crate::answer::Clocks;
 use crate::answer::Signed;
 use crate::answer::accept;
 use crate::answer::refuse;
@@ -21,16 +22,10 @@ pub extern "C" fn bb_on(part: u16, configuration: u8, global: u8, subframe: u32)
 
 // How far does a window of subframes lead?
 #[no_mangle]
-pub extern "C" fn bb_lead(
-    part: u16,
-    configuration: u8,
-    global: u8,
-    start: u32,
-    length: u32,
-) -> Signed
-    ensures { λ r. ⌜ r ≡ ofLead (leadAnswer part configuration global start length) ⌝ }
+pub extern "C" fn bb_lead(part: u16, configuration: u8, global: u8, from: u32, w: u32) -> Signed
+    ensures { λ r. ⌜ r ≡ ofLead (leadAnswer part configuration global from w) ⌝ }
 {
-    of_lead(schedule::lead_of(part, configuration, global, start, length))
+    of_lead(schedule::lead_of(part, configuration, global, from, w))
 }
 
 // Is an output with a value lit at a clock of a subframe, in a phase?
@@ -73,6 +68,35 @@ pub extern "C" fn bb_device_lit(
     of_asked(schedule::is_device_lit(device, output, subframe, clock, phase))
 }
 
+// At which clocks of a subframe is an output with a value lit, in a phase?
+#[no_mangle]
+pub extern "C" fn bb_lit_clocks(
+    part: u16,
+    configuration: u8,
+    global: u8,
+    value: u16,
+    output: u32,
+    subframe: u32,
+    phase: u32,
+) -> Clocks
+    ensures { λ r. ⌜ r ≡ ofClocks (litClocksAnswer part configuration global value output subframe phase) ⌝ }
+{
+    of_clocks(schedule::lit_clocks(part, configuration, global, value, output, subframe, phase))
+}
+
+// The same of a device, by its active values.
+#[no_mangle]
+pub extern "C" fn bb_device_lit_clocks(
+    device: Device,
+    output: u32,
+    subframe: u32,
+    phase: u32,
+) -> Clocks
+    ensures { λ r. ⌜ r ≡ ofClocks (deviceClocksAnswer device output subframe phase) ⌝ }
+{
+    of_clocks(schedule::device_lit_clocks(device, output, subframe, phase))
+}
+
 fn of_asked(asked: Asked) -> Answer
     ensures { λ r. ⌜ r ≡ ofAsked asked ⌝ }
 {
@@ -92,6 +116,23 @@ fn of_lead(lead: Lead) -> Signed
         },
         Lead::Refused(number) => Signed {
             value: 0,
+            refusal: number,
+        },
+    }
+}
+
+fn of_clocks(clocks: schedule::Clocks) -> Clocks
+    ensures { λ r. ⌜ r ≡ ofClocks clocks ⌝ }
+{
+    match clocks {
+        schedule::Clocks::Run(first, end) => Clocks {
+            first: first,
+            end: end,
+            refusal: 0,
+        },
+        schedule::Clocks::Refused(number) => Clocks {
+            first: 0,
+            end: 0,
             refusal: number,
         },
     }

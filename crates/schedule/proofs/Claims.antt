@@ -1,19 +1,24 @@
 -- Document 01's "Light" for each part, configuration and global byte, as statements about what the questions answer. They follow from the
 -- laws of Subframes and Lit, which hold for any S, level and row. Assumes nothing.
-use mathlib.Core.Path.{_≡_, refl, sym, ap, _∙_}
-use mathlib.Core.Bool.{true, false}
-use Prim.Native.Nat.{ℕ, _+_, _-_, _*_, _/_}
+use mathlib.Core.Path.{_≡_, refl, sym, ap, ap₂, _∙_}
+use mathlib.Core.Bool.{Bool, true, false, not, cond}
+use Prim.Native.Nat.{ℕ, _+_, _-_, _*_, _/_, _≤_}
+use native.Mathlib.Omega.{arith}
+use lib.Dec.{eqb}
 use lib.IntN.{pos, negℤ}
 use lib.Signed.{_<ℤ_}
-use Rattle.parts.specs.Refusals.{first, Lowest}
+use Rattle.parts.specs.Refusals.{first, Lowest, answer}
 use Rattle.parts.specs.Parts.{Part, partOf, subframes}
-use Rattle.parts.proofs.Rows.{accepted, lowest}
+use Rattle.parts.proofs.Rows.{clear, none, or-second, accepted, lowest}
+use Rattle.device.specs.declared.device.Device.{Device}
+use Rattle.device.specs.Judgement.{fits}
 use Rattle.schedule.specs.declared.answer.Asked.the-variants as asked
-use Rattle.schedule.specs.declared.answer.Lead.the-variants as lead
-use Rattle.schedule.specs.Light.{count, total, level, isOn, leadOf, isEven, isLit, litAt}
-use Rattle.schedule.specs.Answers.{onRows, leadRows, litRows, litAnswer}
+use Rattle.schedule.specs.declared.answer.Clocks.the-variants as clocks
+use Rattle.schedule.specs.Light.{count, total, level, isOn, leadOf, isEven, isLit, litAt, inRun, litFrom, litTo, litCount, litFirst, litEnd}
+use Rattle.schedule.specs.Answers.{positionOver, onRows, leadRows, litRows, litAnswer, litClocksAnswer}
+use Rattle.schedule.specs.OfDevice.{activeValue, deviceRows, deviceAnswer, deviceClocksAnswer}
 use Rattle.schedule.proofs.Subframes.{level-lt, count-frame, count-quotients, lead-below}
-use Rattle.schedule.proofs.Lit.{inRun, litFrom, litTo, litClocks, lit-run, count-lit, total-lit, lit-on, lit-off}
+use Rattle.schedule.proofs.Lit.{lit-run, lit-first-end, run-empty, count-lit, total-lit, lit-on, lit-off, or-none, position-zero}
 
 -- a frame has exactly g + 1 ON subframes
 pub frame-on :
@@ -24,20 +29,20 @@ frame-on part configuration global =
 
 -- the ON count of a window is a difference of two quotients
 pub window-on :
-    (part configuration global start length : ℕ)
-    → count (isOn (partOf part) configuration global) start length
-    ≡ (start + length) * (level (partOf part) configuration global + 1) / subframes (partOf part) configuration
-    - start * (level (partOf part) configuration global + 1) / subframes (partOf part) configuration
-window-on part configuration global start length =
-    count-quotients (subframes (partOf part) configuration) (level (partOf part) configuration global) (level-lt part configuration global) start length
+    (part configuration global from w : ℕ)
+    → count (isOn (partOf part) configuration global) from w
+    ≡ (from + w) * (level (partOf part) configuration global + 1) / subframes (partOf part) configuration
+    - from * (level (partOf part) configuration global + 1) / subframes (partOf part) configuration
+window-on part configuration global from w =
+    count-quotients (subframes (partOf part) configuration) (level (partOf part) configuration global) (level-lt part configuration global) from w
 
 -- the lead of every window lies strictly between -S and S
 pub window-lead :
-    (part configuration global start length : ℕ)
-    → (negℤ (pos (subframes (partOf part) configuration)) <ℤ leadOf (partOf part) configuration global start length)
-    × (leadOf (partOf part) configuration global start length <ℤ pos (subframes (partOf part) configuration))
-window-lead part configuration global start length =
-    lead-below (subframes (partOf part) configuration) (level (partOf part) configuration global) (level-lt part configuration global) start length
+    (part configuration global from w : ℕ)
+    → (negℤ (pos (subframes (partOf part) configuration)) <ℤ leadOf (partOf part) configuration global from w)
+    × (leadOf (partOf part) configuration global from w <ℤ pos (subframes (partOf part) configuration))
+window-lead part configuration global from w =
+    lead-below (subframes (partOf part) configuration) (level (partOf part) configuration global) (level-lt part configuration global) from w
 
 -- an accepted question about an ON subframe says: lit in one run of clocks, and no others
 pub lit-in-run :
@@ -53,6 +58,31 @@ lit-in-run part configuration global value output subframe clock phase a e =
     (ap asked.Is
     (sym (lit-run (partOf part) value output clock) ∙ sym (lit-on (partOf part) configuration global value output subframe clock e))))
 
+-- the same of the outputs of a parity
+pub lights :
+    (part value : ℕ) (even : Bool) (configuration global output subframe clock phase : ℕ)
+    → first (litRows part configuration value output subframe clock phase) ≡ 0
+    → isOn (partOf part) configuration global subframe ≡ true
+    → isEven output ≡ even
+    → litAnswer part configuration global value output subframe clock phase
+    ≡ asked.Is (inRun (litFrom (partOf part) value even) (litTo (partOf part) value even) clock)
+lights part value even configuration global output subframe clock phase a e q =
+    lit-in-run part configuration global value output subframe clock phase a e
+    ∙ ap (λ (t : Bool). asked.Is (inRun (litFrom (partOf part) value t) (litTo (partOf part) value t) clock)) q
+
+-- where their run is empty: not lit
+pub dark :
+    (part value : ℕ) (even : Bool)
+    → litTo (partOf part) value even ≤ litFrom (partOf part) value even
+    → (configuration global output subframe clock phase : ℕ)
+    → first (litRows part configuration value output subframe clock phase) ≡ 0
+    → isOn (partOf part) configuration global subframe ≡ true
+    → isEven output ≡ even
+    → litAnswer part configuration global value output subframe clock phase ≡ asked.Is false
+dark part value even h configuration global output subframe clock phase a e q =
+    lights part value even configuration global output subframe clock phase a e q
+    ∙ ap asked.Is (run-empty (litFrom (partOf part) value even) (litTo (partOf part) value even) clock h)
+
 -- about an OFF subframe it says: not lit
 pub lit-never :
     (part configuration global value output subframe clock phase : ℕ)
@@ -63,18 +93,78 @@ unfolding litAnswer
 lit-never part configuration global value output subframe clock phase a e =
     sym (accepted asked.Refused refl a (ap asked.Is (sym (lit-off (partOf part) configuration global value output subframe clock e))))
 
+-- what an accepted answer gives as first and end clock
+run-given : (n g h f e : ℕ) → answer n clocks.Refused (clocks.Run g h) ≡ clocks.Run f e → (g ≡ f) × (h ≡ e)
+run-given n g h f e q = at (eqb n 0) q where
+  at : (t : Bool) → cond t (clocks.Run g h) (clocks.Refused n) ≡ clocks.Run f e → (g ≡ f) × (h ≡ e)
+  at true r = (cc, cc)
+  at false r = let z : _≡_ {A = ℕ} 0 1 = cc in absurd (omega arith)
+
+-- the run that is answered for a subframe has the clocks at which the output is said to be lit, and no others
+pub lit-clocks :
+    (part configuration global value output subframe clock phase f e : ℕ)
+    → litClocksAnswer part configuration global value output subframe phase ≡ clocks.Run f e
+    → first (litRows part configuration value output subframe clock phase) ≡ 0
+    → litAnswer part configuration global value output subframe clock phase ≡ asked.Is (inRun f e clock)
+unfolding litAnswer litClocksAnswer
+lit-clocks part configuration global value output subframe clock phase f e q a =
+    let p = partOf part in
+    let g = run-given (first (litRows part configuration value output subframe 0 phase)) (litFirst p configuration global value output subframe) (litEnd p configuration global value output subframe) f e q in
+    sym
+    (accepted asked.Refused refl a
+    (ap asked.Is
+    (sym (lit-first-end p configuration global value output subframe clock ∙ ap₂ (λ (m n : ℕ). inRun m n clock) (g .0) (g .1)))))
+
+-- it is answered wherever the question about one clock is: every part has a clock 0
+pub lit-clocks-accepted :
+    (part configuration value output subframe clock phase : ℕ)
+    → first (litRows part configuration value output subframe clock phase) ≡ 0
+    → first (litRows part configuration value output subframe 0 phase) ≡ 0
+lit-clocks-accepted part configuration value output subframe clock phase a =
+    let n = clear (litRows part configuration value output subframe clock phase) refl a in
+    none (litRows part configuration value output subframe 0 phase)
+    (n .0, (n .1 .0, (position-zero (partOf part) configuration output subframe clock phase (n .1 .1 .0), tt)))
+
+-- of a device record, the same
+pub device-clocks :
+    (d : Device) (output subframe clock phase f e : ℕ)
+    → deviceClocksAnswer d output subframe phase ≡ clocks.Run f e
+    → first (deviceRows d output subframe clock phase) ≡ 0
+    → deviceAnswer d output subframe clock phase ≡ asked.Is (inRun f e clock)
+unfolding deviceAnswer deviceClocksAnswer
+device-clocks d output subframe clock phase f e q a =
+    let r = d .registers in
+    let p = partOf (r .part) in
+    let v = activeValue r output phase in
+    let g = run-given (first (deviceRows d output subframe 0 phase)) (litFirst p (r .configuration) (r .active) v output subframe) (litEnd p (r .configuration) (r .active) v output subframe) f e q in
+    sym
+    (accepted asked.Refused refl a
+    (ap asked.Is
+    (sym (lit-first-end p (r .configuration) (r .active) v output subframe clock ∙ ap₂ (λ (m n : ℕ). inRun m n clock) (g .0) (g .1)))))
+
+pub device-clocks-accepted :
+    (d : Device) (output subframe clock phase : ℕ)
+    → first (deviceRows d output subframe clock phase) ≡ 0
+    → first (deviceRows d output subframe 0 phase) ≡ 0
+device-clocks-accepted d output subframe clock phase a =
+    let r = d .registers in
+    let n = clear (deviceRows d output subframe clock phase) refl a in
+    let o = or-none (not (fits d)) (positionOver (partOf (r .part)) (r .configuration) output subframe clock phase) (n .1 .0) in
+    none (deviceRows d output subframe 0 phase)
+    (n .0, (or-second (o .0) (position-zero (partOf (r .part)) (r .configuration) output subframe clock phase (o .1)), tt))
+
 -- of an ON subframe's clocks, those of the value outside the edge zones are lit, whether the output is even or odd
-pub lit-count : (p : Part) (value output : ℕ) → count (litAt p value output) 0 (p .clocks) ≡ litClocks p value
+pub lit-count : (p : Part) (value output : ℕ) → count (litAt p value output) 0 (p .clocks) ≡ litCount p value
 lit-count p value output = count-lit p value output
 
 -- so in a frame, over its subframes and their clocks, g + 1 times as many
 pub frame-lit :
     (part configuration global value output : ℕ)
     → total (λ s. count (isLit (partOf part) configuration global value output s) 0 (partOf part .clocks)) (subframes (partOf part) configuration)
-    ≡ (level (partOf part) configuration global + 1) * litClocks (partOf part) value
+    ≡ (level (partOf part) configuration global + 1) * litCount (partOf part) value
 frame-lit part configuration global value output =
     total-lit (partOf part) configuration global value output (subframes (partOf part) configuration)
-    ∙ ap (λ (n : ℕ). n * litClocks (partOf part) value) (frame-on part configuration global)
+    ∙ ap (λ (n : ℕ). n * litCount (partOf part) value) (frame-on part configuration global)
 
 -- ---- a refusal is the lowest number that applies
 
@@ -84,9 +174,9 @@ pub on-lowest :
 on-lowest part configuration subframe h = lowest (onRows part configuration subframe) refl h
 
 pub lead-lowest :
-    (part configuration start length : ℕ) → (first (leadRows part configuration start length) ≡ 0 → ⊥)
-    → Lowest (first (leadRows part configuration start length)) (leadRows part configuration start length)
-lead-lowest part configuration start length h = lowest (leadRows part configuration start length) refl h
+    (part configuration from w : ℕ) → (first (leadRows part configuration from w) ≡ 0 → ⊥)
+    → Lowest (first (leadRows part configuration from w)) (leadRows part configuration from w)
+lead-lowest part configuration from w h = lowest (leadRows part configuration from w) refl h
 
 pub lit-lowest :
     (part configuration value output subframe clock phase : ℕ)

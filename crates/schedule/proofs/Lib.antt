@@ -1,7 +1,6 @@
--- Laws of light: signed differences, ON subframes, lit clocks, the claims for each part, and document 01's examples i, j, k.
+-- Laws of light: signed differences, ON subframes, lit clocks, device records, and the claims for each part.
 pub mod Signed
 pub mod Subframes
 pub mod Lit
 pub mod Records
 pub mod Claims
-pub mod Examples

@@ -11,23 +11,9 @@ use borrow.Author.Tests.{eqb-true, eqb-false, eq-eqb, ne-eqb, ltb-true, ltb-fals
 use Rattle.bits.specs.Bits.{digit}
 use Rattle.parts.specs.Parts.{Part, partOf, subframes, multiplex}
 use Rattle.parts.proofs.Laws.{each-row}
+use Rattle.parts.proofs.Rows.{or-second}
 use Rattle.schedule.specs.Answers.{positionOver}
-use Rattle.schedule.specs.Light.{count, total, nameNumber, litAt, litBy, isEven, isOn, isLit}
-
--- c lies in the run of clocks from `from` up to `to`, `to` not among them
-abbrev pub inRun : ℕ → ℕ → ℕ → Bool
-inRun from to c = leb from c && ltb c to
-
--- the first lit clock of an even or an odd output, and the clock after the last
-abbrev pub litFrom : Part → ℕ → Bool → ℕ
-litFrom p v even = cond even (p .edge) (max (p .edge) (p .clocks - v))
-
-abbrev pub litTo : Part → ℕ → Bool → ℕ
-litTo p v even = cond even (min v (p .clocks - p .edge)) (p .clocks - p .edge)
-
--- how many clocks are lit
-abbrev pub litClocks : Part → ℕ → ℕ
-litClocks p v = min v (p .clocks - p .edge) - p .edge
+use Rattle.schedule.specs.Light.{count, total, nameNumber, litAt, litBy, isEven, inRun, litFrom, litTo, litCount, isOn, isLit, litFirst, litEnd}
 
 ltb-min : (c m n : ℕ) → ltb c (min m n) ≡ ltb c n && ltb c m
 ltb-min c m n = at (ltb c n) refl (ltb c m) refl where
@@ -64,6 +50,23 @@ run-empty from to c h = at (leb from c) refl where
   at true e = le-ltb c to (omega (arith, leb-true from c e))
   at false e = refl
 
+-- and in the run of its first and end clock, which has no clock in an OFF subframe
+pub lit-first-end :
+    (p : Part) (configuration global v output s c : ℕ)
+    → isLit p configuration global v output s c
+    ≡ inRun (litFirst p configuration global v output s) (litEnd p configuration global v output s) c
+lit-first-end p configuration global v output s c = at (isOn p configuration global s) (ltb from to) refl where
+  from : ℕ
+  from = litFrom p v (isEven output)
+
+  to : ℕ
+  to = litTo p v (isEven output)
+
+  at : (a b : Bool) → ltb from to ≡ b → (a && litAt p v output c) ≡ inRun (cond (a && b) from 0) (cond (a && b) to 0) c
+  at false b e = sym (run-empty 0 0 c (omega arith))
+  at true true e = lit-run p v output c
+  at true false e = lit-run p v output c ∙ run-empty from to c (ltb-false from to e) ∙ sym (run-empty 0 0 c (omega arith))
+
 -- ---- how many
 
 count-same : (f g : ℕ → Bool) → ((c : ℕ) → f c ≡ g c) → (from n : ℕ) → count f from n ≡ count g from n
@@ -85,12 +88,12 @@ mirror : (e n v : ℕ) → n - e - max e (n - v) ≡ min v (n - e) - e
 mirror e n v = omega arith
 
 -- an output is lit for as many clocks of a subframe, even or odd
-pub count-lit : (p : Part) (v output : ℕ) → count (litAt p v output) 0 (p .clocks) ≡ litClocks p v
+pub count-lit : (p : Part) (v output : ℕ) → count (litAt p v output) 0 (p .clocks) ≡ litCount p v
 count-lit p v output =
     count-same (litAt p v output) (inRun (litFrom p v (isEven output)) (litTo p v (isEven output))) (lit-run p v output) 0 (p .clocks)
     ∙ count-run (litFrom p v (isEven output)) (litTo p v (isEven output)) (p .clocks)
     ∙ at (isEven output) where
-      at : (t : Bool) → min (cond t (min v (p .clocks - p .edge)) (p .clocks - p .edge)) (p .clocks) - cond t (p .edge) (max (p .edge) (p .clocks - v)) ≡ litClocks p v
+      at : (t : Bool) → min (cond t (min v (p .clocks - p .edge)) (p .clocks - p .edge)) (p .clocks) - cond t (p .edge) (max (p .edge) (p .clocks - v)) ≡ litCount p v
       at true =
           let k : min (min v (p .clocks - p .edge)) (p .clocks) ≡ min v (p .clocks - p .edge) = omega arith in
           ap (λ (n : ℕ). n - p .edge) k
@@ -114,16 +117,16 @@ count-none from (suc n) = add-zero _ ∙ count-none from n
 -- the lit clocks of the first n subframes
 pub total-lit :
     (p : Part) (configuration global v output n : ℕ)
-    → total (λ s. count (isLit p configuration global v output s) 0 (p .clocks)) n ≡ count (isOn p configuration global) 0 n * litClocks p v
+    → total (λ s. count (isLit p configuration global v output s) 0 (p .clocks)) n ≡ count (isOn p configuration global) 0 n * litCount p v
 unfolding count total
-total-lit p configuration global v output zero = sym (zero-mul (litClocks p v))
+total-lit p configuration global v output zero = sym (zero-mul (litCount p v))
 total-lit p configuration global v output (suc n) =
     ap₂ (λ (j k : ℕ). j + k) (total-lit p configuration global v output n)
-    (at (isOn p configuration global n) ∙ ap (λ (k : ℕ). digit (isOn p configuration global k) * litClocks p v) (sym (zero-add n)))
-    ∙ sym (add-mul (count (isOn p configuration global) 0 n) (digit (isOn p configuration global (0 + n))) (litClocks p v)) where
-      at : (t : Bool) → count (λ c. t && litAt p v output c) 0 (p .clocks) ≡ digit t * litClocks p v
-      at true = count-lit p v output ∙ sym (one-mul (litClocks p v))
-      at false = count-none 0 (p .clocks) ∙ sym (zero-mul (litClocks p v))
+    (at (isOn p configuration global n) ∙ ap (λ (k : ℕ). digit (isOn p configuration global k) * litCount p v) (sym (zero-add n)))
+    ∙ sym (add-mul (count (isOn p configuration global) 0 n) (digit (isOn p configuration global (0 + n))) (litCount p v)) where
+      at : (t : Bool) → count (λ c. t && litAt p v output c) 0 (p .clocks) ≡ digit t * litCount p v
+      at true = count-lit p v output ∙ sym (one-mul (litCount p v))
+      at false = count-none 0 (p .clocks) ∙ sym (zero-mul (litCount p v))
 
 -- ---- by the tests of the code
 
@@ -165,3 +168,16 @@ position-within p configuration output subframe clock phase e =
     let g = or-none (leb (subframes p configuration) subframe) (leb (p .clocks) clock || ltb (multiplex configuration) phase) (f .1) in
     let h = or-none (leb (p .clocks) clock) (ltb (multiplex configuration) phase) (g .1) in
     (leb-false (8 * p .banks) output (f .0), leb-false (subframes p configuration) subframe (g .0), leb-false (p .clocks) clock (h .0), ltb-false (multiplex configuration) phase (h .1))
+
+-- a subframe that has a clock has clock 0
+pub position-zero :
+    (p : Part) (configuration output subframe clock phase : ℕ)
+    → positionOver p configuration output subframe clock phase ≡ false
+    → positionOver p configuration output subframe 0 phase ≡ false
+unfolding positionOver
+position-zero p configuration output subframe clock phase e =
+    let w = position-within p configuration output subframe clock phase e in
+    let h : 0 < p .clocks = omega (arith, w .2) in
+    or-second (lt-leb (8 * p .banks) output (w .0))
+    (or-second (lt-leb (subframes p configuration) subframe (w .1))
+    (or-second (lt-leb (p .clocks) 0 h) (le-ltb (multiplex configuration) phase (w .3))))

@@ -49,19 +49,19 @@ module _ (S g : ℕ) (h : g < S) where
   first-rise s = subst (λ (n : ℕ). onFirst S g (s + 1) ≤ n) (add-div-right (s * (g + 1)) (omega arith)) (div-mono S (omega arith) (omega (arith, next s)))
 
   -- the quotient counts the ON subframes
-  pub first-count : (start w : ℕ) → onFirst S g start + onCount S g start w ≡ onFirst S g (start + w)
+  pub first-count : (from w : ℕ) → onFirst S g from + onCount S g from w ≡ onFirst S g (from + w)
   unfolding count
-  first-count start zero = add-zero _ ∙ ap (onFirst S g) (sym (add-zero start))
-  first-count start (suc w) =
-      omega (arith, first-count start w, digit-rise (onFirst S g (start + w)) (onFirst S g (start + w + 1)) (first-le (start + w)) (first-rise (start + w)), ap (onFirst S g) (add-one (start + w) ∙ sym (add-suc start w)))
+  first-count from zero = add-zero _ ∙ ap (onFirst S g) (sym (add-zero from))
+  first-count from (suc w) =
+      omega (arith, first-count from w, digit-rise (onFirst S g (from + w)) (onFirst S g (from + w + 1)) (first-le (from + w)) (first-rise (from + w)), ap (onFirst S g) (add-one (from + w) ∙ sym (add-suc from w)))
 
   -- the ON subframes of a window are not more than it has
-  pub first-window : (start w : ℕ) → (onFirst S g start ≤ onFirst S g (start + w)) × (onFirst S g (start + w) ≤ onFirst S g start + w)
-  first-window start w = omega (arith, first-count start w, count-le (on S g) start w)
+  pub first-window : (from w : ℕ) → (onFirst S g from ≤ onFirst S g (from + w)) × (onFirst S g (from + w) ≤ onFirst S g from + w)
+  first-window from w = omega (arith, first-count from w, count-le (on S g) from w)
 
   -- the ON count of a window is a difference of two quotients
-  pub count-quotients : (start w : ℕ) → onCount S g start w ≡ onFirst S g (start + w) - onFirst S g start
-  count-quotients start w = omega (arith, first-count start w)
+  pub count-quotients : (from w : ℕ) → onCount S g from w ≡ onFirst S g (from + w) - onFirst S g from
+  count-quotients from w = omega (arith, first-count from w)
 
   -- a frame has exactly g + 1 ON subframes
   pub count-frame : onCount S g 0 S ≡ g + 1
@@ -69,19 +69,19 @@ module _ (S g : ℕ) (h : g < S) where
       omega (arith, first-count 0 S, ap (λ (n : ℕ). n / S) (zero-mul (g + 1)) ∙ zero-div S, ap (onFirst S g) (zero-add S) ∙ mul-div-cancel-left (g + 1) {n = S} (omega arith))
 
   -- the lead is a difference of two remainders
-  pub lead-remainders : (start w : ℕ) → lead S g start w ≡ pos (start * (g + 1) % S) -ℤ pos ((start + w) * (g + 1) % S)
-  lead-remainders start w =
-      let a : ℕ = start * (g + 1) in
-      let b : ℕ = (start + w) * (g + 1) in
-      let n : ℕ = onCount S g start w in
+  pub lead-remainders : (from w : ℕ) → lead S g from w ≡ pos (from * (g + 1) % S) -ℤ pos ((from + w) * (g + 1) % S)
+  lead-remainders from w =
+      let a : ℕ = from * (g + 1) in
+      let b : ℕ = (from + w) * (g + 1) in
+      let n : ℕ = onCount S g from w in
       sub-equal (S * n) (w * (g + 1)) (a % S) (b % S)
-      (omega (arith, div-add-mod a S, div-add-mod b S, add-mul start w (g + 1), mul-add S (a / S) n, ap (λ (k : ℕ). S * k) (first-count start w)))
+      (omega (arith, div-add-mod a S, div-add-mod b S, add-mul from w (g + 1), mul-add S (a / S) n, ap (λ (k : ℕ). S * k) (first-count from w)))
 
   -- the lead of any window lies strictly between -S and S
-  pub lead-below : (start w : ℕ) → (negℤ (pos S) <ℤ lead S g start w) × (lead S g start w <ℤ pos S)
-  lead-below start w =
-      subst (λ (z : ℤ). (negℤ (pos S) <ℤ z) × (z <ℤ pos S)) (sym (lead-remainders start w))
-      (sub-below S (start * (g + 1) % S) ((start + w) * (g + 1) % S) (mod-lt _ (omega arith)) (mod-lt _ (omega arith)))
+  pub lead-below : (from w : ℕ) → (negℤ (pos S) <ℤ lead S g from w) × (lead S g from w <ℤ pos S)
+  lead-below from w =
+      subst (λ (z : ℤ). (negℤ (pos S) <ℤ z) × (z <ℤ pos S)) (sym (lead-remainders from w))
+      (sub-below S (from * (g + 1) % S) ((from + w) * (g + 1) % S) (mod-lt _ (omega arith)) (mod-lt _ (omega arith)))
 
 -- ---- of the parts
 

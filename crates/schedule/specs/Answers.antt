@@ -5,15 +5,17 @@ use mathlib.Core.List.{List, [], _∷_}
 use lib.Dec.{ltb, leb}
 use Rattle.parts.specs.Refusals.{Row, _when_, first, answer}
 use Rattle.parts.specs.Parts.{Part, known, partOf, multiplex, subframes, limit}
-use Rattle.schedule.specs.Light.{isOn, leadOf, isLit}
+use Rattle.schedule.specs.Light.{isOn, leadOf, isLit, litFirst, litEnd}
 use Rattle.schedule.specs.declared.answer.Asked.{Asked}
 use Rattle.schedule.specs.declared.answer.Asked.the-variants as asked
+use Rattle.schedule.specs.declared.answer.Clocks.{Clocks}
+use Rattle.schedule.specs.declared.answer.Clocks.the-variants as clocks
 use Rattle.schedule.specs.declared.answer.Lead.{Lead}
 use Rattle.schedule.specs.declared.answer.Lead.the-variants as lead
 
--- a window does not end within the frame
+-- a window of w subframes does not end within the frame
 abbrev pub windowOver : Part → ℕ → ℕ → ℕ → Bool
-windowOver p configuration start length = ltb (subframes p configuration) (start + length)
+windowOver p configuration from w = ltb (subframes p configuration) (from + w)
 
 -- an output, a subframe, a clock or a phase that the part and its configuration do not have: MUX1 only where multiplexed
 unfoldable pub positionOver : Part → ℕ → ℕ → ℕ → ℕ → ℕ → Bool
@@ -28,7 +30,7 @@ onRows part configuration subframe = (1 when not (known part)) ∷ (13 when leb 
 
 -- the lead of a window
 abbrev pub leadRows : ℕ → ℕ → ℕ → ℕ → List Row
-leadRows part configuration start length = (1 when not (known part)) ∷ (13 when windowOver (partOf part) configuration start length) ∷ []
+leadRows part configuration from w = (1 when not (known part)) ∷ (13 when windowOver (partOf part) configuration from w) ∷ []
 
 -- is an output lit
 abbrev pub litRows : ℕ → ℕ → ℕ → ℕ → ℕ → ℕ → ℕ → List Row
@@ -44,11 +46,22 @@ onAnswer part configuration global subframe =
 
 -- the lead of a window
 unfoldable pub leadAnswer : ℕ → ℕ → ℕ → ℕ → ℕ → Lead
-leadAnswer part configuration global start length =
-    answer (first (leadRows part configuration start length)) lead.Refused (lead.By (leadOf (partOf part) configuration global start length))
+leadAnswer part configuration global from w =
+    answer (first (leadRows part configuration from w)) lead.Refused (lead.By (leadOf (partOf part) configuration global from w))
 
 -- is an output with a value lit at a clock of a subframe, in a phase
 unfoldable pub litAnswer : ℕ → ℕ → ℕ → ℕ → ℕ → ℕ → ℕ → ℕ → Asked
 litAnswer part configuration global value output subframe clock phase =
     answer (first (litRows part configuration value output subframe clock phase)) asked.Refused
     (asked.Is (isLit (partOf part) configuration global value output subframe clock))
+
+-- the first and the end clock of an output with a value in a subframe
+abbrev pub litRun : Part → ℕ → ℕ → ℕ → ℕ → ℕ → Clocks
+litRun p configuration global value output subframe =
+    clocks.Run (litFirst p configuration global value output subframe) (litEnd p configuration global value output subframe)
+
+-- at which clocks of a subframe is it lit, in a phase: refused as the question about clock 0, which every part has
+unfoldable pub litClocksAnswer : ℕ → ℕ → ℕ → ℕ → ℕ → ℕ → ℕ → Clocks
+litClocksAnswer part configuration global value output subframe phase =
+    answer (first (litRows part configuration value output subframe 0 phase)) clocks.Refused
+    (litRun (partOf part) configuration global value output subframe)

@@ -48,7 +48,7 @@ fn is_clock_lit(part: u16, value: u16, output: u32, clock: u32) -> bool
 }
 
 // By the number in its name: of a bank's eight, the first is output 7.
-fn is_output_even(output: u32) -> bool
+pub fn is_output_even(output: u32) -> bool
     ensures { λ r. ⌜ r ≡ isEven output ⌝ }
 {
     output % 2 == 1

@@ -14,24 +14,25 @@ pub fn judge_subframe(part: u16, configuration: u8, subframe: u32) -> u8
     if !is_known(part) {
         return 1;
     }
-    if subframe >= subframes_of(part, configuration) as u32 {
+    let subframes = subframes_of(part, configuration) as u32;
+    if subframe >= subframes {
         return 13;
     }
     0
 }
 
 // A window of no subframes may stand at the frame's end.
-pub fn judge_window(part: u16, configuration: u8, start: u32, length: u32) -> u8
-    ensures { λ r. ⌜ r ≡ first (leadRows part configuration start length) ⌝ }
+pub fn judge_window(part: u16, configuration: u8, from: u32, w: u32) -> u8
+    ensures { λ r. ⌜ r ≡ first (leadRows part configuration from w) ⌝ }
 {
     if !is_known(part) {
         return 1;
     }
     let subframes = subframes_of(part, configuration) as u32;
-    if length > subframes {
+    if w > subframes {
         return 13;
     }
-    if start > subframes - length {
+    if from > subframes - w {
         return 13;
     }
     0

@@ -2,10 +2,12 @@
 ghost use mathlib.Core.Path.{_≡_};
 ghost use Prim.Native.Nat.{_<_};
 ghost use Rattle.parts.specs.Refusals.{first};
-ghost use Rattle.schedule.specs.OfDevice.{activeValue, deviceRows, deviceAnswer};
+ghost use Rattle.schedule.specs.OfDevice.{activeValue, deviceRows, deviceAnswer, deviceClocksAnswer};
 use crate::answer::Asked;
+use crate::answer::Clocks;
 use crate::clocks::is_output_lit;
 use crate::judge::is_position_over;
+use crate::run::lit_run;
 use device::Device;
 use device::Registers;
 use device::judge;
@@ -29,6 +31,26 @@ pub fn is_device_lit(device: Device, output: u32, subframe: u32, clock: u32, pha
         subframe,
         clock,
     ))
+}
+
+// At which clocks of a subframe is it lit, in a phase?
+pub fn device_lit_clocks(device: Device, output: u32, subframe: u32, phase: u32) -> Clocks
+    ensures { λ r. ⌜ r ≡ deviceClocksAnswer device output subframe phase ⌝ }
+{
+    let refusal = judge_device(device, output, subframe, 0, phase);
+    if refusal != 0 {
+        return Clocks::Refused(refusal);
+    }
+    let registers = device.registers;
+    let value = active_value(registers, output, phase);
+    lit_run(
+        registers.part,
+        registers.configuration,
+        registers.active,
+        value,
+        output,
+        subframe,
+    )
 }
 
 // The first number of the table, or 0.

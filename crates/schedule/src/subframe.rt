@@ -16,14 +16,14 @@ pub fn is_subframe_on(part: u16, configuration: u8, global: u8, subframe: u32) -
 }
 
 // S times the ON count, a difference of two quotients, less what the window is due.
-pub fn window_lead(part: u16, configuration: u8, global: u8, start: u32, length: u32) -> i32
-    requires { ⌜ start + length ≤ subframes (partOf part) configuration ⌝ }
-    ensures { λ r. ⌜ r ≡ leadOf (partOf part) configuration global start length ⌝ }
+pub fn window_lead(part: u16, configuration: u8, global: u8, from: u32, w: u32) -> i32
+    requires { ⌜ from + w ≤ subframes (partOf part) configuration ⌝ }
+    ensures { λ r. ⌜ r ≡ leadOf (partOf part) configuration global from w ⌝ }
 {
     let subframes = subframes_of(part, configuration) as u32;
     let level = level_of(part, configuration, global);
-    let count = on_first(subframes, level, start + length) - on_first(subframes, level, start);
-    difference(subframes * count, length * (level + 1))
+    let count = on_first(subframes, level, from + w) - on_first(subframes, level, from);
+    difference(subframes * count, w * (level + 1))
 }
 
 // Any byte, modulo the subframes.
@@ -33,12 +33,12 @@ fn level_of(part: u16, configuration: u8, global: u8) -> u32
     (global as u32) % (subframes_of(part, configuration) as u32)
 }
 
-// The ON subframes before a subframe.
-fn on_first(subframes: u32, level: u32, subframe: u32) -> u32
-    requires { ⌜ (0 < subframes) × (level < 128) × (subframe ≤ 128) ⌝ }
-    ensures { λ r. ⌜ r ≡ onFirst subframes level subframe ⌝ }
+// The ON subframes before subframe s of a frame of `all`, at level g.
+fn on_first(all: u32, g: u32, s: u32) -> u32
+    requires { ⌜ (0 < all) × (g < 128) × (s ≤ 256) ⌝ }
+    ensures { λ r. ⌜ r ≡ onFirst all g s ⌝ }
 {
-    subframe * (level + 1) / subframes
+    s * (g + 1) / all
 }
 
 fn difference(a: u32, b: u32) -> i32

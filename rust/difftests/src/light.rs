@@ -1,11 +1,12 @@
-//! Light: every subframe and window, every clock of chosen values, and positions of any kind.
+//! Light: every subframe and window, every clock of chosen values, positions of any kind, and runs of clocks.
 
 use crate::bits::answer;
 use crate::tally::Tally;
 use cases::{records, sets, Random};
-use ffi::{Answer, Signed};
+use ffi::{Answer, Clocks, Signed};
 use model::light::{is_device_lit, is_lit, is_on, lead, Position};
 use model::part::Part;
+use std::ops::Range;
 
 /// The four configurations that matter, with their other bits set and clear.
 const CONFIGURATIONS: [u8; 8] = [0x00, 0x01, 0x10, 0x11, 0xEE, 0xEF, 0xFE, 0xFF];
@@ -18,6 +19,16 @@ fn signed(result: Result<i32, u8>) -> Signed {
     Signed {
         value: result.unwrap_or(0),
         refusal: result.err().unwrap_or(0),
+    }
+}
+
+fn clocks(result: Result<Range<u32>, u8>) -> Clocks {
+    let refusal = *result.as_ref().err().unwrap_or(&0);
+    let Range { start, end } = result.unwrap_or(0..0);
+    Clocks {
+        first: start,
+        end,
+        refusal,
     }
 }
 
@@ -148,6 +159,64 @@ pub fn devices() -> Tally {
             let found = ffi::device_lit(record, at);
             let expected = is_device_lit(&record, position(at));
             case.same("lit", found, flag(expected));
+            case.reach(found.refusal);
+        });
+    }
+    tally.close(&[0, 1, 13]);
+    tally
+}
+
+/// A value: any, one about an edge zone, or one about a part's limit.
+fn any_value(random: &mut Random) -> u16 {
+    let any = random.next() as u16;
+    let edge = random.pick(&[0, 1, 15, 16, 17, 31, 32, 33]);
+    let high = random.pick(&[
+        4079, 4080, 4081, 4095, 4096, 16_351, 16_352, 16_353, 16_383, 16_384,
+    ]);
+    random.pick(&[any, any & 0xFFF, any & 0x3FFF, edge, high])
+}
+
+/// The run of lit clocks, from any numbers.
+pub fn runs() -> Tally {
+    let mut tally = Tally::new("runs of lit clocks from numbers", 0x5A11);
+    for number in 0..20_000 {
+        let random = &mut Random::of_case(tally.seed(), number);
+        tally.case(number, |case| {
+            let (known, unknown) = (sets::part(random), sets::unknown_part(random));
+            let part = random.pick(&[known, known, known, known, known, known, unknown]);
+            let (configuration, global) = (random.byte(), random.byte());
+            let value = any_value(random);
+            let at = any_position(random, part, configuration);
+            let [output, subframe, _, phase] = at;
+            let found =
+                ffi::lit_clocks(part, configuration, global, value, output, subframe, phase);
+            let expected =
+                model::light::lit_clocks(part, configuration, global, value, position(at));
+            case.same("clocks", found, clocks(expected));
+            case.reach(found.refusal);
+        });
+    }
+    tally.close(&[0, 1, 6, 13]);
+    tally
+}
+
+/// The run of lit clocks of any device.
+pub fn device_runs() -> Tally {
+    let mut tally = Tally::new("runs of lit clocks of a device", 0xDE5A);
+    for number in 0..20_000 {
+        let random = &mut Random::of_case(tally.seed(), number);
+        tally.case(number, |case| {
+            let part = sets::part(random);
+            let record = match random.below(8) {
+                0 => records::junk(random),
+                1 => records::damaged(random, part),
+                _ => records::fitting(random, part),
+            };
+            let at = any_position(random, part, record.registers.configuration);
+            let [output, subframe, _, phase] = at;
+            let found = ffi::device_lit_clocks(record, output, subframe, phase);
+            let expected = model::light::device_lit_clocks(&record, position(at));
+            case.same("clocks", found, clocks(expected));
             case.reach(found.refusal);
         });
     }

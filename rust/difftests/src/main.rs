@@ -18,7 +18,7 @@ use tally::Tally;
 
 fn main() {
     let wanted: Vec<String> = std::env::args().skip(1).collect();
-    let kinds: [(&str, fn() -> Tally); 15] = [
+    let kinds: [(&str, fn() -> Tally); 17] = [
         ("bits::packing", bits::packing),
         ("bits::parts", bits::parts),
         ("frames::written", frames::written),
@@ -33,6 +33,8 @@ fn main() {
         ("light::lit_clocks", light::lit_clocks),
         ("light::positions", light::positions),
         ("light::devices", light::devices),
+        ("light::runs", light::runs),
+        ("light::device_runs", light::device_runs),
         ("compare::compared", compare::compared),
     ];
     let (mut passed, mut failed) = (0, 0);

@@ -26,6 +26,18 @@ pub struct Signed {
     pub refusal: u8,
 }
 
+/// `struct bb_clocks`.
+#[repr(C)]
+#[derive(Clone, Copy, Debug, PartialEq, Eq)]
+pub struct Clocks {
+    /// The first clock; 0 where there is none.
+    pub first: u32,
+    /// The clock after the last; 0 where there is none.
+    pub end: u32,
+    /// 0 where accepted.
+    pub refusal: u8,
+}
+
 /// `struct bb_compared`.
 #[repr(C)]
 #[derive(Clone, Copy, Debug, PartialEq, Eq)]
@@ -263,6 +275,26 @@ pub fn device_lit(device: Device, at: Position) -> Answer {
     let [output, subframe, clock, phase] = at;
     // SAFETY: every record is a value.
     unsafe { raw::bb_device_lit(device, output, subframe, clock, phase) }
+}
+
+/// The clocks of a subframe at which an output with a value is lit.
+pub fn lit_clocks(
+    part: u16,
+    configuration: u8,
+    global: u8,
+    value: u16,
+    output: u32,
+    subframe: u32,
+    phase: u32,
+) -> Clocks {
+    // SAFETY: numbers only.
+    unsafe { raw::bb_lit_clocks(part, configuration, global, value, output, subframe, phase) }
+}
+
+/// The clocks of a subframe at which an output of a device is lit.
+pub fn device_lit_clocks(device: Device, output: u32, subframe: u32, phase: u32) -> Clocks {
+    // SAFETY: every record is a value.
+    unsafe { raw::bb_device_lit_clocks(device, output, subframe, phase) }
 }
 
 /// Compares a set with a chain.

@@ -1,6 +1,6 @@
 //! `include/bractbeacon.h`, declared again.
 
-use crate::{Answer, Compared, Signed, Stepped};
+use crate::{Answer, Clocks, Compared, Signed, Stepped};
 use record::Device;
 
 extern "C" {
@@ -107,6 +107,16 @@ extern "C" {
         clock: u32,
         phase: u32,
     ) -> Answer;
+    pub fn bb_lit_clocks(
+        part: u16,
+        configuration: u8,
+        global: u8,
+        value: u16,
+        output: u32,
+        subframe: u32,
+        phase: u32,
+    ) -> Clocks;
+    pub fn bb_device_lit_clocks(device: Device, output: u32, subframe: u32, phase: u32) -> Clocks;
     pub fn bb_compare(
         part: u16,
         devices: usize,

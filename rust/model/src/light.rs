@@ -3,6 +3,7 @@
 use crate::device::Device;
 use crate::part::{multiplexed, Part};
 use crate::{refuse, Refusal};
+use std::ops::Range;
 
 /// Whether a subframe is ON.
 pub fn is_on(part: u16, configuration: u8, global: u8, subframe: u32) -> Result<bool, Refusal> {
@@ -73,6 +74,36 @@ pub fn is_device_lit(record: &record::Device, at: Position) -> Result<bool, Refu
     let value = device.active[at.phase as usize][at.output as usize];
     let part = device.part.number();
     is_lit(part, device.configuration, device.active_global, value, at)
+}
+
+/// The clocks of a subframe at which an output with a value is lit; 0..0 where there are none. Every clock is asked; the
+/// clock of `at` is not looked at.
+pub fn lit_clocks(
+    part: u16,
+    configuration: u8,
+    global: u8,
+    value: u16,
+    at: Position,
+) -> Result<Range<u32>, Refusal> {
+    let at_clock = |clock| Position { clock, ..at };
+    is_lit(part, configuration, global, value, at_clock(0))?;
+    let mut run = 0..0;
+    for clock in 0..Part::of(part)?.clocks() {
+        if is_lit(part, configuration, global, value, at_clock(clock))? {
+            assert!(run.is_empty() || run.end == clock, "lit clocks are one run");
+            run = if run.is_empty() { clock } else { run.start }..clock + 1;
+        }
+    }
+    Ok(run)
+}
+
+/// The same of an output of a device, by its active values.
+pub fn device_lit_clocks(record: &record::Device, at: Position) -> Result<Range<u32>, Refusal> {
+    is_device_lit(record, Position { clock: 0, ..at })?;
+    let device = Device::of_record(record)?;
+    let value = device.active[at.phase as usize][at.output as usize];
+    let part = device.part.number();
+    lit_clocks(part, device.configuration, device.active_global, value, at)
 }
 
 /// The number in the name of an output: 7 for output 0, B7, and 0 for output 23, R0.

@@ -2,7 +2,7 @@
 
 use model::chain;
 use model::frame::{Tail, Told};
-use model::light::{is_lit, is_on, lead, Position};
+use model::light::{self, is_lit, is_on, lead, Position};
 use model::line::data_bytes;
 use model::part::Command;
 use model::reader::{read, read_return, Contents};
@@ -125,7 +125,7 @@ fn i_subframes_and_leads() {
     assert_eq!(lead(6974, 0, 96, 1, 3), Ok(93));
 }
 
-/// The clocks at which an output with a value is lit, in a subframe that is ON.
+/// The clocks at which an output with a value is lit, in a subframe that is ON; the model's run of them must be the same.
 fn lit_clocks(part: u16, value: u16, output: u32) -> Vec<u32> {
     let clocks = if part == 6974 { 4096 } else { 16_384 };
     let at = |clock| Position {
@@ -134,9 +134,12 @@ fn lit_clocks(part: u16, value: u16, output: u32) -> Vec<u32> {
         clock,
         phase: 0,
     };
-    (0..clocks)
+    let lit: Vec<u32> = (0..clocks)
         .filter(|&clock| is_lit(part, 0, 255, value, at(clock)).unwrap())
-        .collect()
+        .collect();
+    let run = light::lit_clocks(part, 0, 255, value, at(0)).unwrap();
+    assert!(run.eq(lit.iter().copied()));
+    lit
 }
 
 const B7: u32 = 0;

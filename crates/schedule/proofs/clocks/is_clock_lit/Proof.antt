@@ -30,7 +30,8 @@ sub-if2 c = let a = c .before .before .before .before .args in
 
 returns-2 : tie.Need-returns-2
 returns-2 c = let a = c .before .before .before .before .before .args in
-    dark-last (partOf (a .part)) (a .value) (a .output) (a .clock) (subst (λ (k : Constants). k .clocks - k .edge ≤ a .clock) (c .before .before .before .before .constants-of .ensures) (c .if2 .taken))
+    let e = c .before .before .before .before .constants-of .ensures in
+    dark-last (partOf (a .part)) (a .value) (a .output) (a .clock) (omega (arith, ap (λ (k : Constants). k .clocks - k .edge) e, c .if2 .taken))
 
 is-output-even-requires : tie.Need-is-output-even-requires
 is-output-even-requires c κs = search needs

@@ -1,10 +1,11 @@
-use Rattle.schedule.specs.Answers.{positionOver}
-use mathlib.Core.Path.{sym, subst}
-use Prim.Native.Nat.{ℕ, _*_, _<_, _≤_}
+use mathlib.Core.Path.{refl, sym, ap}
+use Prim.Native.Nat.{_*_, _<_, _≤_}
+use native.Mathlib.Omega.{arith}
 use borrow.Author.Tests.{le-leb, lt-leb}
 use Rattle.parts.specs.declared.part.Constants.{Constants}
+use Rattle.parts.specs.Parts.{partOf, subframes}
 use Rattle.parts.proofs.Rows.{or-first, or-second}
-use mathlib.Core.Path.{refl}
+use Rattle.schedule.specs.Answers.{positionOver}
 use borrow.Author.Needs.{needs}
 use Rattle.schedule.proofs.judge.is_position_over.Statement.{statement}
 use Rattle.schedule.proofs.judge.is_position_over.Tie as tie
@@ -21,7 +22,8 @@ mul-if1 c = search needs
 returns : tie.Need-returns
 unfolding positionOver
 returns c = let a = c .before .before .before .args in
-    sym (or-first _ (le-leb _ _ (subst (λ (k : Constants). 8 * k .banks ≤ a .output) (c .before .before .constants-of .ensures) (c .if1 .taken))))
+    let o : 8 * partOf (a .part) .banks ≤ a .output = omega (arith, ap (λ (k : Constants). k .banks) (c .before .before .constants-of .ensures), c .if1 .taken) in
+    sym (or-first _ (le-leb _ _ o))
 
 subframes-of-requires : tie.Need-subframes-of-requires
 subframes-of-requires c κs = search needs
@@ -32,7 +34,9 @@ cast-if2 c = search needs
 returns-2 : tie.Need-returns-2
 unfolding positionOver
 returns-2 c = let a = c .before .before .before .before .before .args in
-    sym (or-second (lt-leb _ _ (subst (λ (k : Constants). a .output < 8 * k .banks) (c .before .before .before .before .constants-of .ensures) (c .before .before .if1 .left))) (or-first _ (le-leb _ _ (subst (λ (n : ℕ). n ≤ a .subframe) (c .before .subframes-of .ensures) (c .if2 .taken)))))
+    let o : a .output < 8 * partOf (a .part) .banks = omega (arith, ap (λ (k : Constants). k .banks) (c .before .before .before .before .constants-of .ensures), c .before .before .if1 .left) in
+    let s : subframes (partOf (a .part)) (a .configuration) ≤ a .subframe = omega (arith, c .before .subframes-of .ensures, c .if2 .taken) in
+    sym (or-second (lt-leb _ _ o) (or-first _ (le-leb _ _ s)))
 
 cast-if3 : tie.Need-cast-if3
 cast-if3 c = search needs
@@ -40,7 +44,11 @@ cast-if3 c = search needs
 returns-3 : tie.Need-returns-3
 unfolding positionOver
 returns-3 c = let a = c .before .before .before .before .before .before .before .args in
-    sym (or-second (lt-leb _ _ (subst (λ (k : Constants). a .output < 8 * k .banks) (c .before .before .before .before .before .before .constants-of .ensures) (c .before .before .before .before .if1 .left))) (or-second (lt-leb _ _ (subst (λ (n : ℕ). a .subframe < n) (c .before .before .before .subframes-of .ensures) (c .before .before .if2 .left))) (or-first _ (le-leb _ _ (subst (λ (k : Constants). k .clocks ≤ a .clock) (c .before .before .before .before .before .before .constants-of .ensures) (c .if3 .taken))))))
+    let e = c .before .before .before .before .before .before .constants-of .ensures in
+    let o : a .output < 8 * partOf (a .part) .banks = omega (arith, ap (λ (k : Constants). k .banks) e, c .before .before .before .before .if1 .left) in
+    let s : a .subframe < subframes (partOf (a .part)) (a .configuration) = omega (arith, c .before .before .before .subframes-of .ensures, c .before .before .if2 .left) in
+    let t : partOf (a .part) .clocks ≤ a .clock = omega (arith, ap (λ (k : Constants). k .clocks) e, c .if3 .taken) in
+    sym (or-second (lt-leb _ _ o) (or-second (lt-leb _ _ s) (or-first _ (le-leb _ _ t))))
 
 cast-result : tie.Need-cast-result
 cast-result c = search needs
@@ -48,7 +56,11 @@ cast-result c = search needs
 returns-4 : tie.Need-returns-4
 unfolding positionOver
 returns-4 c = let a = c .before .before .before .before .before .before .before .args in
-    sym (or-second (lt-leb _ _ (subst (λ (k : Constants). a .output < 8 * k .banks) (c .before .before .before .before .before .before .constants-of .ensures) (c .before .before .before .before .if1 .left))) (or-second (lt-leb _ _ (subst (λ (n : ℕ). a .subframe < n) (c .before .before .before .subframes-of .ensures) (c .before .before .if2 .left))) (or-second (lt-leb _ _ (subst (λ (k : Constants). a .clock < k .clocks) (c .before .before .before .before .before .before .constants-of .ensures) (c .if3 .left))) refl)))
+    let e = c .before .before .before .before .before .before .constants-of .ensures in
+    let o : a .output < 8 * partOf (a .part) .banks = omega (arith, ap (λ (k : Constants). k .banks) e, c .before .before .before .before .if1 .left) in
+    let s : a .subframe < subframes (partOf (a .part)) (a .configuration) = omega (arith, c .before .before .before .subframes-of .ensures, c .before .before .if2 .left) in
+    let t : a .clock < partOf (a .part) .clocks = omega (arith, ap (λ (k : Constants). k .clocks) e, c .if3 .left) in
+    sym (or-second (lt-leb _ _ o) (or-second (lt-leb _ _ s) (or-second (lt-leb _ _ t) refl)))
 
 pub is-position-over-spec : {M : Type 1} → statement M
 is-position-over-spec =

@@ -16,8 +16,8 @@ returns c = rw (sym (c .before .is-known .ensures) ∙ not-true _ (c .if1 .taken
 subframes-of-requires : tie.Need-subframes-of-requires
 subframes-of-requires c κs = search needs
 
-cast-if2 : tie.Need-cast-if2
-cast-if2 c = search needs
+cast-subframes : tie.Need-cast-subframes
+cast-subframes c = search needs
 
 returns-2 : tie.Need-returns-2
 returns-2 c = let a = c .before .before .before .before .args in
@@ -32,4 +32,4 @@ returns-3 c = let a = c .before .before .before .before .args in
 pub judge-subframe-spec : {M : Type 1} → statement M
 judge-subframe-spec =
     tie.close
-    (tie.spec is-known-requires returns subframes-of-requires cast-if2 returns-2 returns-3)
+    (tie.spec is-known-requires returns subframes-of-requires cast-subframes returns-2 returns-3)

@@ -21,17 +21,17 @@ cast-subframes c = search needs
 
 returns-2 : tie.Need-returns-2
 returns-2 c = let a = c .before .before .before .before .args in
-    let h : subframes (partOf (a .part)) (a .configuration) < a .start + a .length = omega (arith, c .before .subframes-of .ensures, c .if2 .taken) in
+    let h : subframes (partOf (a .part)) (a .configuration) < a .from + a .w = omega (arith, c .before .subframes-of .ensures, c .if2 .taken) in
     rw (sym (c .before .before .before .is-known .ensures) ∙ not-false _ (c .before .before .if1 .left), lt-ltb _ _ h)
 
 returns-3 : tie.Need-returns-3
 returns-3 c = let a = c .before .before .before .before .before .args in
-    let h : subframes (partOf (a .part)) (a .configuration) < a .start + a .length = omega (arith, c .before .before .subframes-of .ensures, c .before .if2 .left, c .if3 .taken) in
+    let h : subframes (partOf (a .part)) (a .configuration) < a .from + a .w = omega (arith, c .before .before .subframes-of .ensures, c .before .if2 .left, c .if3 .taken) in
     rw (sym (c .before .before .before .before .is-known .ensures) ∙ not-false _ (c .before .before .before .if1 .left), lt-ltb _ _ h)
 
 returns-4 : tie.Need-returns-4
 returns-4 c = let a = c .before .before .before .before .before .args in
-    let h : a .start + a .length ≤ subframes (partOf (a .part)) (a .configuration) = omega (arith, c .before .before .subframes-of .ensures, c .before .if2 .left, c .if3 .left) in
+    let h : a .from + a .w ≤ subframes (partOf (a .part)) (a .configuration) = omega (arith, c .before .before .subframes-of .ensures, c .before .if2 .left, c .if3 .left) in
     rw (sym (c .before .before .before .before .is-known .ensures) ∙ not-false _ (c .before .before .before .if1 .left), le-ltb _ _ h)
 
 pub judge-window-spec : {M : Type 1} → statement M

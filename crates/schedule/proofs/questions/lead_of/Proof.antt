@@ -17,11 +17,11 @@ judge-window-requires c κs = search needs
 returns : tie.Need-returns
 unfolding leadAnswer
 returns c = let a = c .before .before .args in
-    refused Refused (By (leadOf (partOf (a .part)) (a .configuration) (a .global) (a .start) (a .length))) (c .before .judge-window .ensures) (c .if1 .taken)
+    refused Refused (By (leadOf (partOf (a .part)) (a .configuration) (a .global) (a .from) (a .w))) (c .before .judge-window .ensures) (c .if1 .taken)
 
 window-lead-requires : tie.Need-window-lead-requires
 window-lead-requires c κs = let a = c .before .before .args in
-    ltb-false _ _ (clear (leadRows (a .part) (a .configuration) (a .start) (a .length)) refl (sym (c .before .judge-window .ensures) ∙ c .if1 .left) .1 .0)
+    ltb-false _ _ (clear (leadRows (a .part) (a .configuration) (a .from) (a .w)) refl (sym (c .before .judge-window .ensures) ∙ c .if1 .left) .1 .0)
 
 returns-2 : tie.Need-returns-2
 unfolding leadAnswer

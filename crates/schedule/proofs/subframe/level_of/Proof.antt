@@ -1,5 +1,6 @@
-use mathlib.Core.Path.{sym, ap, subst}
-use Prim.Native.Nat.{ℕ, _%_, _<_}
+use mathlib.Core.Path.{ap}
+use Prim.Native.Nat.{ℕ, _%_}
+use native.Mathlib.Omega.{arith}
 use Rattle.schedule.proofs.Subframes.{subframes-within}
 use borrow.Author.Needs.{needs}
 use Rattle.schedule.proofs.subframe.level_of.Statement.{statement}
@@ -12,7 +13,7 @@ cast-result : tie.Need-cast-result
 cast-result c = search needs
 
 rem-result : tie.Need-rem-result
-rem-result c = subst (λ (n : ℕ). 0 < n) (sym (c .subframes-of .ensures)) (subframes-within (c .before .args .part) (c .before .args .configuration) .0)
+rem-result c = omega (arith, subframes-within (c .before .args .part) (c .before .args .configuration), c .subframes-of .ensures)
 
 returns : tie.Need-returns
 returns c = ap (λ (n : ℕ). c .before .args .global % n) (c .subframes-of .ensures)

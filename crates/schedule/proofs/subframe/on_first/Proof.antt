@@ -1,6 +1,6 @@
-use Prim.Native.Nat.{_+_}
+use Prim.Native.Nat.{_+_, _≤_}
+use native.Mathlib.Nat.{mul-le-mul}
 use native.Mathlib.Omega.{arith}
-use Rattle.schedule.proofs.Subframes.{product-lt}
 use borrow.Author.Needs.{needs}
 use Rattle.schedule.proofs.subframe.on_first.Statement.{statement}
 use Rattle.schedule.proofs.subframe.on_first.Tie as tie
@@ -9,7 +9,10 @@ add-result : tie.Need-add-result
 add-result c = search needs
 
 mul-result : tie.Need-mul-result
-mul-result c = record { fits = omega (arith, product-lt {m = c .args .subframe} {n = c .args .level + 1} (search needs) (search needs)) }
+mul-result c = let a = c .args in
+    let h : a .s ≤ 256 = omega arith in
+    let k : a .g + 1 ≤ 128 = omega arith in
+    record { fits = omega (arith, mul-le-mul h k) }
 
 div-result : tie.Need-div-result
 div-result c = search needs

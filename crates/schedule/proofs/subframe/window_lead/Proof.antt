@@ -14,9 +14,9 @@ use Rattle.schedule.proofs.subframe.window_lead.Tie as tie
 record Within (c : tie.After-on-first2) : Type 0 where
   level : c .before .before .level-of .result < 128
   ordered : c .on-first2 .result ≤ c .before .on-first .result
-  counted : c .before .on-first .result - c .on-first2 .result ≡ onCount (c .before .before .before .subframes-of .result) (c .before .before .level-of .result) (c .before .before .before .before .args .start) (c .before .before .before .before .args .length)
+  counted : c .before .on-first .result - c .on-first2 .result ≡ onCount (c .before .before .before .subframes-of .result) (c .before .before .level-of .result) (c .before .before .before .before .args .from) (c .before .before .before .before .args .w)
   on : c .before .before .before .subframes-of .result * (c .before .on-first .result - c .on-first2 .result) < 32768
-  due : c .before .before .before .before .args .length * (c .before .before .level-of .result + 1) < 32768
+  due : c .before .before .before .before .args .w * (c .before .before .level-of .result + 1) < 32768
 
 within : (c : tie.After-on-first2) → Within c
 within c =
@@ -28,11 +28,11 @@ within c =
     let r = c .on-first2 .ensures in
     let w : s .result ≤ 128 = omega (arith, subframes-within (a .part) (a .configuration), s .ensures) in
     let l : g .result < s .result = omega (arith, level-lt (a .part) (a .configuration) (a .global), s .ensures, g .ensures) in
-    let f = first-window (s .result) (g .result) l (a .start) (a .length) in
+    let f = first-window (s .result) (g .result) l (a .from) (a .w) in
     record {
       level = omega arith;
       ordered = omega arith;
-      counted = omega (arith, count-quotients (s .result) (g .result) l (a .start) (a .length));
+      counted = omega (arith, count-quotients (s .result) (g .result) l (a .from) (a .w));
       on = product-lt w (omega (arith, s .ensures));
       due = product-lt (omega (arith, s .ensures)) (omega arith);
     }
@@ -74,15 +74,15 @@ mul-difference-2 : tie.Need-mul-difference-2
 mul-difference-2 c = record { fits = omega (arith, within c .due) }
 
 difference-requires : tie.Need-difference-requires
-difference-requires c κs = (within c .on, within c .due)
+difference-requires c κs = (within c .on, omega (arith, within c .due))
 
 returns : tie.Need-returns
 returns c = let a = c .before .before .before .before .before .args in
     let s = c .before .before .before .before .subframes-of in
     let g = c .before .before .before .level-of in
     toZ-ofZ {w = w32} {z = c .difference .result} (record { sfits = c .difference .ok }) ∙ c .difference .ensures
-    ∙ ap (λ (n : ℕ). pos (s .result * n) -ℤ pos (a .length * (g .result + 1))) (within (c .before) .counted)
-    ∙ ap₂ (λ (n l : ℕ). lead n l (a .start) (a .length)) (s .ensures) (g .ensures)
+    ∙ ap (λ (n : ℕ). pos (s .result * n) -ℤ pos (a .w * (g .result + 1))) (within (c .before) .counted)
+    ∙ ap₂ (λ (n l : ℕ). lead n l (a .from) (a .w)) (s .ensures) (g .ensures)
 
 pub window-lead-spec : {M : Type 1} → statement M
 window-lead-spec =

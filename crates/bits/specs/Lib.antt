@@ -1,4 +1,4 @@
--- Bits, and what packing and unpacking answer. Writing and Reading are what the private functions below them promise each other.
+-- Bits, and what packing and unpacking answer. Writing and Reading, for the private functions below them, are inside.
 pub mod Bits
 pub mod Packing
 pub mod Writing

@@ -1,5 +1,4 @@
--- What the reader's private functions promise: the numbers that they give are the next ones of the bits ahead.
--- No contract of a public function cites this file.
+-- Inside: what the reader's private functions promise. The numbers that they give are the next ones of the bits ahead.
 use mathlib.Core.Path.{_≡_}
 use Prim.Native.Nat.{ℕ, _+_, _*_, _^_, _≤_, _<_}
 use mathlib.Core.Bool.{Bool}

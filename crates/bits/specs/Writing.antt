@@ -1,5 +1,4 @@
--- What the writer's private functions promise: how much further the bits reach that stand in the lent bytes and in the accumulator.
--- No contract of a public function cites this file.
+-- Inside: what the writer's private functions promise: how much further the bits reach that stand in the lent bytes and in the accumulator.
 use mathlib.Core.Path.{_≡_}
 use Prim.Native.Nat.{ℕ, _+_, _*_, _≤_, _<_}
 use mathlib.Core.Bool.{Bool}

@@ -5,7 +5,7 @@ ghost use mathlib.Core.Bool.{not};
 ghost use lib.Dec.{eqb};
 ghost use lib.ListN.{length};
 ghost use Rattle.calls.specs.Calls.{freshRefusal, freshAfter, runAfter, runRoom, boundaryRefusal, boundaryAfter, faultRefusal, faultAfter};
-ghost use Rattle.turns.specs.Entry.{runAnswer};
+ghost use Rattle.turns.specs.Answer.{runAnswer};
 ghost use Rattle.turns.specs.Judging.{unjudged, judgedFrom};
 use device::Device;
 use turns::Judged;

@@ -1,5 +1,5 @@
--- The search for the first difference, device by device, and its refusal by what one pass over the records found. What is compared and
--- answered is said in Compare; that the search comes to it is in proofs/Found.
+-- Inside: the search for the first difference, device by device, and its refusal by what one pass over the records found. What is compared
+-- and answered is said in Compare; that the search comes to it is in proofs/Found.
 use Prim.Native.Nat.{ℕ, _+_, _*_, _%_, _<_, _≤_}
 use mathlib.Core.Path.{_≡_}
 use mathlib.Core.Bool.{Bool, false, _&&_, cond}

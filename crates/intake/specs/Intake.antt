@@ -1,5 +1,5 @@
--- One device takes as many of the states at hand as it can at once: all low ones, or high ones until it sends, a low state or the end.
--- That this is the run of the step over those states is in proofs/Runs. Below it, what the loops inside do: they keep the phase, the window
+-- Inside: one device takes as many of the states at hand as it can at once: all low ones, or high ones until it sends, a low state or the
+-- end. That this is the run of the step over those states is in proofs/Runs. Below it, what the loops do: they keep the phase, the window
 -- or one field of the slice, and no record.
 use Prim.Native.Nat.{ℕ, zero, suc, _+_, _%_}
 use mathlib.Core.Bool.{cond}

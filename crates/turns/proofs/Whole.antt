@@ -12,7 +12,8 @@ use Rattle.calls.specs.Chain.{through}
 use Rattle.calls.specs.Calls.{runRefusal, runAfter, runRoom}
 use Rattle.turns.specs.declared.entry.Ran.{Ran}
 use Rattle.turns.specs.Front.{Running, nowAt, turning, turns, begun, halted, started, enough, frontRun}
-use Rattle.turns.specs.Entry.{entryUnder, ran, runUnder, runEnd, runAnswer}
+use Rattle.turns.specs.Answer.{ran, runAnswer}
+use Rattle.turns.specs.Entry.{entryUnder, runUnder, runEnd}
 use Rattle.turns.proofs.Lines.{put-over, put-end-all}
 use Rattle.turns.proofs.Turns.{no-way, Good, measure, good-start, good-next, nearer-next, turns-on, turns-stop, near-start}
 use Rattle.turns.proofs.Same.{all-neat, front-run-same}

@@ -1,6 +1,6 @@
--- A run through a lent chain by its front, the first device that is not passing: only that device can change. What one turn does, and turn
--- after turn. These definitions are what the functions inside a run answer; that the whole is the plain chain of calls/specs/Chain is in
--- proofs/Same, and no call's contract speaks of them.
+-- Inside: a run through a lent chain by its front, the first device that is not passing: only that device can change. What one turn does,
+-- and turn after turn. These definitions are what the functions inside a run answer; that the whole is the plain chain of calls/specs/Chain
+-- is in proofs/Same.
 use Prim.Native.Nat.{ℕ, zero, suc, _+_, _*_, _%_}
 use mathlib.Core.Bool.{Bool, true, false, not, _&&_, _||_, cond}
 use mathlib.Core.List.{List, [], _∷_}

@@ -2,7 +2,8 @@
 ghost use mathlib.Core.Path.{_≡_};
 ghost use Rattle.parts.specs.Refusals.{first};
 ghost use Rattle.turns.specs.Judging.{runRows};
-ghost use Rattle.turns.specs.Entry.{entryUnder, ran};
+ghost use Rattle.turns.specs.Answer.{ran};
+ghost use Rattle.turns.specs.Entry.{entryUnder};
 use crate::cursor::Cursor;
 use crate::judging::Judged;
 

@@ -1,8 +1,9 @@
 //! The proved library against the independent model, on random cases from fixed seeds.
 //!
-//! Every kind of test prints its seed, its cases and how often each answer was given; the last line is
-//! `N passed, M failed` over all, and the exit status is 0 only if none failed. Arguments choose kinds by the beginnings
-//! of their names, as `frames` or `light::lit`.
+//! Every kind of test prints its cases, its seed and how often each answer was given. A kind is one test: it fails if a
+//! case differs or if an answer that it must reach was never given. The last line is `N passed, M failed` and counts
+//! kinds; the exit status is 0 only if none failed. Arguments choose kinds by the beginnings of their names, as `frames`
+//! or `light::lit`.
 
 mod bits;
 mod chain;
@@ -14,7 +15,7 @@ mod light;
 mod line;
 mod tally;
 
-use tally::Tally;
+use tally::{commas, Tally};
 
 fn main() {
     let wanted: Vec<String> = std::env::args().skip(1).collect();
@@ -37,15 +38,21 @@ fn main() {
         ("light::device_runs", light::device_runs),
         ("compare::compared", compare::compared),
     ];
-    let (mut passed, mut failed) = (0, 0);
+    let (mut passed, mut failed, mut cases) = (0, 0, 0);
     for (name, kind) in kinds {
         if !wanted.is_empty() && !wanted.iter().any(|start| name.starts_with(start)) {
             continue;
         }
         let tally = kind();
-        passed += tally.passed;
-        failed += tally.failed;
+        cases += tally.cases();
+        if tally.passed() {
+            passed += 1;
+        } else {
+            println!("{name}: failed");
+            failed += 1;
+        }
     }
+    println!("{} cases in {} kinds", commas(cases), passed + failed);
     println!("{passed} passed, {failed} failed");
     std::process::exit(i32::from(failed > 0));
 }

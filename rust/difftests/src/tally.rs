@@ -1,18 +1,20 @@
-//! Counts of cases, and what a failed one shows.
+//! Counts of the cases of a kind, and what one that differs shows.
 
 use std::fmt::Debug;
 
-/// Failures printed for each kind of test.
+/// Cases that differ are printed up to so many for each kind.
 const SHOWN: u64 = 3;
 
-/// The cases of one kind of test.
+/// One kind of test: many cases, which pass or fail together.
 pub struct Tally {
     name: &'static str,
     seed: u64,
     /// Cases in which all was the same.
-    pub passed: u64,
+    same: u64,
     /// Cases in which something differed.
-    pub failed: u64,
+    different: u64,
+    /// Answers that should have been given, and never were.
+    missing: u64,
     reached: [u64; 14],
 }
 
@@ -28,8 +30,9 @@ impl Tally {
         Tally {
             name,
             seed,
-            passed: 0,
-            failed: 0,
+            same: 0,
+            different: 0,
+            missing: 0,
             reached: [0; 14],
         }
     }
@@ -37,6 +40,16 @@ impl Tally {
     /// The seed of its cases.
     pub fn seed(&self) -> u64 {
         self.seed
+    }
+
+    /// How many cases were run.
+    pub fn cases(&self) -> u64 {
+        self.same + self.different
+    }
+
+    /// There were cases, all was the same in each, and every answer was given that should have been.
+    pub fn passed(&self) -> bool {
+        self.same > 0 && self.different == 0 && self.missing == 0
     }
 
     /// Runs one case.
@@ -53,39 +66,62 @@ impl Tally {
             }
         }
         if case.differences.is_empty() {
-            self.passed += 1;
+            self.same += 1;
             return;
         }
-        if self.failed < SHOWN {
+        if self.different < SHOWN {
             let (name, seed) = (self.name, self.seed);
-            println!("{name}: seed {seed:#x} case {number} failed");
+            println!("{name}: seed {seed:#x} case {number} differs");
             for difference in case.differences {
                 println!("    {difference}");
             }
         }
-        self.failed += 1;
+        self.different += 1;
     }
 
-    /// Prints the line of this kind. Each number that should have been given, 0 for acceptance, must have been.
+    /// Prints the lines of this kind. Each number that should have been given, 0 for acceptance, must have been.
     pub fn close(&mut self, numbers: &[u8]) {
+        let name = self.name;
         for &number in numbers {
             if self.reached[usize::from(number)] == 0 {
-                println!("{}: answer {number} was never given", self.name);
-                self.failed += 1;
+                println!("{name}: answer {number} was never given");
+                self.missing += 1;
             }
         }
-        let reached: Vec<String> = (0..14)
-            .filter(|&k| self.reached[k] > 0)
-            .map(|k| match k {
-                0 => format!("accepted {}", self.reached[0]),
-                _ => format!("refused {k}: {}", self.reached[k]),
-            })
-            .collect();
-        let Tally { name, seed, .. } = *self;
-        let (passed, failed) = (self.passed, self.failed);
-        println!("{name}: {passed} passed, {failed} failed");
-        println!("    seed {seed:#x}; answers {}", reached.join(", "));
+        let cases = commas(self.cases());
+        match self.different {
+            0 => println!("{name}: {cases} cases, the same"),
+            different => println!("{name}: {cases} cases, {} differ", commas(different)),
+        }
+        println!("    seed {:#x}; answers {}", self.seed, self.answers());
     }
+
+    /// How often each answer was given.
+    fn answers(&self) -> String {
+        let reached = self
+            .reached
+            .iter()
+            .enumerate()
+            .filter(|(_, &count)| count > 0);
+        let texts = reached.map(|(number, &count)| match number {
+            0 => format!("accepted {}", commas(count)),
+            _ => format!("refused {number}: {}", commas(count)),
+        });
+        texts.collect::<Vec<String>>().join("; ")
+    }
+}
+
+/// A number with a comma before each three digits.
+pub fn commas(number: u64) -> String {
+    let digits = number.to_string();
+    let mut text = String::new();
+    for (i, digit) in digits.chars().enumerate() {
+        if i > 0 && (digits.len() - i) % 3 == 0 {
+            text.push(',');
+        }
+        text.push(digit);
+    }
+    text
 }
 
 impl Case {

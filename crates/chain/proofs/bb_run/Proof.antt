@@ -16,7 +16,8 @@ use Rattle.device.specs.declared.phase.Sent.{Sent}
 use Rattle.intake.specs.declared.states.Taken.{Taken}
 use Rattle.turns.specs.Front.{Running, nowAt, turnTaken, cursorAfter, turned, turnedOut, turning, enough}
 use Rattle.turns.specs.Judging.{unjudged, judgedFrom, runRows}
-use Rattle.turns.specs.Entry.{entryUnder, ran, runEnd}
+use Rattle.turns.specs.Answer.{ran}
+use Rattle.turns.specs.Entry.{entryUnder, runEnd}
 use Rattle.turns.proofs.cursor.Cursor as C
 use Rattle.turns.proofs.cursor.Cursor.Laws as C′
 use Rattle.turns.proofs.entry.Entry as B

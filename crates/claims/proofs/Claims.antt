@@ -60,9 +60,8 @@ frameOn = light.frame-on
 pub windowLead : claim.WindowLead
 windowLead = light.window-lead
 
-pub litRun : claim.LitRun
-litRun part configuration global value output subframe clock phase a =
-    (light.lit-in-run part configuration global value output subframe clock phase a, light.lit-never part configuration global value output subframe clock phase a)
+pub litClocks : claim.LitClocks
+litClocks = record { numbers = light.lit-clocks; device = light.device-clocks }
 
 pub litCount : claim.LitCount
 litCount = light.lit-count

@@ -2,7 +2,7 @@
 -- whose ends are computed. Assumes nothing.
 use mathlib.Core.Path.{_≡_, refl, sym, ap, _∙_}
 use mathlib.Core.Bool.{Bool, true, false, _&&_}
-use Prim.Native.Nat.{ℕ, suc, _≤_}
+use Prim.Native.Nat.{ℕ, suc}
 use native.Mathlib.Omega.{arith}
 use lib.Dec.{ltb, leb, lit≤}
 use borrow.Author.Tests.{ltb-true, ltb-false, le-leb, lt-leb}
@@ -14,11 +14,10 @@ use Rattle.frames.specs.Writing.{writeRefusal, written, writtenOut}
 use Rattle.frames.specs.Reading.{heldFields, readRefusal}
 use Rattle.device.specs.Run.{run}
 use Rattle.calls.specs.Chain.{through}
-use Rattle.schedule.specs.Light.{count}
+use Rattle.schedule.specs.Light.{count, inRun, litFrom, litTo}
 use Rattle.schedule.specs.Answers.{onAnswer, leadAnswer}
 use Rattle.schedule.specs.declared.answer.Asked.the-variants.{Is}
-use Rattle.schedule.proofs.Lit.{inRun, litFrom, litTo, run-empty}
-use Rattle.schedule.proofs.Claims.{lit-in-run}
+use Rattle.schedule.proofs.Claims.{lights, dark}
 use Rattle.claims.specs.Examples.{Lights, Each, examples, threeStates}
 
 -- before the clock after one is up to that one
@@ -28,11 +27,6 @@ before-next c to = at (ltb c (suc to)) refl where
   at true e = let h = ltb-true c (suc to) e in sym (le-leb c to (omega arith))
   at false e = let h = ltb-false c (suc to) e in sym (lt-leb c to (omega arith))
 
-lights : (part value : ℕ) (even : Bool) → Lights part value even (inRun (litFrom (partOf part) value even) (litTo (partOf part) value even))
-lights part value even configuration global output s clock phase a e q =
-    lit-in-run part configuration global value output s clock phase a e
-    ∙ ap (λ (t : Bool). Is (inRun (litFrom (partOf part) value t) (litTo (partOf part) value t) clock)) q
-
 -- from one clock to another, both included
 lit-to : (part value : ℕ) (even : Bool) (to : ℕ) → litTo (partOf part) value even ≡ suc to
     → Lights part value even (λ clock. leb (litFrom (partOf part) value even) clock && leb clock to)
@@ -40,11 +34,6 @@ lit-to part value even to h configuration global output s clock phase a e q =
     lights part value even configuration global output s clock phase a e q
     ∙ ap (λ (n : ℕ). Is (inRun (litFrom (partOf part) value even) n clock)) h
     ∙ ap (λ (b : Bool). Is (leb (litFrom (partOf part) value even) clock && b)) (before-next clock to)
-
-dark : (part value : ℕ) (even : Bool) → litTo (partOf part) value even ≤ litFrom (partOf part) value even → Lights part value even (λ clock. false)
-dark part value even h configuration global output s clock phase a e q =
-    lights part value even configuration global output s clock phase a e q
-    ∙ ap Is (run-empty (litFrom (partOf part) value even) (litTo (partOf part) value even) clock h)
 
 pub examples-hold : Each examples
 unfolding bits number fields split padded bytesOf over commandCount header frame clocked frameBits frameOf writeRefusal written writtenOut heldFields readRefusal threeStates through run count onAnswer leadAnswer

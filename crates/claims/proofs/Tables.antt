@@ -29,17 +29,18 @@ use Rattle.calls.specs.Calls.{freshRefusal, runTable, runRefusal, returned as c
 use Rattle.calls.specs.History.{Call, fresh, run, boundary, fault, tableOf, refusalOf, effect, after}
 use Rattle.model.specs.Set.{Set, Own, owned}
 use Rattle.link.proofs.Calls.{after-effect}
-use Rattle.turns.specs.Entry.{ran}
+use Rattle.turns.specs.Answer.{ran}
 use Rattle.turns.specs.declared.entry.Ran.{Ran}
-use Rattle.schedule.specs.Answers.{onRows, leadRows, litRows, onAnswer, leadAnswer, litAnswer}
-use Rattle.schedule.specs.OfDevice.{deviceRows, deviceAnswer}
+use Rattle.schedule.specs.Answers.{onRows, leadRows, litRows, onAnswer, leadAnswer, litAnswer, litClocksAnswer}
+use Rattle.schedule.specs.OfDevice.{deviceRows, deviceAnswer, deviceClocksAnswer}
 use Rattle.schedule.specs.declared.answer.Asked.the-variants as A
 use Rattle.schedule.specs.declared.answer.Lead.the-variants as D
+use Rattle.schedule.specs.declared.answer.Clocks.the-variants as K
 use Rattle.compare.specs.Compare.{Pair, _against_, differsAt, groups, inGroups, compared, difference, compareTable, compareRefusal, comparison}
 use Rattle.compare.specs.declared.compared.Compared.{Compared}
 use Rattle.report.specs.Arguments.{parsed, askedRows, judged}
 use Rattle.report.specs.declared.arguments.Asked.the-variants as B
-use Rattle.claims.specs.Tables.{Exactly, Answers, Leaves, lineNumber, writtenNumber, readNumber, returnedNumber, askedNumber, leadNumber, argumentsNumber}
+use Rattle.claims.specs.Tables.{Exactly, Answers, Leaves, lineNumber, writtenNumber, readNumber, returnedNumber, askedNumber, leadNumber, clocksNumber, argumentsNumber}
 use Rattle.claims.specs.Claims as claim
 
 -- ---- any table, any answer, any lent list
@@ -207,7 +208,7 @@ compares s ds = answers (compareTable s ds) refl refl (λ (r : Compared). r .ref
 -- ---- all
 
 pub accepted-exactly : claim.AcceptedExactly
-unfolding onAnswer leadAnswer litAnswer deviceAnswer judged
+unfolding onAnswer leadAnswer litAnswer litClocksAnswer deviceAnswer deviceClocksAnswer judged
 accepted-exactly = record {
   writes = writes;
   reads = reads;
@@ -223,5 +224,7 @@ accepted-exactly = record {
   lead = λ part configuration global from w. answers (leadRows part configuration from w) refl refl leadNumber D.Refused _ refl itself;
   lit = λ part configuration global value output s clock phase. answers (litRows part configuration value output s clock phase) refl refl askedNumber A.Refused _ refl itself;
   deviceLit = λ d output s clock phase. answers (deviceRows d output s clock phase) refl refl askedNumber A.Refused _ refl itself;
+  litClocks = λ part configuration global value output s phase. answers (litRows part configuration value output s 0 phase) refl refl clocksNumber K.Refused _ refl itself;
+  deviceLitClocks = λ d output s phase. answers (deviceRows d output s 0 phase) refl refl clocksNumber K.Refused _ refl itself;
   arguments = λ part devices. answers (askedRows (parsed part) (parsed devices)) refl refl argumentsNumber B.Refused _ refl itself;
 }

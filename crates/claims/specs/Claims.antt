@@ -44,20 +44,20 @@ use Rattle.model.specs.Restore.{restoreOrder, CutFields}
 use Rattle.link.specs.View.{deviceOf, stepRecord, Arrays, registersAt, registersAll, Holds}
 use Rattle.link.specs.Called.{called}
 use Rattle.link.specs.Restore.{Writable, framePart, restorePart, restoreStates, restoreThen, gapAfter, arrival, returnsOf}
-use Rattle.turns.specs.Entry.{ran, runAnswer}
+use Rattle.turns.specs.Answer.{ran, runAnswer}
 use Rattle.turns.specs.declared.entry.Ran.{Ran}
-use Rattle.schedule.specs.Light.{count, level, isOn, leadOf, isLit, isEven, litAt}
-use Rattle.schedule.specs.Answers.{onRows, leadRows, litRows, onAnswer, leadAnswer, litAnswer}
-use Rattle.schedule.specs.OfDevice.{isShown, deviceRows, deviceAnswer}
+use Rattle.schedule.specs.Light.{count, level, isOn, leadOf, isLit, litAt, inRun, litCount}
+use Rattle.schedule.specs.Answers.{onRows, leadRows, litRows, litRun, onAnswer, leadAnswer, litAnswer, litClocksAnswer}
+use Rattle.schedule.specs.OfDevice.{isShown, shownRun, deviceRows, deviceAnswer, deviceClocksAnswer}
 use Rattle.schedule.specs.declared.answer.Asked.the-variants as A
 use Rattle.schedule.specs.declared.answer.Lead.the-variants as D
-use Rattle.schedule.proofs.Lit.{inRun, litFrom, litTo, litClocks}
+use Rattle.schedule.specs.declared.answer.Clocks.the-variants as K
 use Rattle.compare.specs.Compare.{same, compared, difference, compareTable, compareRefusal, comparison}
 use Rattle.compare.specs.Differences.{FirstDifference}
 use Rattle.compare.specs.declared.compared.Compared.{Compared}
 use Rattle.report.specs.Arguments.{parsed, valueOf, askedRows, asked}
 use Rattle.report.specs.declared.arguments.Asked.the-variants as B
-use Rattle.claims.specs.Tables.{Exactly, Answers, Leaves, lineNumber, writtenNumber, readNumber, returnedNumber, askedNumber, leadNumber, argumentsNumber}
+use Rattle.claims.specs.Tables.{Exactly, Answers, Leaves, lineNumber, writtenNumber, readNumber, returnedNumber, askedNumber, leadNumber, clocksNumber, argumentsNumber}
 use Rattle.claims.specs.Examples.{Each, examples}
 
 -- each is a byte
@@ -130,6 +130,11 @@ pub record AcceptedExactly : Type 0 where
       (litAnswer part configuration global value output s clock phase)
   pub deviceLit : (d : Device) (output s clock phase : ℕ)
       → Answers askedNumber (deviceRows d output s clock phase) A.Refused (A.Is (isShown (d .registers) output s clock phase)) (deviceAnswer d output s clock phase)
+  pub litClocks : (part configuration global value output s phase : ℕ)
+      → Answers clocksNumber (litRows part configuration value output s 0 phase) K.Refused (litRun (partOf part) configuration global value output s)
+      (litClocksAnswer part configuration global value output s phase)
+  pub deviceLitClocks : (d : Device) (output s phase : ℕ)
+      → Answers clocksNumber (deviceRows d output s 0 phase) K.Refused (shownRun (d .registers) output s phase) (deviceClocksAnswer d output s phase)
   pub arguments : (part devices : List ℕ)
       → Answers argumentsNumber (askedRows (parsed part) (parsed devices)) B.Refused (B.Chain (valueOf (parsed part)) (valueOf (parsed devices))) (asked part devices)
 
@@ -333,19 +338,20 @@ WindowLead =
     → (negℤ (pos (subframes (partOf part) configuration)) <ℤ leadOf (partOf part) configuration global from w)
     × (leadOf (partOf part) configuration global from w <ℤ pos (subframes (partOf part) configuration))
 
--- in an ON subframe an output is lit in one run of clocks, from litFrom up to litTo, and at no other; in an OFF one never
-abbrev pub LitRun : Type 0
-LitRun =
-    (part configuration global value output subframe clock phase : ℕ)
-    → first (litRows part configuration value output subframe clock phase) ≡ 0
-    → ((isOn (partOf part) configuration global subframe ≡ true)
-    → litAnswer part configuration global value output subframe clock phase
-    ≡ A.Is (inRun (litFrom (partOf part) value (isEven output)) (litTo (partOf part) value (isEven output)) clock))
-    × ((isOn (partOf part) configuration global subframe ≡ false) → litAnswer part configuration global value output subframe clock phase ≡ A.Is false)
+-- the run of clocks that is answered for a subframe: an output is lit at each clock of it, and at no other
+pub record LitClocks : Type 0 where
+  pub numbers : (part configuration global value output s clock phase from to : ℕ)
+      → litClocksAnswer part configuration global value output s phase ≡ K.Run from to
+      → first (litRows part configuration value output s clock phase) ≡ 0
+      → litAnswer part configuration global value output s clock phase ≡ A.Is (inRun from to clock)
+  pub device : (d : Device) (output s clock phase from to : ℕ)
+      → deviceClocksAnswer d output s phase ≡ K.Run from to
+      → first (deviceRows d output s clock phase) ≡ 0
+      → deviceAnswer d output s clock phase ≡ A.Is (inRun from to clock)
 
--- those clocks are as many as the value has outside the edge zones, for an even output and for an odd one, of any row
+-- the lit clocks of an ON subframe are as many as the value has outside the edge zones, for an even output and for an odd one, of any row
 abbrev pub LitCount : Type 0
-LitCount = (p : Part) (value output : ℕ) → count (litAt p value output) 0 (p .clocks) ≡ litClocks p value
+LitCount = (p : Part) (value output : ℕ) → count (litAt p value output) 0 (p .clocks) ≡ litCount p value
 
 -- ---- the lettered examples
 

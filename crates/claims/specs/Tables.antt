@@ -16,6 +16,8 @@ use Rattle.schedule.specs.declared.answer.Asked.{Asked}
 use Rattle.schedule.specs.declared.answer.Asked.the-variants as A
 use Rattle.schedule.specs.declared.answer.Lead.{Lead}
 use Rattle.schedule.specs.declared.answer.Lead.the-variants as D
+use Rattle.schedule.specs.declared.answer.Clocks.{Clocks}
+use Rattle.schedule.specs.declared.answer.Clocks.the-variants as K
 use Rattle.report.specs.declared.arguments.Asked.{Asked as Arguments}
 use Rattle.report.specs.declared.arguments.Asked.the-variants as B
 
@@ -70,6 +72,11 @@ askedNumber (A.Refused n) = n
 abbrev pub leadNumber : Lead → ℕ
 leadNumber (D.By z) = 0
 leadNumber (D.Refused n) = n
+
+-- of a run of lit clocks
+abbrev pub clocksNumber : Clocks → ℕ
+clocksNumber (K.Run from to) = 0
+clocksNumber (K.Refused n) = n
 
 -- of the bench program's arguments
 abbrev pub argumentsNumber : Arguments → ℕ

@@ -7,15 +7,15 @@ use native.Mathlib.Omega.{arith}
 use lib.Dec.{eqb}
 use lib.IntN.{pos, negℤ}
 use lib.Signed.{_<ℤ_}
-use Rattle.parts.specs.Refusals.{first, Lowest, answer}
+use Rattle.parts.specs.Refusals.{first, answer}
 use Rattle.parts.specs.Parts.{Part, partOf, subframes}
-use Rattle.parts.proofs.Rows.{clear, none, or-second, accepted, lowest}
+use Rattle.parts.proofs.Rows.{clear, none, or-second, accepted}
 use Rattle.device.specs.declared.device.Device.{Device}
 use Rattle.device.specs.Judgement.{fits}
 use Rattle.schedule.specs.declared.answer.Asked.the-variants as asked
 use Rattle.schedule.specs.declared.answer.Clocks.the-variants as clocks
 use Rattle.schedule.specs.Light.{count, total, level, isOn, leadOf, isEven, isLit, litAt, inRun, litFrom, litTo, litCount, litFirst, litEnd}
-use Rattle.schedule.specs.Answers.{positionOver, onRows, leadRows, litRows, litAnswer, litClocksAnswer}
+use Rattle.schedule.specs.Answers.{positionOver, litRows, litAnswer, litClocksAnswer}
 use Rattle.schedule.specs.OfDevice.{activeValue, deviceRows, deviceAnswer, deviceClocksAnswer}
 use Rattle.schedule.proofs.Subframes.{level-lt, count-frame, count-quotients, lead-below}
 use Rattle.schedule.proofs.Lit.{lit-run, lit-first-end, run-empty, count-lit, total-lit, lit-on, lit-off, or-none, position-zero}
@@ -165,22 +165,3 @@ pub frame-lit :
 frame-lit part configuration global value output =
     total-lit (partOf part) configuration global value output (subframes (partOf part) configuration)
     ∙ ap (λ (n : ℕ). n * litCount (partOf part) value) (frame-on part configuration global)
-
--- ---- a refusal is the lowest number that applies
-
-pub on-lowest :
-    (part configuration subframe : ℕ) → (first (onRows part configuration subframe) ≡ 0 → ⊥)
-    → Lowest (first (onRows part configuration subframe)) (onRows part configuration subframe)
-on-lowest part configuration subframe h = lowest (onRows part configuration subframe) refl h
-
-pub lead-lowest :
-    (part configuration from w : ℕ) → (first (leadRows part configuration from w) ≡ 0 → ⊥)
-    → Lowest (first (leadRows part configuration from w)) (leadRows part configuration from w)
-lead-lowest part configuration from w h = lowest (leadRows part configuration from w) refl h
-
-pub lit-lowest :
-    (part configuration value output subframe clock phase : ℕ)
-    → (first (litRows part configuration value output subframe clock phase) ≡ 0 → ⊥)
-    → Lowest (first (litRows part configuration value output subframe clock phase)) (litRows part configuration value output subframe clock phase)
-lit-lowest part configuration value output subframe clock phase h =
-    lowest (litRows part configuration value output subframe clock phase) refl h

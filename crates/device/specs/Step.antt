@@ -41,8 +41,8 @@ sliceLength r c = sliceBits (partOf (r .part)) c (multiplex (r .configuration))
 
 -- after a bit: the last one stores the slice and sends the header on
 abbrev pub lastOrMore : Registers → Command → ℕ → ℕ → ℕ → Stepped
-lastOrMore r c count taken length =
-    cond (ltb (taken + 1) length) (moved r (Slice c count (taken + 1)))
+lastOrMore r c count taken long =
+    cond (ltb (taken + 1) long) (moved r (Slice c count (taken + 1)))
     (sending (stored r c) Passing (Header c (raised count (fault r c))))
 
 -- a bit of a slice goes into the field that it is of

@@ -144,10 +144,10 @@ struct bb_signed {
     uint8_t refusal;
 };
 
-/* Clocks of a subframe, from `first` on and before `end`, or a refusal. Where there are none, and where refused, both are 0. */
+/* A run of clocks of a subframe, or a refusal. */
 struct bb_clocks {
-    uint32_t first; /* the first clock */
-    uint32_t end;   /* the clock after the last */
+    uint32_t first; /* the first clock; 0 where there is none, and where refused */
+    uint32_t end;   /* the clock after the last; 0 likewise */
     uint8_t refusal;
 };
 
@@ -329,9 +329,9 @@ struct bb_answer bb_device_lit(struct bb_device device, uint32_t output, uint32_
                                uint32_t phase);
 
 /*
- * The clocks of a subframe at which an output is lit, as one run: bb_lit says 1 at each clock from `first` on and before
- * `end`, and 0 at every other. Both are 0 in a subframe that is not ON, and for a value up to the edge zone, 16 (6974)
- * or 32 (6975).
+ * The clocks of a subframe at which an output is lit, as one run: bb_lit answers 1 at each clock from `first` on and
+ * before `end`, and 0 at every other. Both are 0 in a subframe that is not ON, and for a value not over the edge zone,
+ * 16 (6974) or 32 (6975).
  * Refused as bb_lit is, apart from the clock.
  */
 struct bb_clocks bb_lit_clocks(uint16_t part, uint8_t configuration, uint8_t global, uint16_t value, uint32_t output,

@@ -61,11 +61,11 @@ litAt p v output c = leb (p .edge) c && (ltb c (p .clocks - p .edge) && litBy p 
 abbrev pub inRun : ℕ → ℕ → ℕ → Bool
 inRun from to c = leb from c && ltb c to
 
--- where the run of an even or an odd output begins
+-- the clock at which the run of an even or an odd output begins
 abbrev pub litFrom : Part → ℕ → Bool → ℕ
 litFrom p v even = cond even (p .edge) (max (p .edge) (p .clocks - v))
 
--- the clock before which it ends; where that is not after the beginning, no clock is lit
+-- the clock after its last; where that is not after the clock at which it begins, no clock is lit
 abbrev pub litTo : Part → ℕ → Bool → ℕ
 litTo p v even = cond even (min v (p .clocks - p .edge)) (p .clocks - p .edge)
 

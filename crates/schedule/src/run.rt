@@ -32,7 +32,7 @@ pub fn lit_run(
     Clocks::Run(from, to)
 }
 
-// Where an even output's run begins the edge zone ends; an odd one's begins by its value.
+// The first clock: an even output's is the one after the edge zone, an odd one's goes by its value and is not before that.
 fn lit_from(part: u16, value: u16, output: u32) -> u32
     requires { ⌜ value < limit (partOf part) ⌝ }
     ensures { λ r. ⌜ r ≡ litFrom (partOf part) value (isEven output) ⌝ }
@@ -49,18 +49,18 @@ fn lit_from(part: u16, value: u16, output: u32) -> u32
     by_value
 }
 
-// The mirror image.
+// The clock after the last: an odd output's is the first of the other edge zone, an even one's goes by its value and is not after that.
 fn lit_to(part: u16, value: u16, output: u32) -> u32
     ensures { λ r. ⌜ r ≡ litTo (partOf part) value (isEven output) ⌝ }
 {
     let constants = constants_of(part);
-    let edge = constants.clocks as u32 - constants.edge as u32;
+    let other_edge = constants.clocks as u32 - constants.edge as u32;
     let by_value = value as u32;
     if !is_output_even(output) {
-        return edge;
+        return other_edge;
     }
-    if by_value > edge {
-        return edge;
+    if by_value > other_edge {
+        return other_edge;
     }
     by_value
 }

@@ -33,12 +33,12 @@ fn level_of(part: u16, configuration: u8, global: u8) -> u32
     (global as u32) % (subframes_of(part, configuration) as u32)
 }
 
-// The ON subframes before subframe s of a frame of `all`, at level g.
-fn on_first(all: u32, g: u32, s: u32) -> u32
-    requires { ⌜ (0 < all) × (g < 128) × (s ≤ 256) ⌝ }
-    ensures { λ r. ⌜ r ≡ onFirst all g s ⌝ }
+// The ON subframes before subframe s of a frame of n, at level g.
+fn on_first(n: u32, g: u32, s: u32) -> u32
+    requires { ⌜ (0 < n) × (g < 128) × (s ≤ 256) ⌝ }
+    ensures { λ r. ⌜ r ≡ onFirst n g s ⌝ }
 {
-    s * (g + 1) / all
+    s * (g + 1) / n
 }
 
 fn difference(a: u32, b: u32) -> i32

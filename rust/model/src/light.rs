@@ -76,8 +76,8 @@ pub fn is_device_lit(record: &record::Device, at: Position) -> Result<bool, Refu
     is_lit(part, device.configuration, device.active_global, value, at)
 }
 
-/// The clocks of a subframe at which an output with a value is lit; 0..0 where there are none. Every clock is asked; the
-/// clock of `at` is not looked at.
+/// The clocks of a subframe at which an output with a value is lit; 0..0 where there are none. It asks every clock;
+/// the clock of `at` is not looked at.
 pub fn lit_clocks(
     part: u16,
     configuration: u8,

@@ -125,7 +125,7 @@ fn i_subframes_and_leads() {
     assert_eq!(lead(6974, 0, 96, 1, 3), Ok(93));
 }
 
-/// The clocks at which an output with a value is lit, in a subframe that is ON; the model's run of them must be the same.
+/// The clocks at which an output with a value is lit, in a subframe that is ON, which are those of the model's run.
 fn lit_clocks(part: u16, value: u16, output: u32) -> Vec<u32> {
     let clocks = if part == 6974 { 4096 } else { 16_384 };
     let at = |clock| Position {

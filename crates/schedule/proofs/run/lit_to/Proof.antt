@@ -13,14 +13,14 @@ use Rattle.schedule.proofs.run.lit_to.Tie as tie
 constants-of-requires : tie.Need-constants-of-requires
 constants-of-requires c κs = search needs
 
-cast-edge : tie.Need-cast-edge
-cast-edge c = search needs
+cast-other-edge : tie.Need-cast-other-edge
+cast-other-edge c = search needs
 
-cast-edge-2 : tie.Need-cast-edge-2
-cast-edge-2 c = search needs
+cast-other-edge-2 : tie.Need-cast-other-edge-2
+cast-other-edge-2 c = search needs
 
-sub-edge : tie.Need-sub-edge
-sub-edge c = subst (λ (k : Constants). k .edge ≤ k .clocks) (sym (c .before .before .constants-of .ensures)) (edge-le (c .before .before .before .args .part))
+sub-other-edge : tie.Need-sub-other-edge
+sub-other-edge c = subst (λ (k : Constants). k .edge ≤ k .clocks) (sym (c .before .before .constants-of .ensures)) (edge-le (c .before .before .before .args .part))
 
 is-output-even-requires : tie.Need-is-output-even-requires
 is-output-even-requires c κs = search needs
@@ -49,9 +49,9 @@ lit-to-spec =
     tie.close
     (tie.spec
     constants-of-requires
-    cast-edge
-    cast-edge-2
-    sub-edge
+    cast-other-edge
+    cast-other-edge-2
+    sub-other-edge
     is-output-even-requires
     returns
     returns-2

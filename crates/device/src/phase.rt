@@ -151,12 +151,11 @@ pub fn hear(phase: Phase, bit: u8) -> Phase
 fn rise(window: u8, bit: u8) -> Phase
     ensures { λ r. ⌜ r ≡ rising window bit ⌝ }
 {
-    if window == 0xE8 {
-        Phase::Opening {
-            read: 2 + (bit as u16),
-        }
-    } else {
-        Phase::Lost
+    if window != 0xE8 {
+        return Phase::Lost;
+    }
+    Phase::Opening {
+        read: 2 + (bit as u16),
     }
 }
 

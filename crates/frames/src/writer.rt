@@ -93,7 +93,7 @@ fn is_value_high(told: Told, byte: u8, values: &[u16]) -> bool
         Command::Individual => !parts::values_below(values, parts::value_limit(told.part)),
         Command::Calibration => false,
         Command::Global => (byte as u16) >= parts::subframes_of(told.part, told.configuration),
-        Command::Configuration => false,
+        Command::Configuration => false, // any byte may be one
     }
 }
 

@@ -3,9 +3,6 @@ use crate::lists::both;
 use crate::lists::copy;
 use crate::lists::least;
 use crate::print;
-use crate::three::fault_three;
-use crate::three::fresh_three;
-use crate::three::run_three;
 use crate::told::frame_of;
 use crate::told::no_tail;
 use crate::told::tail_of;
@@ -14,6 +11,9 @@ use frames::Returned;
 use frames::Tail;
 use line::Line;
 use parts::Command;
+use three::fault_three;
+use three::fresh_three;
+use three::run_three;
 
 // The fault kind of an open LED.
 const OPEN_LED: u8 = 1;

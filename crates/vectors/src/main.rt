@@ -6,7 +6,6 @@ mod light_cases; // i to k
 mod lists; // lists compared and copied
 mod print; // words, bytes and numbers on standard output
 mod taken_cases; // what is refused, and what is just taken
-mod three; // chains of three devices, lent to the calls
 mod told; // what a frame is told by
 
 fn main() {

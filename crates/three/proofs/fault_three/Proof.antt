@@ -1,4 +1,4 @@
--- `vectors::three::fault_three` meets its contract: a walk of its MIR, by hand. The array is taken apart into a row, lent to `bb_set_fault`, and read whole again.
+-- `three::fault_three` meets its contract: a walk of its MIR, by hand. The array is taken apart into a row, lent to `bb_set_fault`, and read whole again.
 use Rattle.chain.proofs.Walk.{_≡_, refl, sym, _∙_, subst, ℕ, not, eqb, List, [], _∷_, length, lit<, URA, fullShare, named, erased, mut, w8, w64, tyRef, vint, Val, SProp, ent, emp, via, fst∗, GName, ftrue, fat, flft, Memory, Routine, Heap, WpFn, Tables, Atoms, fmOf, Given, Item, ‵, raw, _⊛_, ⋆, _$_, _∵_, !, qed, by, move, use1, drop, split, join, rewrite, fsplit, fjoin, feqL, suffices, frame, done, agg, look, init, forget, stop, from, load, lit, of-opd, and-then, no-more, addr, assigns, land, returns, enter, alloc1, alloc0, params1, pass1, pass0, free1, free0, Fun, givenOf, tables, tablesOf, yes, owns, pointee, Is, uint-vals, uint-tells, uint-makes, sliceTy, sliceVal, MutSlice, Room, row, plain, u8, usize, onEntry, tripleOf, Contract, Triple, cited, nothing, owned, heard, says, Stays, stay-dropped, walkOf, ends-at, walked, goes-dropped, id⊢}
 use types.Kit.{cut}
 use denote.Array.{Array, array-vals, array-tells, array-makes, array-lawful}
@@ -11,11 +11,11 @@ use Rattle.chain.proofs.bb_set_fault as callee
 use Rattle.chain.proofs.bb_set_fault.Symbol as callee-def
 use Rattle.chain.proofs.bb_set_fault.Symbol.{name as #callee}
 use Rattle.chain.proofs.bb_set_fault.Met as callee-thm
-use Rattle.vectors.proofs.Arrays.{arr, aval}
-use Rattle.vectors.proofs.three.fault_three.Key.{name as #caller}
-use Rattle.vectors.proofs.three.fault_three as caller
-use Rattle.vectors.proofs.three.fault_three.Statement as stated
-use Rattle.vectors.proofs.three.fault_three.Code as code
+use Rattle.three.proofs.Arrays.{arr, aval}
+use Rattle.three.proofs.fault_three.Key.{name as #caller}
+use Rattle.three.proofs.fault_three as caller
+use Rattle.three.proofs.fault_three.Statement as stated
+use Rattle.three.proofs.fault_three.Code as code
 
 abbrev stayed : Stays (caller.ended .signature .params) (caller.ended .kept)
 stayed = (stay-dropped (ArrayOf (plain (λ _. D)) (λ κs. tt) 3) yes, (stay-dropped (plain (λ _. usize)) yes, (stay-dropped (plain (λ _. u8)) yes, (stay-dropped (plain (λ _. u8)) yes, tt))))

@@ -1,7 +1,7 @@
--- `vectors::three::run_three` meets its contract: a walk of its MIR, by hand. The array is lent to `bb_run`, and the two other slices are passed on at their own lifetimes.
+-- `three::load_three` meets its contract: a walk of its MIR, by hand. The array is lent to `bb_run` and read whole again; the two other slices are passed on at their own lifetimes.
 use Rattle.chain.proofs.Walk.{_≡_, refl, sym, _∙_, subst, ℕ, List, [], _∷_, length, lit<, URA, fullShare, named, erased, mut, tyRef, Val, SProp, ent, emp, via, fst∗, Lft, GName, Share, ftrue, fat, flft, Memory, Routine, Heap, WpFn, Tables, Atoms, fmOf, Given, Item, ‵, raw, _⊛_, ⋆, _$_, _∵_, !, qed, by, move, use1, drop, split, join, rewrite, fsplit, fjoin, feqL, suffices, frame, done, whole, sub, look-in, agg, look, init, forget, stop, hop, fld, from, load, lit, of-opd, and-then, no-more, addr, assigns, land, returns, enter, alloc1, alloc0, params1, pass1, pass0, free1, free0, Fun, givenOf, tables, tablesOf, yes, owns, pointee, Is, RefT, sliceTy, sliceVal, MutSlice, ShrSlice, Room, finally, slice-vals, mut-slice-tells, shr-slice-tells, row, plain, shrSliceOf, u8, onEntry, tripleOf, Contract, Triple, cited, nothing, owned, heard, says, Stays, gave-slice, stay-dropped, walkOf, ends-at, walked, goes-gave-slice, goes-dropped, id⊢}
 use types.Kit.{cut}
-use denote.Array.{Array, array-vals, array-tells, array-lawful}
+use denote.Array.{Array, array-vals, array-tells, array-makes, array-lawful}
 use denote.Builtin.{ArrayOf}
 use denote.Struct.Laws as LL
 use Rattle.device.specs.declared.device.Device.{Device}
@@ -16,17 +16,14 @@ use Rattle.chain.proofs.bb_run as callee
 use Rattle.chain.proofs.bb_run.Symbol as callee-def
 use Rattle.chain.proofs.bb_run.Symbol.{name as #callee}
 use Rattle.chain.proofs.bb_run.Met as callee-thm
-use Rattle.vectors.proofs.Arrays.{arr, aval}
-use Rattle.vectors.proofs.three.run_three.Key.{name as #caller}
-use Rattle.vectors.proofs.three.run_three as caller
-use Rattle.vectors.proofs.three.run_three.Statement as stated
-use Rattle.vectors.proofs.three.run_three.Code as code
+use Rattle.three.proofs.Arrays.{arr, aval}
+use Rattle.three.proofs.load_three.Key.{name as #caller}
+use Rattle.three.proofs.load_three as caller
+use Rattle.three.proofs.load_three.Statement as stated
+use Rattle.three.proofs.load_three.Code as code
 
 abbrev rval : Ran → Val
 rval = LL.val R.the-type R′.the-laws
-
-abbrev RIs : Ran → Type 0
-RIs r = Is R.the-row r (LL.vals R.the-type R′.the-laws r)
 
 abbrev stayed : Stays (caller.ended .signature .params) (caller.ended .kept)
 stayed = (stay-dropped (ArrayOf (plain (λ _. D)) (λ κs. tt) 3) yes, (stay-dropped (shrSliceOf (0 ∷ []) tt (plain (λ _. u8))) yes, (gave-slice (1 ∷ []) tt (plain (λ _. u8)), tt)))
@@ -56,11 +53,11 @@ module _ {M : Type 1} (𝓤 : URA M) (H : Heap 𝓤) (A : Atoms 𝓤) (W : Given
   abbrev ans : Ran
   ans = runAnswer xs ss (length os)
 
-  exits : RIs ans → length room ≡ length os → ent 𝓤 (⋆ 𝓤 H A (‵ (finally u8 γ₂ room) ∷ (‵ (flft κ₁ q₁) ⊛ ‵ (flft κ₂ q₂) ⊛ ‵ ftrue) ∷ [])) (Post (rval ans))
+  exits : Is (Array D 3) zs (array-vals vals zs) → length room ≡ length os → ent 𝓤 (⋆ 𝓤 H A (‵ (finally u8 γ₂ room) ∷ (‵ (flft κ₁ q₁) ⊛ ‵ (flft κ₂ q₂) ⊛ ‵ ftrue) ∷ [])) (Post (aval zs))
   exits is same =
       qed W (‵ (finally u8 γ₂ room) ∷ (‵ (flft κ₁ q₁) ⊛ ‵ (flft κ₂ q₂) ⊛ ‵ ftrue) ∷ []) ∵
-      suffices ! _ (ends-at 𝓤 H A caller.ended stayed (caller.clauses 𝓤 H A mem run) W (((κ₁, (κ₂, tt)), (q₁, (q₂, tt)), tt, x, at), tt) (rval ans) ans (tt, (tt, (room, tt))) (tt, (tt, (same, tt)))) $ says ! (refl, refl) $
-      move ! (1 ∷ []) $ frame ! $ nothing ! $ move ! (1 ∷ 0 ∷ []) $ fjoin ! $ nothing ! $ fjoin ! $ nothing ! $ fjoin ! $ frame ! $ owned ! R.the-row (Is R.the-row) (LL.makes R.the-type R′.the-plain 𝓤 H A) ans _ is $ done !
+      suffices ! _ (ends-at 𝓤 H A caller.ended stayed (caller.clauses 𝓤 H A mem run) W (((κ₁, (κ₂, tt)), (q₁, (q₂, tt)), tt, x, at), tt) (aval zs) zs (tt, (tt, (room, tt))) (tt, (tt, (same, tt)))) $ says ! (refl, refl) $
+      move ! (1 ∷ []) $ frame ! $ nothing ! $ move ! (1 ∷ 0 ∷ []) $ fjoin ! $ nothing ! $ fjoin ! $ nothing ! $ fjoin ! $ frame ! $ owned ! (Array D 3) (Is (Array D 3)) (array-makes 𝓤 H A W D (made 𝓤 H A) 3) zs _ is $ done !
 
   abbrev to-callee : (ν l : ℕ) (δ : GName) → CalleeC 𝓤 H A mem run .Ghost
   to-callee ν l δ = (((ν ∷ [], (κ₁, (κ₂, tt))), (fullShare, (q₁, (q₂, tt))), tt, (ref l 0 δ xs, (ref b₁ o₁ γ₁ ss, (ref b₂ o₂ γ₂ os, tt))), (sl l 0 (length xs), (sl b₁ o₁ (length ss), (sl b₂ o₂ (length os), tt)))), tt)
@@ -81,36 +78,36 @@ module _ {M : Type 1} (𝓤 : URA M) (H : Heap 𝓤) (A : Atoms 𝓤) (W : Given
         let len : length xs ≡ 3 = is .1 .0 .1 in
         let typed = array-lawful 𝓤 H A W D (lawful 𝓤 H A W) 3 .typed in
         qed W ((‵ (flft κ₁ q₁) ⊛ ‵ (flft κ₂ q₂) ⊛ ‵ ftrue) ∷ ‵ (owns (Array D 3 ∷ ShrSlice (named 0) κ₁ u8 ∷ MutSlice (named 1) κ₂ u8 ∷ []) x at) ∷ []) ∵ enter ! (𝓣 .C) (𝓣 .Λ) code.function (aval xs ∷ sliceVal (b₁, o₁) (length ss) ∷ sliceVal (b₂, o₂) (length os) ∷ []) _ $
-        alloc1 ! {τ = R′.mir} (λ l₀. alloc1 ! {τ = arr} (λ l₁. alloc1 ! (λ l₂. alloc1 ! (λ l₃. alloc1 ! {τ = arr} (λ l₄. alloc1 ! (λ l₅. alloc1 ! (λ l₆. alloc1 ! (λ l₇. alloc1 ! (λ l₈. alloc0 ! $ params1 ! $
-        pass1 ! (init ! 14 refl (typed xs _ is .0)) $ pass1 ! (init ! 12 refl (tt, (tt, (record { fits = g₁ .0 }, tt)))) $ pass1 ! (init ! 10 refl (tt, (tt, (record { fits = g₂ .0 }, tt)))) $ pass0 ! $
-        move ! (18 ∷ 19 ∷ []) $ split ! $ move ! (1 ∷ []) $ split ! $ move ! (1 ∷ []) $ drop ! $ move ! (2 ∷ []) $ fsplit ! $ drop ! $ fsplit ! $ move ! (1 ∷ []) $ fsplit ! $ move ! (1 ∷ []) $ drop ! $
-        -- [returned's; states'; κ₂; κ₁; _8; …; _0; …]
-        assigns ! (of-opd ! (load ! (from ! (stop !)) (look ! 18 refl))) (from ! (stop !)) (init ! 12 refl (typed xs _ is .0)) $
+        alloc1 ! {τ = arr} (λ l₀. alloc1 ! {τ = arr} (λ l₁. alloc1 ! (λ l₂. alloc1 ! (λ l₃. alloc1 ! {τ = arr} (λ l₄. alloc1 ! {τ = R′.mir} (λ l₅. alloc1 ! (λ l₆. alloc1 ! (λ l₇. alloc1 ! (λ l₈. alloc1 ! (λ l₉. alloc0 ! $ params1 ! $
+        pass1 ! (init ! 16 refl (typed xs _ is .0)) $ pass1 ! (init ! 14 refl (tt, (tt, (record { fits = g₁ .0 }, tt)))) $ pass1 ! (init ! 12 refl (tt, (tt, (record { fits = g₂ .0 }, tt)))) $ pass0 ! $
+        move ! (20 ∷ 21 ∷ []) $ split ! $ move ! (1 ∷ []) $ split ! $ move ! (1 ∷ []) $ drop ! $ move ! (2 ∷ []) $ fsplit ! $ drop ! $ fsplit ! $ move ! (1 ∷ []) $ fsplit ! $ move ! (1 ∷ []) $ drop ! $
+        -- [returned's; states'; κ₂; κ₁; _9; …; _0; …]
+        assigns ! (of-opd ! (load ! (from ! (stop !)) (look ! 20 refl))) (from ! (stop !)) (init ! 14 refl (typed xs _ is .0)) $
         assigns ! (addr ! (from ! (stop !))) (from ! (stop !)) (init ! 10 refl (tt, tt)) $
         assigns ! (agg ! (and-then ! (load ! (from ! (stop !)) (look ! 10 refl)) (and-then ! (lit ! tt) (no-more !)))) (from ! (stop !)) (init ! 8 refl (tt, (tt, (record { fits = lit< tt }, tt)))) $
-        rewrite ! 8 (λ (z : ℕ). ‵ (fat fullShare (sliceTy (tyRef erased mut (pointee (D .written)))) l₆ 0 (sliceVal (l₄, 0) z))) (sym len) refl $
-        assigns ! (addr ! (from ! (fld ! refl (hop ! (look-in ! 14 (sub ! 0 refl (whole !))) (stop !))))) (from ! (stop !)) (init ! 6 refl (tt, tt)) $
-        assigns ! (agg ! (and-then ! (load ! (from ! (stop !)) (look ! 6 refl)) (and-then ! (load ! (from ! (fld ! refl (stop !))) (look-in ! 14 (sub ! 1 refl (whole !)))) (no-more !)))) (from ! (stop !)) (init ! 4 refl (tt, (tt, (record { fits = g₂ .0 }, tt)))) $
+        rewrite ! 8 (λ (z : ℕ). ‵ (fat fullShare (sliceTy (tyRef erased mut (pointee (D .written)))) l₇ 0 (sliceVal (l₄, 0) z))) (sym len) refl $
+        assigns ! (addr ! (from ! (fld ! refl (hop ! (look-in ! 16 (sub ! 0 refl (whole !))) (stop !))))) (from ! (stop !)) (init ! 6 refl (tt, tt)) $
+        assigns ! (agg ! (and-then ! (load ! (from ! (stop !)) (look ! 6 refl)) (and-then ! (load ! (from ! (fld ! refl (stop !))) (look-in ! 16 (sub ! 1 refl (whole !)))) (no-more !)))) (from ! (stop !)) (init ! 4 refl (tt, (tt, (record { fits = g₂ .0 }, tt)))) $
         -- the array is a row, which is lent
-        move ! (12 ∷ []) $ apart ! D vals (made 𝓤 H A) tt 3 xs l₄ 0 is $ lends ! tt D xs l₄ 0 (subst (Room D) (sym len) (lit< tt, lit< tt)) (λ ν δ.
+        move ! (14 ∷ []) $ apart ! D vals (made 𝓤 H A) tt 3 xs l₄ 0 is $ lends ! tt D xs l₄ 0 (subst (Room D) (sym len) (lit< tt, lit< tt)) (λ ν δ.
         move ! (0 ∷ 1 ∷ 3 ∷ 4 ∷ 5 ∷ 6 ∷ []) $ cut (Handed ν l₄ δ) (raw (CalleeC 𝓤 H A mem run .pre (to-callee ν l₄ δ)) ∷ []) _ (goes ν l₄ δ) $
-        calls-val ! (fmOf 𝓤 H (W .laws) 𝓣) callee.ended (callee.clauses 𝓤 H A mem run) known (to-callee ν l₄ δ) rval (LL.tells R.the-type R′.the-laws) (and-then ! (load ! (from ! (stop !)) (look ! 6 refl)) (and-then ! (load ! (from ! (stop !)) (look ! 13 refl)) (and-then ! (load ! (from ! (stop !)) (look ! 2 refl)) (no-more !)))) (λ r ws is′.
+        calls-val ! (fmOf 𝓤 H (W .laws) 𝓣) callee.ended (callee.clauses 𝓤 H A mem run) known (to-callee ν l₄ δ) rval (LL.tells R.the-type R′.the-laws) (and-then ! (load ! (from ! (stop !)) (look ! 6 refl)) (and-then ! (load ! (from ! (stop !)) (look ! 15 refl)) (and-then ! (load ! (from ! (stop !)) (look ! 2 refl)) (no-more !)))) (λ r ws is′.
         heard ! ((r ≡ ans) × (ws .0 ≡ zs) × (ws .1 .1 .0 ≡ room)) (λ e.
         use1 W (‵ (flft (ν ∷ []) fullShare) ⊛ ‵ (flft κ₁ q₁) ⊛ ‵ (flft κ₂ q₂) ⊛ ‵ ftrue) (id⊢ 𝓤 _) $ split ! $ move ! (2 ∷ []) $ fsplit ! $ fsplit ! $ move ! (3 ∷ 5 ∷ 0 ∷ []) $ returned ! tt D (ws .0) l₄ 0 $
         move ! (1 ∷ []) $ feqL ! (λ same. move ! (1 ∷ []) $ fsplit ! $ drop ! $ fsplit ! $ fsplit ! $ move ! (1 ∷ []) $ feqL ! (λ long. move ! (1 ∷ []) $ drop ! $
         rewrite ! 0 (λ (ls : List ℕ). ‵ (finally u8 γ₂ ls)) (e .2) refl $ move ! (1 ∷ []) $ rewrite ! 0 (λ (ls : List Device). ‵ (row D fullShare ls l₄ 0)) (e .1) refl $
         whole-again ! D vals tells 3 zs l₄ 0 (subst (λ (ls : List Device). length ls ≡ 3) (e .1) (same ∙ len)) (λ isA.
-        -- [_4; returned's last; the tokens; _8; …]
-        land ! (from ! (stop !)) (init ! 18 refl (LL.lawful R.the-type R′.the-laws 𝓤 H A W .typed r _ is′ .0)) $
-        rewrite ! 18 (λ (u : Ran). ‵ (fat fullShare R′.mir l₀ 0 (rval u))) (e .0) refl $
-        returns ! (look ! 18 refl) $ forget ! 0 refl $ forget ! 3 refl $ forget ! 5 refl $ forget ! 7 refl $ forget ! 9 refl $ forget ! 12 refl $ forget ! 14 refl $ forget ! 16 refl $ forget ! 18 refl $
-        move ! (18 ∷ 19 ∷ []) $ free1 ! $ move ! (16 ∷ 17 ∷ []) $ free1 ! $ move ! (14 ∷ 15 ∷ []) $ free1 ! $ move ! (12 ∷ 13 ∷ []) $ free1 ! $ move ! (0 ∷ 11 ∷ []) $ free1 ! $
-        move ! (8 ∷ 9 ∷ []) $ free1 ! $ move ! (6 ∷ 7 ∷ []) $ free1 ! $ move ! (4 ∷ 5 ∷ []) $ free1 ! $ move ! (2 ∷ 3 ∷ []) $ free1 ! $ free0 ! $
-        by ! (exits (subst RIs (e .0) is′) (subst (λ (ls : List ℕ). length ls ≡ length os) (e .2) long)))))))))))))))))
+        -- [_4; returned's last; the tokens; _9; …]
+        land ! (from ! (stop !)) (init ! 11 refl (LL.lawful R.the-type R′.the-laws 𝓤 H A W .typed r _ is′ .0)) $
+        assigns ! (of-opd ! (load ! (from ! (stop !)) (look ! 0 refl))) (from ! (stop !)) (init ! 20 refl (typed zs _ isA .0)) $
+        returns ! (look ! 20 refl) $ forget ! 0 refl $ forget ! 3 refl $ forget ! 5 refl $ forget ! 7 refl $ forget ! 9 refl $ forget ! 11 refl $ forget ! 14 refl $ forget ! 16 refl $ forget ! 18 refl $ forget ! 20 refl $
+        move ! (20 ∷ 21 ∷ []) $ free1 ! $ move ! (18 ∷ 19 ∷ []) $ free1 ! $ move ! (16 ∷ 17 ∷ []) $ free1 ! $ move ! (14 ∷ 15 ∷ []) $ free1 ! $ move ! (0 ∷ 13 ∷ []) $ free1 ! $
+        move ! (10 ∷ 11 ∷ []) $ free1 ! $ move ! (8 ∷ 9 ∷ []) $ free1 ! $ move ! (6 ∷ 7 ∷ []) $ free1 ! $ move ! (4 ∷ 5 ∷ []) $ free1 ! $ move ! (2 ∷ 3 ∷ []) $ free1 ! $ free0 ! $
+        by ! (exits isA (subst (λ (ls : List ℕ). length ls ≡ length os) (e .2) long))))))))))))))))))
 
-pub run-three-spec : {M : Type 1} → stated.statement M
+pub load-three-spec : {M : Type 1} → stated.statement M
 unfolding code.routine tablesOf
-run-three-spec 𝓤 H 𝓜 𝓖 𝓡 =
+load-three-spec 𝓤 H 𝓜 𝓖 𝓡 =
     let W = givenOf 𝓤 H 𝓜 𝓖 in
     let 𝓣 : Tables 𝓤 H = tablesOf 𝓤 H 𝓜 (tables 𝓤 H 𝓜 𝓡 code.env) in
     closes 𝓤 H 𝓜 𝓖 𝓡 caller.ended stayed

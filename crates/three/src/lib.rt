@@ -4,7 +4,7 @@ ghost use mathlib.Core.Path.{_≡_};
 ghost use mathlib.Core.Bool.{not};
 ghost use lib.Dec.{eqb};
 ghost use lib.ListN.{length};
-ghost use Rattle.calls.specs.Calls.{freshAfter, faultAfter, runRoom};
+ghost use Rattle.calls.specs.Calls.{freshAfter, faultAfter, runAfter, runRoom};
 ghost use Rattle.turns.specs.Entry.{runAnswer};
 use device::Device;
 use turns::Ran;
@@ -27,7 +27,20 @@ pub fn fault_three(chain: [Device; 3], device: usize, kind: u8, flag: u8) -> [De
     lent
 }
 
-// A run: what the last device sends goes to the lent room.
+// A run: the chain afterwards. What the last device sends goes to the lent room.
+pub fn load_three(chain: [Device; 3], states: &[u8], returned: &mut [u8]) -> [Device; 3]
+    ensures { λ r.
+        ⌜
+        (r ≡ runAfter chain (now (states .entry)) (length (now (returned .entry))))
+        × (now (returned .exit) ≡ runRoom chain (now (states .entry)) (now (returned .entry)))
+        ⌝ }
+{
+    let mut lent = chain;
+    chain::bb_run(&mut lent, states, returned);
+    lent
+}
+
+// A run: how many states came back. What the last device sends goes to the lent room.
 pub fn run_three(chain: [Device; 3], states: &[u8], returned: &mut [u8]) -> Ran
     ensures { λ r.
         ⌜

@@ -6,24 +6,9 @@
  * "01" below is the customer's paper, "Sign restore: build definition and exact rules".
  *
  * Refusals
- *   A refusal is a number of 01's table, 0 where the call is accepted. The lowest number that applies is given.
- *   A refused call changes nothing: every lent byte, value, state and record stays as it came in, and every other
- *   number of its answer is 0.
- *
- *   1  the part is neither 6974 nor 6975
- *   2  the number of devices is not 1 to 1023
- *   3  the tail length is over 64
- *   4  a settings list, a frame or a return has another length than its rule says; a compared chain has another
- *      number of devices or another part; records of one chain differ in part
- *   5  the output is too short
- *   6  an individual value or a global byte is out of range, or tail bits stand above the tail's length
- *   7  SYNC is not 0xE8
- *   8  the six command bits are not those expected
- *   9  a host frame's count is not 0; a return's count is over the number of devices
- *  10  copies within a slice, or global or configuration bytes of two devices, differ
- *  11  an unused bit of the last byte is 1
- *  12  the tail is not the one sent
- *  13  a device number, position, line state or fault kind is out of range, or a device record does not fit (below)
+ *   A refusal is a number of 01's table, BB_REFUSED_PART to BB_REFUSED_POSITION_OR_RECORD below, 0 where the call is
+ *   accepted. The lowest number that applies is given. A refused call changes nothing: every lent byte, value, state
+ *   and record stays as it came in, and every other number of its answer is 0.
  *
  * Lists
  *   A list is lent as two arguments, a pointer to its first element and the number of its elements. The caller owns it
@@ -44,6 +29,28 @@
 #ifdef __cplusplus
 extern "C" {
 #endif
+
+/* Refusals: the numbers of 01's table, each given exactly when what stands beside it holds and no lower one applies. */
+enum {
+    BB_REFUSED_PART = 1,        /* the part is neither 6974 nor 6975 */
+    BB_REFUSED_DEVICES = 2,     /* the number of devices is not 1 to 1023 */
+    BB_REFUSED_TAIL_LENGTH = 3, /* the tail length is over 64 */
+    BB_REFUSED_LENGTH = 4,      /* a settings list, a frame or a return has another length than its rule says; a
+                                   compared chain has another number of devices or another part; records of one chain
+                                   differ in part */
+    BB_REFUSED_ROOM = 5,        /* the output is too short */
+    BB_REFUSED_RANGE = 6,       /* an individual value, or a global byte of a set or frame, is out of range, or tail
+                                   bits stand above the tail's length */
+    BB_REFUSED_SYNC = 7,        /* SYNC is not 0xE8 */
+    BB_REFUSED_COMMAND = 8,     /* the six command bits are not those expected */
+    BB_REFUSED_COUNT = 9,       /* a host frame's count is not 0; a return's count is over the number of devices */
+    BB_REFUSED_COPIES = 10,     /* copies within a slice, or global or configuration bytes of two devices, differ */
+    BB_REFUSED_UNUSED_BIT = 11, /* an unused bit of the last byte is 1 */
+    BB_REFUSED_TAIL = 12,       /* the tail is not the one sent */
+    BB_REFUSED_POSITION_OR_RECORD = 13 /* a device number, position (subframe, clock or output), window, line state,
+                                   fault kind (0 overtemperature, 1 open LED) or phase is out of range, or a device
+                                   record holds a value over its width or numbers that fit none of the phases below */
+};
 
 /* Commands, C1 C0. */
 enum {
@@ -103,7 +110,9 @@ struct bb_registers {
     uint16_t active1[24];    /* MUX1 values in use while D0 is 1 */
     /* The slice coming in, a slot for each field, in wire order. A slot is a shift register: the bit at position t of
      * the slice goes to slot k = t / (bits of a field), slot = (slot * 2 + bit) modulo 2^(value width) in an individual
-     * slice and modulo 256 in any other. Slots are not cleared. */
+     * slice and modulo 256 in any other. Slots are not cleared, so bits of a slice that was cut off may stand in them.
+     * A slot over 255 fits also where a calibration, global or configuration slice comes in: its low 8 bits are what is
+     * stored, and what copies are compared by. */
     uint16_t slice[48];
 };
 
@@ -138,6 +147,12 @@ struct bb_stepped {
     uint8_t refusal;
 };
 
+/* What bb_pack gives. */
+struct bb_packed {
+    uint64_t bytes; /* bytes written; 0 where not done */
+    uint8_t done;   /* 1, or 0 where nothing was written */
+};
+
 /* A signed number, or a refusal. */
 struct bb_signed {
     int32_t value; /* a lead: strictly between -S and S; 0 where refused */
@@ -159,18 +174,18 @@ struct bb_compared {
     uint8_t refusal;
 };
 
-/* ---- Bits ---- */
+/* ---- Bits: these two are not of the table above, and their answers hold no number of it ---- */
 
 /*
  * Packs the `width` low bits of each value, most significant first and without a gap, into `out` from the byte `at` on;
- * unused bits of the last byte become 0. Answers the number of bytes written, (count * width + 7) / 8.
- * Refused with 5 where the width is over 16 or `at` plus that number is over `room`.
+ * unused bits of the last byte become 0. Answers the number of bytes written, (count * width + 7) / 8, and 1.
+ * Where the width is over 16 or `at` plus that number is over `room`, nothing is written and both are 0.
  */
-struct bb_answer bb_pack(const uint16_t *values, size_t count, uint32_t width, uint8_t *out, size_t room, size_t at);
+struct bb_packed bb_pack(const uint16_t *values, size_t count, uint32_t width, uint8_t *out, size_t room, size_t at);
 
 /*
- * Fills `values` with numbers of `width` bits from `bytes`, from the byte `at` on: bb_pack undone. Returns the refusal:
- * 5 where the width is over 16 or `at` plus (count * width + 7) / 8 is over `length`.
+ * Fills `values` with numbers of `width` bits from `bytes`, from the byte `at` on: bb_pack undone. Returns 1.
+ * Where the width is over 16 or `at` plus (count * width + 7) / 8 is over `length`, nothing is written and 0 returned.
  */
 uint8_t bb_unpack(const uint8_t *bytes, size_t length, size_t at, uint32_t width, uint16_t *values, size_t count);
 
@@ -260,15 +275,10 @@ uint8_t bb_judge(struct bb_device device);
  * One clock with the line state `state`, 0 to 3: data bit plus twice the load bit. Gives the next device and what it
  * sends on: nothing (`sent` 0), the state itself (1), or the 24 states of a header (24): SYNC 0xE8 at low load, then
  * C1 C0 three times and the ten bits of the count at high load, each most significant bit first.
- * Refused with 1 for the record's part, with 13 where the record does not fit or the state is over 3.
+ * Refused with 1 for the record's part, with 13 where the record does not fit or the state is over 3. A refused step
+ * gives `device` as it came in, sends nothing, and every number beside `device` and `refusal` is 0.
  */
 struct bb_stepped bb_step(struct bb_device device, uint8_t state);
-
-/*
- * The same without a judgement, for records that are known to fit: never refused. What it gives for other records and
- * states is defined, and is the library's own affair.
- */
-struct bb_stepped bb_step_bare(struct bb_device device, uint8_t state);
 
 /* ---- A chain: a lent list of records, changed in place ---- */
 

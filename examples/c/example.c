@@ -84,7 +84,7 @@ static void frames_of_one(const struct set *set)
     struct bb_answer read =
         bb_read(PART, 1, BB_CONFIGURATION, CONFIGURATION, 5, 3, frame, length, bytes, 3, values, 24);
     printf("last byte A1: refused %u\n", read.refusal);
-    expect("an unused bit is refused with 11", read.refusal == 11);
+    expect("an unused bit is refused with 11", read.refusal == BB_REFUSED_UNUSED_BIT);
 }
 
 /* Sends one frame down the chain and reads what comes back; the count. */
@@ -111,7 +111,7 @@ static void restore(const struct set *set, struct bb_device *chain)
     expect("fresh", bb_fresh(chain, DEVICES, PART) == 0);
     expect("open LED", bb_set_fault(chain, DEVICES, 1, BB_OPEN_LED, 1) == 0);
     expect("open LED", bb_set_fault(chain, DEVICES, 3, BB_OPEN_LED, 1) == 0);
-    expect("no device 4", bb_set_fault(chain, DEVICES, 4, BB_OPEN_LED, 1) == 13);
+    expect("no device 4", bb_set_fault(chain, DEVICES, 4, BB_OPEN_LED, 1) == BB_REFUSED_POSITION_OR_RECORD);
     for (int i = 0; i < 4; i++) {
         uint8_t command = RESTORE[i];
         uint64_t count = send(set, chain, command);
@@ -156,7 +156,8 @@ static void light(const struct bb_device *chain)
     struct bb_clocks none = bb_lit_clocks(6975, 0, 31, 32, 23, 0, 0);
     expect("a 6975 with value 32: R0 at no clock", none.refusal == 0 && none.first == 0 && none.end == 0);
     expect("a 6975 with value 33: R0 at 32", bb_lit(6975, 0, 31, 33, 23, 0, 32, 0).value == 1);
-    expect("nonmultiplexed, phase MUX1 is 13", bb_lit(6975, 0, 31, 33, 23, 0, 32, 1).refusal == 13);
+    expect("nonmultiplexed, phase MUX1 is 13",
+           bb_lit(6975, 0, 31, 33, 23, 0, 32, 1).refusal == BB_REFUSED_POSITION_OR_RECORD);
 }
 
 int main(void)

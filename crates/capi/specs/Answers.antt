@@ -1,8 +1,10 @@
 -- The answers of the operations as numbers: document 01's number of a refusal, and what was asked for.
 use Prim.Native.Nat.{ℕ}
-use mathlib.Core.Bool.{cond}
+use mathlib.Core.Bool.{not}
+use mathlib.Core.List.{List, [], _∷_}
 use lib.IntN.{pos}
 use Rattle.bits.specs.Bits.{digit}
+use Rattle.parts.specs.Refusals.{Row, _when_, first, answer}
 use Rattle.parts.specs.Parts.{known, code, commandAt}
 use Rattle.bits.specs.declared.packing.Packed.{Packed}
 use Rattle.bits.specs.declared.packing.Packed.the-variants as P
@@ -17,7 +19,6 @@ use Rattle.frames.specs.declared.told.Read.the-variants as R
 use Rattle.frames.specs.declared.told.Returned.{Returned}
 use Rattle.frames.specs.declared.told.Returned.the-variants as B
 use Rattle.device.specs.declared.device.Device.{Device}
-use Rattle.device.specs.declared.device.Stepped.{Stepped as Unjudged}
 use Rattle.device.specs.declared.device.Answer.{Answer as Judged}
 use Rattle.device.specs.declared.phase.Sent.{Sent}
 use Rattle.device.specs.declared.phase.Sent.the-variants as S
@@ -29,6 +30,7 @@ use Rattle.schedule.specs.declared.answer.Lead.{Lead}
 use Rattle.schedule.specs.declared.answer.Lead.the-variants as W
 use Rattle.capi.specs.declared.answer.Answer.{Answer}
 use Rattle.capi.specs.declared.answer.Clocks.{Clocks}
+use Rattle.capi.specs.declared.answer.Packed.{Packed as Packing}
 use Rattle.capi.specs.declared.answer.Signed.{Signed}
 use Rattle.capi.specs.declared.steps.Stepped.{Stepped}
 
@@ -40,19 +42,23 @@ accepted value = record { value = value; refusal = 0 }
 abbrev pub refused : ℕ → Answer
 refused number = record { value = 0; refusal = number }
 
--- packing: too wide, or no room, is 5
-abbrev pub ofPacked : Packed → Answer
-ofPacked (P.Bytes n) = accepted n
-ofPacked P.Refused = refused 5
+-- packing: the bytes and 1 where it was done, and 0 where not
+abbrev pub ofPacked : Packed → Packing
+ofPacked (P.Bytes n) = record { bytes = n; done = 1 }
+ofPacked P.Refused = record { bytes = 0; done = 0 }
 
 -- line states
 abbrev pub ofLine : Line → Answer
 ofLine (L.Written n) = accepted n
 ofLine (L.Refused number) = refused number
 
+-- 1
+abbrev pub partRows : ℕ → List Row
+partRows part = (1 when not (known part)) ∷ []
+
 -- a number of a part's row
 abbrev pub ofPart : ℕ → ℕ → Answer
-ofPart part number = cond (known part) (accepted number) (refused 1)
+ofPart part number = answer (first (partRows part)) refused (accepted number)
 
 -- ---- frames
 
@@ -63,7 +69,7 @@ toldBy part devices command configuration =
 
 -- a tail of a number and a length
 abbrev pub tailOf : ℕ → ℕ → Tail
-tailOf number length = record { number = number; length = length }
+tailOf number long = record { number = number; length = long }
 
 -- a frame written: its bytes
 abbrev pub ofWritten : Written → Answer
@@ -76,6 +82,25 @@ ofRead (R.Byte byte) = accepted byte
 ofRead (R.Bytes n) = accepted n
 ofRead (R.Values n) = accepted n
 ofRead (R.Refused number) = refused number
+
+-- how many bytes or values stand in the lent list
+abbrev pub listed : Read → ℕ
+listed (R.Byte byte) = 0
+listed (R.Bytes n) = n
+listed (R.Values n) = n
+listed (R.Refused number) = 0
+
+-- what an accepted frame gives
+abbrev pub given : Read → ℕ
+given (R.Byte byte) = byte
+given (R.Bytes n) = n
+given (R.Values n) = n
+given (R.Refused number) = 0
+
+-- the number of a refused return, else 0
+abbrev pub returnRefusal : Returned → ℕ
+returnRefusal (B.Count count) = 0
+returnRefusal (B.Refused number) = number
 
 -- a return read: its count
 abbrev pub ofReturned : Returned → Answer
@@ -115,7 +140,3 @@ ofSent d (S.Header c count) refusal = numbers d count (code c) 0 24 refusal
 -- a judged step
 abbrev pub ofStep : Judged → Stepped
 ofStep s = ofSent (s .device) (s .sent) (s .refusal)
-
--- a step without a judgement
-abbrev pub ofBareStep : Unjudged → Stepped
-ofBareStep s = ofSent (s .device) (s .sent) 0

@@ -27,6 +27,13 @@ pub fn refuse(refusal: u8) -> Answer
     }
 }
 
+// What packing gives: no number of document 01's table. Where nothing was done both are 0.
+#[repr(C)]
+pub struct Packed {
+    pub bytes: u64,
+    pub done: u8,
+}
+
 // A signed number, or a refusal: 0 as above.
 #[repr(C)]
 pub struct Signed {

@@ -1,17 +1,14 @@
-// Packing and unpacking.
+// Packing and unpacking. Their answers say whether it was done, and no number of document 01's table.
 ghost use mathlib.Core.Path.{_≡_};
-ghost use mathlib.Core.Bool.{cond};
 ghost use lib.ListN.{length};
+ghost use Rattle.bits.specs.Bits.{digit};
 ghost use Rattle.bits.specs.Packing.{packed, packedOut, unpacked, unpackedOut};
 ghost use Rattle.capi.specs.Answers.{ofPacked};
-use crate::answer::Answer;
-use crate::answer::accept;
-use crate::answer::refuse;
-use bits::Packed;
+use crate::answer::Packed;
 
 // The low bits of each value, most significant first and with no gap, from a byte of `out` on.
 #[no_mangle]
-pub extern "C" fn bb_pack(values: &[u16], width: u32, out: &mut [u8], at: usize) -> Answer
+pub extern "C" fn bb_pack(values: &[u16], width: u32, out: &mut [u8], at: usize) -> Packed
     ensures { λ r.
         ⌜
         (r ≡ ofPacked (packed 16 width (length (now (values .entry))) at (length (now (out .entry)))))
@@ -22,21 +19,24 @@ pub extern "C" fn bb_pack(values: &[u16], width: u32, out: &mut [u8], at: usize)
     of_packed(packed)
 }
 
-fn of_packed(packed: Packed) -> Answer
+fn of_packed(packed: bits::Packed) -> Packed
     ensures { λ r. ⌜ r ≡ ofPacked packed ⌝ }
 {
-    let Packed::Bytes(n) = packed else {
-        return refuse(5);
+    let bits::Packed::Bytes(n) = packed else {
+        return Packed { bytes: 0, done: 0 };
     };
-    accept(n)
+    Packed {
+        bytes: n as u64,
+        done: 1,
+    }
 }
 
-// Numbers from a byte of `src` on. The refusal's number, or 0.
+// Numbers from a byte of `src` on: 1 where done, else 0.
 #[no_mangle]
 pub extern "C" fn bb_unpack(src: &[u8], at: usize, width: u32, values: &mut [u16]) -> u8
     ensures { λ r.
         ⌜
-        (r ≡ cond (unpacked width (length (now (values .entry))) at (length (now (src .entry)))) 0 5)
+        (r ≡ digit (unpacked width (length (now (values .entry))) at (length (now (src .entry)))))
         × (now (values .exit) ≡ unpackedOut width (now (src .entry)) at (now (values .entry)))
         ⌝ }
 {
@@ -45,7 +45,7 @@ pub extern "C" fn bb_unpack(src: &[u8], at: usize, width: u32, values: &mut [u16
 }
 
 fn of_done(done: bool) -> u8
-    ensures { λ r. ⌜ r ≡ cond done 0 5 ⌝ }
+    ensures { λ r. ⌜ r ≡ digit done ⌝ }
 {
-    if done { 0 } else { 5 }
+    if done { 1 } else { 0 }
 }

@@ -10,6 +10,7 @@ mod wire;
 
 pub use answer::Answer;
 pub use answer::Clocks;
+pub use answer::Packed;
 pub use answer::Signed;
 pub use bytes::bb_pack;
 pub use bytes::bb_unpack;
@@ -26,7 +27,6 @@ pub use rows::bb_subframes;
 pub use steps::Stepped;
 pub use steps::bb_judge;
 pub use steps::bb_step;
-pub use steps::bb_step_bare;
 pub use wire::bb_read;
 pub use wire::bb_read_return;
 pub use wire::bb_write;

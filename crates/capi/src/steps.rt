@@ -2,8 +2,7 @@
 ghost use mathlib.Core.Path.{_≡_};
 ghost use Rattle.parts.specs.Refusals.{first};
 ghost use Rattle.device.specs.Judgement.{judgement, stepAnswer};
-ghost use Rattle.device.specs.Step.{step};
-ghost use Rattle.capi.specs.Answers.{numbers, ofSent, ofStep, ofBareStep};
+ghost use Rattle.capi.specs.Answers.{numbers, ofSent, ofStep};
 use device::Device;
 use device::Sent;
 use device::judge;
@@ -37,17 +36,6 @@ pub extern "C" fn bb_step(device: Device, state: u8) -> Stepped
     let next = answer.device;
     let sent = answer.sent;
     of_sent(next, sent, answer.refusal)
-}
-
-// The step of any record, unjudged.
-#[no_mangle]
-pub extern "C" fn bb_step_bare(device: Device, state: u8) -> Stepped
-    ensures { λ r. ⌜ r ≡ ofBareStep (step device state) ⌝ }
-{
-    let bare = device.advance(state);
-    let next = bare.device;
-    let sent = bare.sent;
-    of_sent(next, sent, 0)
 }
 
 fn of_sent(device: Device, sent: Sent, refusal: u8) -> Stepped

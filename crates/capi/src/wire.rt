@@ -5,7 +5,7 @@ ghost use Rattle.parts.specs.Parts.{commandAt};
 ghost use Rattle.frames.specs.Writing.{written, writtenOut};
 ghost use Rattle.frames.specs.Reading.{read, readBytes, readValues};
 ghost use Rattle.frames.specs.Returns.{returned};
-ghost use Rattle.capi.specs.Answers.{toldBy, tailOf, ofWritten, ofRead, ofReturned};
+ghost use Rattle.capi.specs.Answers.{toldBy, tailOf, ofWritten, given, listed, ofRead, returnRefusal, ofReturned};
 use crate::answer::Answer;
 use crate::answer::accept;
 use crate::answer::refuse;
@@ -138,19 +138,47 @@ fn of_written(written: Written) -> Answer
 fn of_read(read: Read) -> Answer
     ensures { λ r. ⌜ r ≡ ofRead read ⌝ }
 {
-    match read {
-        Read::Byte(byte) => accept(byte as usize),
-        Read::Bytes(n) => accept(n),
-        Read::Values(n) => accept(n),
-        Read::Refused(number) => refuse(number),
-    }
+    let Read::Refused(number) = read else {
+        return accept(given(read));
+    };
+    refuse(number)
+}
+
+// What an accepted frame gives: its byte, or how much of the lent list.
+fn given(read: Read) -> usize
+    ensures { λ r. ⌜ r ≡ given read ⌝ }
+{
+    let Read::Byte(byte) = read else {
+        return listed(read);
+    };
+    byte as usize
+}
+
+// How many bytes or values stand in the lent list.
+fn listed(read: Read) -> usize
+    ensures { λ r. ⌜ r ≡ listed read ⌝ }
+{
+    let (Read::Bytes(n) | Read::Values(n)) = read else {
+        return 0;
+    };
+    n
 }
 
 fn of_returned(returned: Returned) -> Answer
     ensures { λ r. ⌜ r ≡ ofReturned returned ⌝ }
 {
-    match returned {
-        Returned::Count(count) => accept(count as usize),
-        Returned::Refused(number) => refuse(number),
-    }
+    let Returned::Count(count) = returned else {
+        return refuse(return_refusal(returned));
+    };
+    accept(count as usize)
+}
+
+// The number of a refused return, else 0.
+fn return_refusal(returned: Returned) -> u8
+    ensures { λ r. ⌜ r ≡ returnRefusal returned ⌝ }
+{
+    let Returned::Refused(refusal) = returned else {
+        return 0;
+    };
+    refusal
 }

@@ -3,7 +3,6 @@
 use mathlib.Core.Path.{_≡_, sym, ap, ap₂, _∙_}
 use mathlib.Core.Bool.{Bool, true, false, cond}
 use mathlib.Core.List.{List, [], _∷_, _++_, append-nil}
-use mathlib.Core.Logic.{⊎-elim}
 use Prim.Native.Nat.{ℕ, suc, _+_, _*_, _≤_, _<_}
 use native.Mathlib.Numerals.{add-one}
 use native.Mathlib.Omega.{arith}
@@ -25,11 +24,8 @@ use Rattle.report.specs.Lines.{trailingLine, partLine, frameLine}
 use Rattle.report.specs.Report.{toldOf, frameBits, answerOf, isRefused, lineOf, restoreOrder, linesOf, configurationOf, behind, allLines, reportOf}
 use Rattle.report.specs.declared.arguments.Asked.{Asked}
 use Rattle.report.specs.declared.arguments.Asked.the-variants as A
+use Rattle.report.proofs.Cases.{not-first}
 use Rattle.report.proofs.Putting as put
-
--- the tags of all cases but the first, after a `let .. else` on a byte
-not-first : OneOf (1 ∷ 2 ∷ 3 ∷ []) 0 → ⊥
-not-first h = ⊎-elim (λ e. omega arith) (λ i. ⊎-elim (λ e. omega arith) (λ e. omega arith) i) h
 
 -- the lines of the frames behind the configuration frame
 module _ (part devices configuration : ℕ) (input : List ℕ) where

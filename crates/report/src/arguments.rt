@@ -24,10 +24,10 @@ pub fn ask(part: &[u8], devices: &[u8]) -> Asked
 {
     let first = parse(part);
     let Parsed::Value(number) = first else {
-        return Asked::Refused(1);
+        return Asked::Refused(1); // no decimal number
     };
     if !parts::is_known(number) {
-        return Asked::Refused(1);
+        return Asked::Refused(1); // no part's number
     }
     let second = parse(devices);
     let Parsed::Value(count) = second else {

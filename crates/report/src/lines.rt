@@ -62,13 +62,9 @@ fn put_ending(answer: Read, out: &mut [u8], at: usize) -> usize
     requires { ⌜ at + 40 ≤ length (now out) ⌝ }
     ensures { λ r. ⌜ Put (ending answer) at (now (out .entry)) r (now (out .exit)) ⌝ }
 {
-    match answer {
-        Read::Refused(number) => {
-            let end = put_labelled(b" refused ", number as usize, out, at);
-            put(b"\n", out, end)
-        }
-        Read::Byte(_) => put(b" accepted\n", out, at),
-        Read::Bytes(_) => put(b" accepted\n", out, at),
-        Read::Values(_) => put(b" accepted\n", out, at),
-    }
+    let Read::Refused(number) = answer else {
+        return put(b" accepted\n", out, at);
+    };
+    let end = put_labelled(b" refused ", number as usize, out, at);
+    put(b"\n", out, end)
 }

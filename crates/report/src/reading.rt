@@ -52,12 +52,10 @@ pub fn command_at(place: usize) -> Command
 pub fn is_refused(answer: Read) -> bool
     ensures { λ r. ⌜ r ≡ isRefused answer ⌝ }
 {
-    match answer {
-        Read::Refused(_) => true,
-        Read::Byte(_) => false,
-        Read::Bytes(_) => false,
-        Read::Values(_) => false,
-    }
+    let Read::Refused(_) = answer else {
+        return false;
+    };
+    true
 }
 
 // The first n bytes, or all where there are fewer.

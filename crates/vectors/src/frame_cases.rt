@@ -1,11 +1,10 @@
 // Frames a to f and h: written from their settings, compared, and read back.
-use crate::lists::both;
-use crate::lists::least;
-use crate::lists::same_values;
-use crate::print;
-use crate::told::frame_of;
-use crate::told::no_tail;
-use crate::told::tail_of;
+use cases::both;
+use cases::frame_of;
+use cases::least;
+use cases::no_tail;
+use cases::same_values;
+use cases::tail_of;
 use frames::Read;
 use frames::Tail;
 use frames::Told;
@@ -103,22 +102,22 @@ fn frame_case(
     values: &[u16],
     should: &[u8],
 ) {
-    print::text(name);
-    print::text(b": should be");
-    print::bytes(should);
-    print::text(b", came out");
+    cases::text(name);
+    cases::text(b": should be");
+    cases::bytes(should);
+    cases::text(b", came out");
     let mut out = [0u8; 64];
     match frames::write(told, tail, byte, bytes, values, &mut out) {
         Written::Refused(number) => {
-            print::refusal(number);
-            print::verdict(false);
+            cases::refusal(number);
+            cases::verdict(false);
         }
         Written::Bytes(n) => {
             let end = least(n, 64);
             let frame = &out[..end];
-            print::bytes(frame);
+            cases::bytes(frame);
             let back = is_read_back(told, tail, frame, byte, bytes, values);
-            print::verdict(both(check::same(frame, should), back));
+            cases::verdict(both(check::same(frame, should), back));
         }
     }
 }
@@ -134,16 +133,36 @@ fn is_read_back(
 ) -> bool {
     let mut read_bytes = [0u8; 3];
     let mut read_values = [0u16; 24];
-    let back = match frames::read(told, tail, frame, &mut read_bytes, &mut read_values) {
-        Read::Byte(b) => b == byte,
-        Read::Bytes(n) => both(n == 3, check::same(&read_bytes, bytes)),
-        Read::Values(n) => both(n == 24, same_values(&read_values, values)),
-        Read::Refused(_) => false,
-    };
+    let read = frames::read(told, tail, frame, &mut read_bytes, &mut read_values);
+    let bytes_back = check::same(&read_bytes, bytes);
+    let values_back = same_values(&read_values, values);
+    let back = is_back(read, byte, bytes_back, values_back);
     if back {
-        print::text(b", read back as written");
+        cases::text(b", read back as written");
     } else {
-        print::text(b", NOT read back");
+        cases::text(b", NOT read back");
     }
     back
+}
+
+// What was read is the byte, or a whole list that is the one written.
+fn is_back(read: Read, byte: u8, bytes_back: bool, values_back: bool) -> bool {
+    let Read::Byte(b) = read else {
+        return is_list_back(read, bytes_back, values_back);
+    };
+    b == byte
+}
+
+fn is_list_back(read: Read, bytes_back: bool, values_back: bool) -> bool {
+    let Read::Bytes(n) = read else {
+        return are_values_back(read, values_back);
+    };
+    both(n == 3, bytes_back)
+}
+
+fn are_values_back(read: Read, values_back: bool) -> bool {
+    let Read::Values(n) = read else {
+        return false;
+    };
+    both(n == 24, values_back)
 }

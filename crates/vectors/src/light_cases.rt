@@ -1,7 +1,6 @@
 // Light, i to k: ON subframes, leads, and the clocks at which an output is lit, each clock asked for and counted.
 ghost use mathlib.Core.Path.{_≡_};
 ghost use Prim.Native.Nat.{_+_, _<_, _≤_};
-use crate::print;
 use schedule::Asked;
 use schedule::Lead;
 
@@ -33,11 +32,11 @@ fn subframes() {
     came[2] = on_number(2);
     came[3] = on_number(3);
     came[4] = on_number(4);
-    print::text(b"i  6974, g = 96, subframes 0 to 4: should be");
+    cases::text(b"i  6974, g = 96, subframes 0 to 4: should be");
     subframe_words(should);
-    print::text(b", came out");
+    cases::text(b", came out");
     subframe_words(&came);
-    print::verdict(check::same(&came, should));
+    cases::verdict(check::same(&came, should));
 }
 
 fn on_number(subframe: u32) -> u8 {
@@ -57,25 +56,25 @@ fn subframe_words(list: &[u8]) {
 
 fn subframe_word(number: u8) {
     match number {
-        0 => print::text(b" off"),
-        1 => print::text(b" ON"),
-        _ => print::text(b" refused"),
+        0 => cases::text(b" off"),
+        1 => cases::text(b" ON"),
+        _ => cases::text(b" refused"),
     }
 }
 
 fn lead_case(name: &[u8], start: u32, length: u32, should: i32) {
-    print::text(name);
-    print::text(b": should be");
-    print::signed(should);
-    print::text(b", came out");
+    cases::text(name);
+    cases::text(b": should be");
+    cases::signed(should);
+    cases::text(b", came out");
     match schedule::lead_of(6974, 0, 96, start, length) {
         Lead::By(lead) => {
-            print::signed(lead);
-            print::verdict(lead == should);
+            cases::signed(lead);
+            cases::verdict(lead == should);
         }
         Lead::Refused(number) => {
-            print::refusal(number);
-            print::verdict(false);
+            cases::refusal(number);
+            cases::verdict(false);
         }
     }
 }
@@ -127,29 +126,29 @@ fn lit_for(count: u32, first: u32, last: u32) -> Lit
 
 fn lit_case(name: &[u8], part: u16, value: u16, output: u32, should: Lit) {
     let came = lit_clocks(part, value, output);
-    print::text(name);
-    print::text(b": should be");
+    cases::text(name);
+    cases::text(b": should be");
     lit_words(should);
-    print::text(b", came out");
+    cases::text(b", came out");
     lit_words(came);
-    print::verdict(is_same(came, should));
+    cases::verdict(is_same(came, should));
 }
 
 fn lit_words(lit: Lit) {
     if lit.count == 0 {
-        print::text(b" never lit");
+        cases::text(b" never lit");
         return;
     }
-    print::text(b" lit at");
-    print::count(lit.first as u64);
+    cases::text(b" lit at");
+    cases::count(lit.first as u64);
     if lit.count == 1 {
-        print::text(b" only");
+        cases::text(b" only");
     } else {
-        print::text(b" to");
-        print::count(lit.last as u64);
-        print::text(b",");
-        print::count(lit.count as u64);
-        print::text(b" clocks");
+        cases::text(b" to");
+        cases::count(lit.last as u64);
+        cases::text(b",");
+        cases::count(lit.count as u64);
+        cases::text(b" clocks");
     }
 }
 

@@ -1,8 +1,7 @@
 // Numbers just inside and just outside their range: what is taken, and under which number the rest is refused.
-use crate::print;
-use crate::told::frame_of;
-use crate::told::no_tail;
-use crate::told::tail_of;
+use cases::frame_of;
+use cases::no_tail;
+use cases::tail_of;
 use frames::Read;
 use frames::Returned;
 use frames::Tail;
@@ -118,12 +117,12 @@ fn global_cases() {
 
 // The line of a case: 0 is taken, any other number the refusal.
 fn case(name: &[u8], should: u8, came: u8) {
-    print::text(name);
-    print::text(b": should be");
-    print::refusal(should);
-    print::text(b", came out");
-    print::refusal(came);
-    print::verdict(should == came);
+    cases::text(name);
+    cases::text(b": should be");
+    cases::refusal(should);
+    cases::text(b", came out");
+    cases::refusal(came);
+    cases::verdict(should == came);
 }
 
 fn write_refusal(told: Told, tail: Tail, byte: u8, values: &[u16]) -> u8 {
@@ -137,17 +136,17 @@ fn write_refusal(told: Told, tail: Tail, byte: u8, values: &[u16]) -> u8 {
 fn read_refusal(told: Told, tail: Tail, frame: &[u8]) -> u8 {
     let mut bytes = [0u8; 3];
     let mut values = [0u16; 24];
-    match frames::read(told, tail, frame, &mut bytes, &mut values) {
-        Read::Byte(_) => 0,
-        Read::Bytes(_) => 0,
-        Read::Values(_) => 0,
-        Read::Refused(number) => number,
-    }
+    let read = frames::read(told, tail, frame, &mut bytes, &mut values);
+    let Read::Refused(number) = read else {
+        return 0;
+    };
+    number
 }
 
 fn return_refusal(devices: usize, tail: Tail, frame: &[u8]) -> u8 {
-    match frames::read_return(6974, devices, Command::Configuration, tail, frame) {
-        Returned::Count(_) => 0,
-        Returned::Refused(number) => number,
-    }
+    let returned = frames::read_return(6974, devices, Command::Configuration, tail, frame);
+    let Returned::Refused(number) = returned else {
+        return 0;
+    };
+    number
 }

@@ -11,7 +11,7 @@ use std::hint::black_box;
 /// Individual frames in a run of one device.
 const FRAMES: usize = 50;
 
-/// Judged steps, bare steps, and collecting.
+/// Steps, and collecting.
 pub fn races() {
     let states = page(1)
         .states(Command::Individual, Tail::default())
@@ -23,8 +23,8 @@ pub fn races() {
 }
 
 fn steps(start: Device, states: &[u8]) {
-    let [mut a, mut b, mut c, mut d] = [start; 4];
-    let [judged, judged_rust, bare, bare_rust] = best([
+    let [mut a, mut b] = [start; 2];
+    let [judged, judged_rust] = best([
         &mut || {
             for &state in black_box(states) {
                 a = ffi::step(a, state).device;
@@ -37,31 +37,13 @@ fn steps(start: Device, states: &[u8]) {
                 }
             }
         },
-        &mut || {
-            for &state in black_box(states) {
-                c = ffi::step_bare(c, state).device;
-            }
-        },
-        &mut || {
-            for &state in black_box(states) {
-                black_box(device::step(black_box(&mut d), state));
-            }
-        },
     ]);
-    assert!(a == b && a == c && a == d, "stepped alike");
-    let per = ("ns a state", states.len() as f64);
+    assert!(a == b, "stepped alike");
     print(
         "step, judged, by value against in place",
-        per,
+        ("ns a state", states.len() as f64),
         judged,
         judged_rust,
-        None,
-    );
-    print(
-        "step, bare, by value against in place",
-        per,
-        bare,
-        bare_rust,
         None,
     );
 }

@@ -2,13 +2,14 @@
 
 use crate::tally::Tally;
 use cases::Random;
-use ffi::Answer;
+use ffi::{Answer, Packed};
 use model::bits::{fields, number_of, pack, unpack};
 use model::part::{slice_bits, Command, Part};
 
 /// Any width, count, place and room.
 pub fn packing() -> Tally {
     let mut tally = Tally::new("pack and unpack", 0xB175);
+    let mut given = [0; 2];
     for number in 0..30_000 {
         let random = &mut Random::of_case(tally.seed(), number);
         tally.case(number, |case| {
@@ -26,9 +27,9 @@ pub fn packing() -> Tally {
                 let wide = values.iter().map(|&v| u64::from(v));
                 expected[at..at + length].copy_from_slice(&pack(&fields(width, wide)));
             }
-            let answer = Answer {
-                value: if fits { length as u64 } else { 0 },
-                refusal: if fits { 0 } else { 5 },
+            let answer = Packed {
+                bytes: if fits { length as u64 } else { 0 },
+                done: u8::from(fits),
             };
             let mut out = bytes.clone();
             case.same("pack", ffi::pack(&values, width, &mut out, at), answer);
@@ -43,14 +44,21 @@ pub fn packing() -> Tally {
                 expected.fill(0);
             }
             let mut back = values.clone();
-            let refusal = ffi::unpack(&bytes, at, width, &mut back);
-            case.same("unpack", refusal, answer.refusal);
+            let done = ffi::unpack(&bytes, at, width, &mut back);
+            case.same("unpack", done, answer.done);
             case.same("unpacked", &back, &expected);
-            case.reach(refusal);
+            given[usize::from(fits)] += 1;
+            if fits {
+                case.reach(0);
+            }
             bytes.clear();
         });
     }
-    tally.close(&[0, 5]);
+    tally.case(30_000, |case| {
+        let both = given.map(|times| times > 0);
+        case.same("done, and not done, were given", both, [true; 2]);
+    });
+    tally.close(&[0]);
     tally
 }
 

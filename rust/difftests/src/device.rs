@@ -38,7 +38,6 @@ pub fn judged_and_stepped() -> Tally {
                     let (next, sent) = device.step(state);
                     case.same("next device", stepped.device, next.to_record());
                     case.same("sent", states_of(&stepped), sent);
-                    case.same("bare step", ffi::step_bare(record, state), stepped);
                 }
                 _ => case.same("refused", stepped, kept(record, refusal)),
             }

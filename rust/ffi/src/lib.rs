@@ -16,6 +16,16 @@ pub struct Answer {
     pub refusal: u8,
 }
 
+/// `struct bb_packed`.
+#[repr(C)]
+#[derive(Clone, Copy, Debug, PartialEq, Eq)]
+pub struct Packed {
+    /// Bytes written; 0 where not done.
+    pub bytes: u64,
+    /// 1, or 0 where nothing was written.
+    pub done: u8,
+}
+
 /// `struct bb_signed`.
 #[repr(C)]
 #[derive(Clone, Copy, Debug, PartialEq, Eq)]
@@ -88,13 +98,13 @@ pub struct Told {
 }
 
 /// Packs values of a width into `out` from the byte `at` on.
-pub fn pack(values: &[u16], width: u32, out: &mut [u8], at: usize) -> Answer {
+pub fn pack(values: &[u16], width: u32, out: &mut [u8], at: usize) -> Packed {
     let (room, out) = (out.len(), out.as_mut_ptr());
     // SAFETY: both slices are lent for the call, with their lengths.
     unsafe { raw::bb_pack(values.as_ptr(), values.len(), width, out, room, at) }
 }
 
-/// Unpacks values of a width from the byte `at` on; the refusal.
+/// Unpacks values of a width from the byte `at` on: 1 where done, else 0.
 pub fn unpack(bytes: &[u8], at: usize, width: u32, values: &mut [u16]) -> u8 {
     let (count, values) = (values.len(), values.as_mut_ptr());
     // SAFETY: both slices are lent for the call, with their lengths.
@@ -196,12 +206,6 @@ pub fn judge(device: Device) -> u8 {
 pub fn step(device: Device, state: u8) -> Stepped {
     // SAFETY: every record is a value.
     unsafe { raw::bb_step(device, state) }
-}
-
-/// One step without a judgement.
-pub fn step_bare(device: Device, state: u8) -> Stepped {
-    // SAFETY: every record is a value, and the step is total.
-    unsafe { raw::bb_step_bare(device, state) }
 }
 
 /// Makes a chain fresh; the refusal.

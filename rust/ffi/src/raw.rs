@@ -1,6 +1,6 @@
 //! `include/bractbeacon.h`, declared again.
 
-use crate::{Answer, Clocks, Compared, Signed, Stepped};
+use crate::{Answer, Clocks, Compared, Packed, Signed, Stepped};
 use record::Device;
 
 extern "C" {
@@ -11,7 +11,7 @@ extern "C" {
         out: *mut u8,
         room: usize,
         at: usize,
-    ) -> Answer;
+    ) -> Packed;
     pub fn bb_unpack(
         bytes: *const u8,
         length: usize,
@@ -70,7 +70,6 @@ extern "C" {
     pub fn bb_data_bytes(states: *const u8, count: usize, out: *mut u8, room: usize) -> Answer;
     pub fn bb_judge(device: Device) -> u8;
     pub fn bb_step(device: Device, state: u8) -> Stepped;
-    pub fn bb_step_bare(device: Device, state: u8) -> Stepped;
     pub fn bb_fresh(devices: *mut Device, count: usize, part: u16) -> u8;
     pub fn bb_run(
         devices: *mut Device,

@@ -1,4 +1,5 @@
-//! Rules of 01 that its numbers do not touch: the restore and its cut, records that do not fit, the comparison.
+//! Rules of 01 that its numbers do not touch: the restore and its cut, the order of values, lost devices, records that do not fit, the
+//! comparison.
 
 use model::chain;
 use model::compare::{compare, Difference, Group};
@@ -101,6 +102,81 @@ fn a_nonmultiplexed_load_leaves_mux1() {
     chain::run(&mut devices, &states, states.len() + 23).unwrap();
     assert_eq!(devices[0].registers.waiting0, [5; 24]);
     assert_eq!(devices[0].registers.waiting1, [9; 24]);
+}
+
+/// Three devices of a 6974 after a configuration and an individual frame.
+fn loaded(devices: &mut [Device; 3], configuration: u8, individual: Vec<u16>) {
+    let set = Set {
+        part: 6974,
+        configuration,
+        individual,
+        ..set()
+    };
+    for command in [Command::Configuration, Command::Individual] {
+        let states = set.states(command, Tail::default()).unwrap();
+        chain::run(devices, &states, states.len() + 23).unwrap();
+    }
+}
+
+#[test]
+fn unequal_values_are_stored_in_wire_order() {
+    let mut devices = [Device::fresh(6974); 3];
+    loaded(&mut devices, 1, (1..=144).collect());
+    for (device, first) in devices.iter().zip([1, 49, 97]) {
+        for k in 0..24 {
+            assert_eq!(device.registers.waiting0[k], first + 2 * k as u16);
+            assert_eq!(device.registers.waiting1[k], first + 2 * k as u16 + 1);
+        }
+    }
+    let before = devices;
+    loaded(&mut devices, 0, (145..=216).collect());
+    for (d, device) in devices.iter().enumerate() {
+        for k in 0..24 {
+            assert_eq!(device.registers.waiting0[k], (145 + 24 * d + k) as u16);
+        }
+        assert_eq!(device.registers.waiting1, before[d].registers.waiting1);
+    }
+}
+
+/// One device after a packed frame, and the states that it sent on.
+fn fed(device: Device, frame: &[u8]) -> (Device, Vec<u8>) {
+    let mut devices = [device];
+    let states = model::line::clocked(&model::bits::unpack(frame));
+    let sent = chain::run(&mut devices, &states, states.len() + 23).unwrap();
+    (devices[0], sent)
+}
+
+#[test]
+fn command_pairs_that_differ_lose_the_device_until_the_next_frame() {
+    let (lost, sent) = fed(Device::fresh(6974), &[0xE8, 0xF8, 0, 1, 1, 1]);
+    assert_eq!(lost.place, Place::of(record::LOST));
+    assert_eq!((lost.registers.configuration, sent.len()), (0, 0));
+    let (next, sent) = fed(lost, &[0xE8, 0xFC, 0, 1, 1, 1]);
+    assert_eq!((next.registers.configuration, sent.len()), (1, 24));
+}
+
+#[test]
+fn the_count_wraps() {
+    let mut device = Device::fresh(6974);
+    device.registers.openled = 1;
+    let (_, sent) = fed(device, &[0xE8, 0xFF, 0xFF, 1, 1, 1]);
+    let header = model::frame::header(Command::Configuration, 0);
+    assert_eq!(sent, model::line::clocked(&header));
+}
+
+#[test]
+fn a_slot_over_255_is_stored_by_its_low_bits() {
+    let mut device = Device::fresh(6974);
+    device.registers.slice[..3].copy_from_slice(&[0x1A9, 0x1A9, 0xD4]);
+    device.place = Place {
+        phase: record::SLICE,
+        command: 2,
+        count: 0,
+        read: 23,
+    };
+    let (next, sent) = Judged::of_record(&device).unwrap().step(3);
+    assert_eq!(next.to_record().registers.waiting, 0xA9);
+    assert_eq!(sent.len(), 24);
 }
 
 #[test]

@@ -1,5 +1,6 @@
+-- `capi::bb_unpack` meets its contract. Assumes nothing.
 use mathlib.Core.Path.{ap, _∙_}
-use mathlib.Core.Bool.{Bool, cond}
+use Rattle.bits.specs.Bits.{digit}
 use borrow.Author.Needs.{needs}
 use Rattle.capi.proofs.bytes.bb_unpack.Statement.{statement}
 use Rattle.capi.proofs.bytes.bb_unpack.Tie as tie
@@ -14,7 +15,7 @@ same-length : tie.Need-same-length
 same-length c = search needs
 
 returns : tie.Need-returns
-returns c = (c .of-done .ensures ∙ ap (λ (b : Bool). cond b 0 5) (c .before .before .before .unpack .ensures .0), c .before .before .before .unpack .ensures .1)
+returns c = (c .of-done .ensures ∙ ap digit (c .before .before .before .unpack .ensures .0), c .before .before .before .unpack .ensures .1)
 
 pub bb-unpack-spec : {M : Type 1} → statement M
 bb-unpack-spec = tie.close (tie.spec unpack-requires of-done-requires same-length returns)

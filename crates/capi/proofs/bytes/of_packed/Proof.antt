@@ -1,3 +1,4 @@
+-- `capi::of_packed` meets its contract. Assumes nothing.
 use borrow.Author.Needs.{needs}
 use Rattle.capi.proofs.bytes.of_packed.Statement.{statement}
 use Rattle.capi.proofs.bytes.of_packed.Tie as tie
@@ -8,19 +9,11 @@ enum-known-packed c = search needs
 enum-told : tie.Need-enum-told
 enum-told c = search needs
 
-refuse-requires : tie.Need-refuse-requires
-refuse-requires c κs = search needs
-
 returns : tie.Need-returns
-returns c = rw (c .before .enum-told .given .1) (c .refuse .ensures)
-
-accept-requires : tie.Need-accept-requires
-accept-requires c κs = search needs
+returns c = rw (c .enum-told .given .1)
 
 returns-2 : tie.Need-returns-2
-returns-2 c = rw (c .before .before .packed .given .1) (c .accept .ensures)
+returns-2 c = rw (c .before .packed .given .1)
 
 pub of-packed-spec : {M : Type 1} → statement M
-of-packed-spec =
-    tie.close
-    (tie.spec enum-known-packed enum-told refuse-requires returns accept-requires returns-2)
+of-packed-spec = tie.close (tie.spec enum-known-packed enum-told returns returns-2)

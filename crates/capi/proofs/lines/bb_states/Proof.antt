@@ -1,3 +1,4 @@
+-- `capi::bb_states` meets its contract. Assumes nothing.
 use mathlib.Core.Path.{ap, _∙_}
 use Rattle.capi.specs.Answers.{ofLine}
 use borrow.Author.Needs.{needs}

@@ -1,3 +1,4 @@
+-- `capi::of_line` meets its contract. Assumes nothing.
 use borrow.Author.Needs.{needs}
 use Rattle.capi.proofs.lines.of_line.Statement.{statement}
 use Rattle.capi.proofs.lines.of_line.Tie as tie

@@ -1,3 +1,4 @@
+-- `capi::bb_slice_bits` meets its contract. Assumes nothing.
 use borrow.Author.Needs.{needs}
 use Rattle.capi.proofs.rows.bb_slice_bits.Statement.{statement}
 use Rattle.capi.proofs.rows.bb_slice_bits.Tie as tie

@@ -1,3 +1,4 @@
+-- `capi::bb_subframes` meets its contract. Assumes nothing.
 use borrow.Author.Needs.{needs}
 use Rattle.capi.proofs.rows.bb_subframes.Statement.{statement}
 use Rattle.capi.proofs.rows.bb_subframes.Tie as tie

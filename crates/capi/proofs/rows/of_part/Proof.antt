@@ -1,3 +1,4 @@
+-- `capi::of_part` meets its contract. Assumes nothing.
 use borrow.Author.Needs.{needs}
 use Rattle.capi.proofs.rows.of_part.Statement.{statement}
 use Rattle.capi.proofs.rows.of_part.Tie as tie

@@ -1,3 +1,4 @@
+-- `capi::bb_step` meets its contract. Assumes nothing.
 use Rattle.capi.specs.Answers.{ofStep}
 use mathlib.Core.Path.{ap, _∙_}
 use borrow.Author.Needs.{needs}

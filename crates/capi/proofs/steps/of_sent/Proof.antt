@@ -1,3 +1,4 @@
+-- `capi::of_sent` meets its contract. Assumes nothing.
 use borrow.Author.Needs.{needs}
 use Rattle.capi.proofs.steps.of_sent.Statement.{statement}
 use Rattle.capi.proofs.steps.of_sent.Tie as tie

@@ -1,3 +1,4 @@
+-- `capi::bb_read` meets its contract. Assumes nothing.
 use Rattle.capi.specs.Answers.{ofRead}
 use mathlib.Core.Path.{ap, _∙_}
 use borrow.Author.Needs.{needs}

@@ -1,3 +1,4 @@
+-- `capi::bb_read_return` meets its contract. Assumes nothing.
 use Rattle.capi.specs.Answers.{ofReturned}
 use mathlib.Core.Path.{ap, _∙_}
 use borrow.Author.Needs.{needs}

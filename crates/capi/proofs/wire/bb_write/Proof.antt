@@ -1,3 +1,4 @@
+-- `capi::bb_write` meets its contract. Assumes nothing.
 use Rattle.capi.specs.Answers.{ofWritten}
 use mathlib.Core.Path.{ap, _∙_}
 use borrow.Author.Needs.{needs}

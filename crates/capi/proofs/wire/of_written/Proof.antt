@@ -1,3 +1,4 @@
+-- `capi::of_written` meets its contract. Assumes nothing.
 use borrow.Author.Needs.{needs}
 use Rattle.capi.proofs.wire.of_written.Statement.{statement}
 use Rattle.capi.proofs.wire.of_written.Tie as tie

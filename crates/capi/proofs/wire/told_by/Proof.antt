@@ -1,3 +1,4 @@
+-- `capi::told_by` meets its contract. Assumes nothing.
 use borrow.Author.Needs.{needs}
 use Rattle.capi.proofs.wire.told_by.Statement.{statement}
 use Rattle.capi.proofs.wire.told_by.Tie as tie

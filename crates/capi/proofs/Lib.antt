@@ -1,0 +1,2 @@
+-- The law behind the proofs of the functions.
+mod Cases

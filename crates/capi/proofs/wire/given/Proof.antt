@@ -1,0 +1,24 @@
+-- `capi::given` meets its contract. Assumes nothing.
+use mathlib.Core.Path.{_∙_}
+use Rattle.capi.proofs.Cases.{given-listed}
+use borrow.Author.Needs.{needs}
+use Rattle.capi.proofs.wire.given.Statement.{statement}
+use Rattle.capi.proofs.wire.given.Tie as tie
+
+enum-known-read : tie.Need-enum-known-read
+enum-known-read c = search needs
+
+listed-requires : tie.Need-listed-requires
+listed-requires c κs = search needs
+
+returns : tie.Need-returns
+returns c = c .listed .ensures ∙ given-listed (c .before .before .args .read) (c .before .match .keys2)
+
+cast-result : tie.Need-cast-result
+cast-result c = search needs
+
+returns-2 : tie.Need-returns-2
+returns-2 c = search needs
+
+pub given-spec : {M : Type 1} → statement M
+given-spec = tie.close (tie.spec enum-known-read listed-requires returns cast-result returns-2)

@@ -1,0 +1,19 @@
+// What the programs that run document 01's numbers share: words on standard output, lists compared, and what a frame is told by. What is
+// printed is not proved: it is held to a stored text.
+mod lists; // lists compared
+mod print; // words, bytes and numbers on standard output
+mod told; // what a frame is told by
+
+pub use lists::both;
+pub use lists::least;
+pub use lists::same_values;
+pub use print::bytes;
+pub use print::count;
+pub use print::refusal;
+pub use print::signed;
+pub use print::text;
+pub use print::values;
+pub use print::verdict;
+pub use told::frame_of;
+pub use told::no_tail;
+pub use told::tail_of;

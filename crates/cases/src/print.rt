@@ -1,0 +1,80 @@
+// Words, bytes and numbers on standard output.
+ghost use mathlib.Core.Path.{_≡_};
+ghost use Prim.Native.Nat.{_<_};
+ghost use lib.IntN.{pos};
+ghost use lib.Signed.{_≤ℤ_};
+use libc::STDOUT_FILENO;
+
+pub fn text(words: &[u8]) {
+    io::write_all(STDOUT_FILENO, words);
+}
+
+// The end of a line: what came out is what it should be, or not.
+pub fn verdict(same: bool) {
+    if same {
+        text(b": ok\n");
+    } else {
+        text(b": WRONG\n");
+    }
+}
+
+// A space and two hexadecimal digits for each byte.
+pub fn bytes(list: &[u8]) {
+    let mut i: usize = 0;
+    while i < list.len() {
+        byte(list[i]);
+        i += 1;
+    }
+}
+
+// A space and the number, for each value.
+pub fn values(list: &[u16]) {
+    let mut i: usize = 0;
+    while i < list.len() {
+        count(list[i] as u64);
+        i += 1;
+    }
+}
+
+fn byte(value: u8) {
+    let digits = [b' ', digit(value / 16), digit(value % 16)];
+    text(&digits);
+}
+
+fn digit(value: u8) -> u8
+    requires { ⌜ value < 16 ⌝ }
+{
+    if value < 10 { 48 + value } else { 55 + value }
+}
+
+// A call that was accepted, or its refusal.
+pub fn refusal(number: u8) {
+    if number == 0 {
+        text(b" taken");
+    } else {
+        text(b" refused");
+        count(number as u64);
+    }
+}
+
+// A space and the number.
+pub fn count(number: u64) {
+    text(b" ");
+    io::print_decimal(STDOUT_FILENO, number);
+}
+
+pub fn signed(number: i32) {
+    if number < 0 {
+        text(b" -");
+        io::print_decimal(STDOUT_FILENO, natural(-1 - number) + 1);
+    } else {
+        count(natural(number));
+    }
+}
+
+fn natural(number: i32) -> u64
+    requires { ⌜ pos 0 ≤ℤ number ⌝ }
+    ensures { λ r. ⌜ (pos r ≡ number) × (r < 4294967296) ⌝ }
+{
+    number as u64
+}

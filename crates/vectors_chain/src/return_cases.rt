@@ -1,0 +1,139 @@
+// Returns: the states of a frame are run through chains, and what comes back is packed, compared and read.
+use crate::lists::copy;
+use cases::both;
+use cases::frame_of;
+use cases::least;
+use cases::no_tail;
+use cases::tail_of;
+use device::Device;
+use frames::Returned;
+use frames::Tail;
+use line::Line;
+use parts::Command;
+use three::fault_three;
+use three::fresh_three;
+use three::run_three;
+
+// The fault kind of an open LED.
+const OPEN_LED: u8 = 1;
+
+// g. A call that is refused leaves zeros, and the return is another.
+pub fn run() {
+    let told = frame_of(6974, 3, Command::Calibration, 0);
+    let tail = tail_of(0xA5, 8);
+    let bytes = b"\xA9\x10\x01\xA9\x10\x01\xA9\x10\x01";
+    let mut frame = [0u8; 13];
+    frames::write(told, tail, 0, bytes, &[0u16; 1], &mut frame);
+    let mut states = [0u8; 104];
+    line::frame_states(&frame, 104, &mut states);
+    let mut returned = [0u8; 127];
+    let ran = run_three(open_leds(1, 0, 1), &states, &mut returned);
+    let end = least(ran.returned, 127);
+    return_case(
+        b"g  6974, N = 3, two open LEDs, calibration, tail A5",
+        3,
+        Command::Calibration,
+        tail,
+        &returned[..end],
+        b"\xE8\x54\x02\xA5",
+        2,
+    );
+}
+
+// 1023 devices, as 341 chains of three joined end to end.
+pub fn run_joined() {
+    let told = frame_of(6974, 1023, Command::Configuration, 0);
+    let mut frame = [0u8; 3072];
+    frames::write(told, no_tail(), 0, b"", &[0u16; 1], &mut frame);
+    let mut states = [0u8; 24576];
+    line::frame_states(&frame, 24576, &mut states);
+    let end = least(join(&mut states, 24576, 341), 24576);
+    return_case(
+        b"-  6974, N = 1023 as 341 chains of 3, all with open LEDs, configuration",
+        1023,
+        Command::Configuration,
+        no_tail(),
+        &states[..end],
+        b"\xE8\xFF\xFF",
+        1023,
+    );
+}
+
+// The first `count` states go through so many chains. The answer is how many states the last chain returns: they stand in front.
+fn join(states: &mut [u8], count: usize, chains: usize) -> usize {
+    let mut left = count;
+    let mut done: usize = 0;
+    while done < chains {
+        left = through_three(states, left);
+        done += 1;
+    }
+    left
+}
+
+// What one chain returns takes the place of what it was given.
+fn through_three(states: &mut [u8], count: usize) -> usize {
+    let mut returned = [0u8; 24599];
+    let end = least(count, states.len());
+    let ran = run_three(open_leds(1, 1, 1), &states[..end], &mut returned);
+    copy(&returned, ran.returned, states)
+}
+
+// A fresh chain in which each device has an open LED, 1, or none, 0.
+fn open_leds(first: u8, second: u8, third: u8) -> [Device; 3] {
+    let fresh = fresh_three([Device::fresh(0); 3], 6974);
+    let one = fault_three(fresh, 1, OPEN_LED, first);
+    let two = fault_three(one, 2, OPEN_LED, second);
+    fault_three(two, 3, OPEN_LED, third)
+}
+
+// The line of a case: what came back is `should`, and its count `count`.
+fn return_case(
+    name: &[u8],
+    devices: usize,
+    command: Command,
+    tail: Tail,
+    states: &[u8],
+    should: &[u8],
+    count: u16,
+) {
+    cases::text(name);
+    cases::text(b": should be");
+    cases::bytes(should);
+    cases::text(b", count");
+    cases::count(count as u64);
+    cases::text(b", came out");
+    let mut back = [0u8; 8];
+    match line::pack_states(states, &mut back) {
+        Line::Refused(number) => {
+            cases::refusal(number);
+            cases::verdict(false);
+        }
+        Line::Written(n) => {
+            let end = least(n, 8);
+            let frame = &back[..end];
+            cases::bytes(frame);
+            let counted = is_counted(devices, command, tail, frame, count);
+            cases::verdict(both(check::same(frame, should), counted));
+        }
+    }
+}
+
+// The return is read, and gives the count.
+fn is_counted(devices: usize, command: Command, tail: Tail, frame: &[u8], count: u16) -> bool {
+    cases::text(b", count");
+    let returned = frames::read_return(6974, devices, command, tail, frame);
+    let Returned::Count(n) = returned else {
+        cases::refusal(refusal_of(returned));
+        return false;
+    };
+    cases::count(n as u64);
+    n == count
+}
+
+// The number of a refused return, else 0.
+fn refusal_of(returned: Returned) -> u8 {
+    let Returned::Refused(number) = returned else {
+        return 0;
+    };
+    number
+}

@@ -40,6 +40,8 @@ use Rattle.compare.specs.Compare.{Pair, _against_, differsAt, groups, inGroups,
 use Rattle.compare.specs.declared.compared.Compared.{Compared}
 use Rattle.report.specs.Arguments.{parsed, askedRows, judged}
 use Rattle.report.specs.declared.arguments.Asked.the-variants as B
+use Rattle.capi.specs.Answers.{accepted, refused, partRows}
+use Rattle.capi.specs.declared.answer.Answer.{Answer as RowAnswer}
 use Rattle.claims.specs.Tables.{Exactly, Answers, Leaves, lineNumber, writtenNumber, readNumber, returnedNumber, askedNumber, leadNumber, clocksNumber, argumentsNumber}
 use Rattle.claims.specs.Claims as claim
 
@@ -226,5 +228,6 @@ accepted-exactly = record {
   deviceLit = λ d output s clock phase. answers (deviceRows d output s clock phase) refl refl askedNumber A.Refused _ refl itself;
   litClocks = λ part configuration global value output s phase. answers (litRows part configuration value output s 0 phase) refl refl clocksNumber K.Refused _ refl itself;
   deviceLitClocks = λ d output s phase. answers (deviceRows d output s 0 phase) refl refl clocksNumber K.Refused _ refl itself;
+  row = λ part number. answers (partRows part) refl refl (λ (a : RowAnswer). a .refusal) refused (accepted number) refl itself;
   arguments = λ part devices. answers (askedRows (parsed part) (parsed devices)) refl refl argumentsNumber B.Refused _ refl itself;
 }

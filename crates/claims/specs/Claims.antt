@@ -57,6 +57,8 @@ use Rattle.compare.specs.Differences.{FirstDifference}
 use Rattle.compare.specs.declared.compared.Compared.{Compared}
 use Rattle.report.specs.Arguments.{parsed, valueOf, askedRows, asked}
 use Rattle.report.specs.declared.arguments.Asked.the-variants as B
+use Rattle.capi.specs.Answers.{accepted, refused, partRows, ofPart}
+use Rattle.capi.specs.declared.answer.Answer.{Answer as RowAnswer}
 use Rattle.claims.specs.Tables.{Exactly, Answers, Leaves, lineNumber, writtenNumber, readNumber, returnedNumber, askedNumber, leadNumber, clocksNumber, argumentsNumber}
 use Rattle.claims.specs.Examples.{Each, examples}
 
@@ -135,6 +137,8 @@ pub record AcceptedExactly : Type 0 where
       (litClocksAnswer part configuration global value output s phase)
   pub deviceLitClocks : (d : Device) (output s phase : ℕ)
       → Answers clocksNumber (deviceRows d output s 0 phase) K.Refused (shownRun (d .registers) output s phase) (deviceClocksAnswer d output s phase)
+  -- subframes per frame, or bits of a slice: `number` is the row's
+  pub row : (part number : ℕ) → Answers (λ (a : RowAnswer). a .refusal) (partRows part) refused (accepted number) (ofPart part number)
   pub arguments : (part devices : List ℕ)
       → Answers argumentsNumber (askedRows (parsed part) (parsed devices)) B.Refused (B.Chain (valueOf (parsed part)) (valueOf (parsed devices))) (asked part devices)
 

@@ -52,7 +52,7 @@ abbrev pub ofLine : Line → Answer
 ofLine (L.Written n) = accepted n
 ofLine (L.Refused number) = refused number
 
--- 1
+-- when a question about a part is refused: 1
 abbrev pub partRows : ℕ → List Row
 partRows part = (1 when not (known part)) ∷ []
 

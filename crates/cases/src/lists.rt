@@ -1,7 +1,7 @@
 // Lists compared.
 ghost use mathlib.Core.Path.{_≡_};
 ghost use mathlib.Core.Bool.{true, _&&_};
-ghost use Prim.Native.Nat.{_≤_};
+ghost use Prim.Native.Nat.{_≤_, min};
 
 // Whether two lists hold the same values.
 pub fn same_values(a: &[u16], b: &[u16]) -> bool
@@ -21,7 +21,7 @@ pub fn same_values(a: &[u16], b: &[u16]) -> bool
 }
 
 pub fn least(a: usize, b: usize) -> usize
-    ensures { λ r. ⌜ (r ≤ a) × (r ≤ b) ⌝ }
+    ensures { λ r. ⌜ (r ≤ a) × (r ≤ b) × (r ≡ min a b) ⌝ }
 {
     if a < b { a } else { b }
 }

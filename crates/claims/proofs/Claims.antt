@@ -61,7 +61,12 @@ pub windowLead : claim.WindowLead
 windowLead = light.window-lead
 
 pub litClocks : claim.LitClocks
-litClocks = record { numbers = light.lit-clocks; device = light.device-clocks }
+litClocks = record {
+  numbers = light.lit-clocks;
+  numbersAnswered = light.lit-clocks-accepted;
+  device = light.device-clocks;
+  deviceAnswered = light.device-clocks-accepted;
+}
 
 pub litCount : claim.LitCount
 litCount = light.lit-count

@@ -342,16 +342,23 @@ WindowLead =
     → (negℤ (pos (subframes (partOf part) configuration)) <ℤ leadOf (partOf part) configuration global from w)
     × (leadOf (partOf part) configuration global from w <ℤ pos (subframes (partOf part) configuration))
 
--- the run of clocks that is answered for a subframe: an output is lit at each clock of it, and at no other
+-- the run of clocks that is answered for a subframe: an output is lit at each clock of it, and at no other; and it is answered wherever the
+-- question about one clock is
 pub record LitClocks : Type 0 where
   pub numbers : (part configuration global value output s clock phase from to : ℕ)
       → litClocksAnswer part configuration global value output s phase ≡ K.Run from to
       → first (litRows part configuration value output s clock phase) ≡ 0
       → litAnswer part configuration global value output s clock phase ≡ A.Is (inRun from to clock)
+  pub numbersAnswered : (part configuration value output s clock phase : ℕ)
+      → first (litRows part configuration value output s clock phase) ≡ 0
+      → first (litRows part configuration value output s 0 phase) ≡ 0
   pub device : (d : Device) (output s clock phase from to : ℕ)
       → deviceClocksAnswer d output s phase ≡ K.Run from to
       → first (deviceRows d output s clock phase) ≡ 0
       → deviceAnswer d output s clock phase ≡ A.Is (inRun from to clock)
+  pub deviceAnswered : (d : Device) (output s clock phase : ℕ)
+      → first (deviceRows d output s clock phase) ≡ 0
+      → first (deviceRows d output s 0 phase) ≡ 0
 
 -- the lit clocks of an ON subframe are as many as the value has outside the edge zones, for an even output and for an odd one, of any row
 abbrev pub LitCount : Type 0

@@ -18,7 +18,7 @@ use Rattle.schedule.specs.Light.{count, total, level, isOn, leadOf, isEv
 use Rattle.schedule.specs.Answers.{positionOver, litRows, litAnswer, litClocksAnswer}
 use Rattle.schedule.specs.OfDevice.{activeValue, deviceRows, deviceAnswer, deviceClocksAnswer}
 use Rattle.schedule.proofs.Subframes.{level-lt, count-frame, count-quotients, lead-below}
-use Rattle.schedule.proofs.Lit.{lit-run, lit-first-end, run-empty, count-lit, total-lit, lit-on, lit-off, or-none, position-zero}
+use Rattle.schedule.proofs.Lit.{lit-run, lit-first-end, run-empty, count-lit, total-lit, lit-on, or-none, position-zero}
 
 -- a frame has exactly g + 1 ON subframes
 pub frame-on :
@@ -82,16 +82,6 @@ pub dark :
 dark part value even h configuration global output subframe clock phase a e q =
     lights part value even configuration global output subframe clock phase a e q
     ∙ ap asked.Is (run-empty (litFrom (partOf part) value even) (litTo (partOf part) value even) clock h)
-
--- about an OFF subframe it says: not lit
-pub lit-never :
-    (part configuration global value output subframe clock phase : ℕ)
-    → first (litRows part configuration value output subframe clock phase) ≡ 0
-    → isOn (partOf part) configuration global subframe ≡ false
-    → litAnswer part configuration global value output subframe clock phase ≡ asked.Is false
-unfolding litAnswer
-lit-never part configuration global value output subframe clock phase a e =
-    sym (accepted asked.Refused refl a (ap asked.Is (sym (lit-off (partOf part) configuration global value output subframe clock e))))
 
 -- what an accepted answer gives as first and end clock
 run-given : (n g h f e : ℕ) → answer n clocks.Refused (clocks.Run g h) ≡ clocks.Run f e → (g ≡ f) × (h ≡ e)

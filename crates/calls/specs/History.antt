@@ -9,7 +9,8 @@ use lib.ListN.{length, take}
 use Rattle.parts.specs.Lists.{allBelow}
 use Rattle.parts.specs.Refusals.{Row, content}
 use Rattle.device.specs.declared.device.Device.{Device}
-use Rattle.calls.specs.Calls.{freshTable, runTable, boundaryTable, faultTable, freshRefusal, freshDevices, freshAfter, runRefusal, runDevices, runAfter, runRoom, returned, boundaryRefusal, boundaryDevices, boundaryAfter, faultRefusal, faultDevices, faultAfter}
+use Rattle.calls.specs.Calls.{freshTable, runTable, boundaryTable, faultTable, freshRefusal, runRefusal, boundaryRefusal, faultRefusal}
+use Rattle.calls.specs.Calls.{freshDevices, freshAfter, runDevices, runAfter, runRoom, returned, boundaryDevices, boundaryAfter, faultDevices, faultAfter}
 
 -- fresh: the part. run: states, and the lent room as it is. fault: device, kind, flag
 pub data Call : Type 0 where

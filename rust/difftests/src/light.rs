@@ -6,6 +6,7 @@ use cases::{records, sets, Random};
 use ffi::{Answer, Clocks, Signed};
 use model::light::{is_device_lit, is_lit, is_on, lead, Position};
 use model::part::Part;
+use record::Device;
 use std::ops::Range;
 
 /// The four configurations that matter, with their other bits set and clear.
@@ -121,14 +122,28 @@ fn any_position(random: &mut Random, part: u16, configuration: u8) -> ffi::Posit
     at
 }
 
+/// A part's number, seldom one that is no part's.
+fn any_part(random: &mut Random) -> u16 {
+    let (known, unknown) = (sets::part(random), sets::unknown_part(random));
+    random.pick(&[known, known, known, known, known, known, unknown])
+}
+
+/// A record of a part, seldom one that does not fit.
+fn any_record(random: &mut Random, part: u16) -> Device {
+    match random.below(8) {
+        0 => records::junk(random),
+        1 => records::damaged(random, part),
+        _ => records::fitting(random, part),
+    }
+}
+
 /// Any numbers.
 pub fn positions() -> Tally {
     let mut tally = Tally::new("lit from numbers", 0x9051);
     for number in 0..300_000 {
         let random = &mut Random::of_case(tally.seed(), number);
         tally.case(number, |case| {
-            let (known, unknown) = (sets::part(random), sets::unknown_part(random));
-            let part = random.pick(&[known, known, known, known, known, known, unknown]);
+            let part = any_part(random);
             let (configuration, global) = (random.byte(), random.byte());
             let any = random.next() as u16;
             let value = random.pick(&[any, any & 0xFFF, any & 0x3FFF]);
@@ -150,11 +165,7 @@ pub fn devices() -> Tally {
         let random = &mut Random::of_case(tally.seed(), number);
         tally.case(number, |case| {
             let part = sets::part(random);
-            let record = match random.below(8) {
-                0 => records::junk(random),
-                1 => records::damaged(random, part),
-                _ => records::fitting(random, part),
-            };
+            let record = any_record(random, part);
             let at = any_position(random, part, record.registers.configuration);
             let found = ffi::device_lit(record, at);
             let expected = is_device_lit(&record, position(at));
@@ -182,8 +193,7 @@ pub fn runs() -> Tally {
     for number in 0..20_000 {
         let random = &mut Random::of_case(tally.seed(), number);
         tally.case(number, |case| {
-            let (known, unknown) = (sets::part(random), sets::unknown_part(random));
-            let part = random.pick(&[known, known, known, known, known, known, unknown]);
+            let part = any_part(random);
             let (configuration, global) = (random.byte(), random.byte());
             let value = any_value(random);
             let at = any_position(random, part, configuration);
@@ -207,11 +217,7 @@ pub fn device_runs() -> Tally {
         let random = &mut Random::of_case(tally.seed(), number);
         tally.case(number, |case| {
             let part = sets::part(random);
-            let record = match random.below(8) {
-                0 => records::junk(random),
-                1 => records::damaged(random, part),
-                _ => records::fitting(random, part),
-            };
+            let record = any_record(random, part);
             let at = any_position(random, part, record.registers.configuration);
             let [output, subframe, _, phase] = at;
             let found = ffi::device_lit_clocks(record, output, subframe, phase);

@@ -5,7 +5,7 @@ ghost use mathlib.Core.Bool.{not};
 ghost use lib.Dec.{eqb};
 ghost use lib.ListN.{length};
 ghost use Rattle.calls.specs.Calls.{freshAfter, faultAfter, runAfter, runRoom};
-ghost use Rattle.turns.specs.Entry.{runAnswer};
+ghost use Rattle.turns.specs.Answer.{runAnswer};
 use device::Device;
 use turns::Ran;
 

@@ -8,7 +8,6 @@ use Rattle.device.specs.declared.device.Device.{Device}
 use Rattle.calls.specs.Calls.{runRefusal}
 use Rattle.turns.specs.declared.entry.Entry.{Entry}
 use Rattle.turns.specs.Front.{begun, halted, Running, nowAt, frontRun}
-unfoldable pub use Rattle.turns.specs.Answer.{runAnswer}
 
 -- where a run begins: at its end if it is refused
 abbrev pub entryUnder : ℕ → ℕ → List ℕ → Entry

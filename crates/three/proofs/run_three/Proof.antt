@@ -7,7 +7,7 @@ use denote.Struct.Laws as LL
 use Rattle.device.specs.declared.device.Device.{Device}
 use Rattle.calls.specs.Calls.{runAfter, runRoom}
 use Rattle.turns.specs.declared.entry.Ran.{Ran}
-use Rattle.turns.specs.Entry.{runAnswer}
+use Rattle.turns.specs.Answer.{runAnswer}
 use Rattle.turns.proofs.entry.Ran as R
 use Rattle.turns.proofs.entry.Ran.Laws as R′
 use Rattle.chain.proofs.Dev.{D, vals, tells, made, lawful}

@@ -1,8 +1,6 @@
 // Words, bytes and numbers on standard output.
-ghost use mathlib.Core.Path.{_≡_};
-ghost use Prim.Native.Nat.{_<_};
-ghost use lib.IntN.{pos};
-ghost use lib.Signed.{_≤ℤ_};
+use crate::digits::digit;
+use crate::digits::natural;
 use libc::STDOUT_FILENO;
 
 pub fn text(words: &[u8]) {
@@ -41,12 +39,6 @@ fn byte(value: u8) {
     text(&digits);
 }
 
-fn digit(value: u8) -> u8
-    requires { ⌜ value < 16 ⌝ }
-{
-    if value < 10 { 48 + value } else { 55 + value }
-}
-
 // A call that was accepted, or its refusal.
 pub fn refusal(number: u8) {
     if number == 0 {
@@ -70,11 +62,4 @@ pub fn signed(number: i32) {
     } else {
         count(natural(number));
     }
-}
-
-fn natural(number: i32) -> u64
-    requires { ⌜ pos 0 ≤ℤ number ⌝ }
-    ensures { λ r. ⌜ (pos r ≡ number) × (r < 4294967296) ⌝ }
-{
-    number as u64
 }

@@ -8,8 +8,8 @@ use Prim.Native.Nat.{_<_}
 use mir.Syntax.{w32}
 use mir.Val.{toZ, ofZ}
 use mir.ValLaws.{toZ-ofZ}
-use Rattle.cases.proofs.print.natural.Statement.{statement}
-use Rattle.cases.proofs.print.natural.Tie as tie
+use Rattle.cases.proofs.digits.natural.Statement.{statement}
+use Rattle.cases.proofs.digits.natural.Tie as tie
 
 -- what the machine reads back from the bits of the number is not negative
 read-pos : (c : tie.Start) → pos 0 ≤ℤ toZ w32 (ofZ w32 (c .args .number))

@@ -20,6 +20,7 @@ use Rattle.model.specs.Lists.{All}
 use Rattle.link.proofs.View.{Sound}
 use Rattle.link.proofs.Device.{agree, keep}
 use Rattle.link.proofs.Calls.{Whole, own-refusal, whole-calls, whole-start, length-afterCalls, length-after}
+use Rattle.link.proofs.Arrays.{start-arrays}
 use Rattle.link.proofs.Modelled.{call-same}
 use Rattle.link.proofs.Flags.{flag-calls, flag-start}
 use Rattle.turns.proofs.Room.{surplus}
@@ -56,7 +57,7 @@ pub kept : Kept
 kept p records earlier c e =
     let w = whole-begun p records earlier e in
     let l = length-start p records earlier in
-    (l, w .onePart, sound-fits (start p records earlier) (w .sound), own-refusal _ (start p records earlier) c w ∙ ap (λ (n : ℕ). first (ownTable n c)) l)
+    (l, w .onePart, sound-fits (start p records earlier) (w .sound), start-arrays p records earlier e, own-refusal _ (start p records earlier) c w ∙ ap (λ (n : ℕ). first (ownTable n c)) l)
 
 pub flags : Flags
 unfolding afterCalls

@@ -269,7 +269,8 @@ Room =
     → refusalOf ds (run ss out) ≡ 0
     → (length (returned ds ss) ≤ roomFor (length ss)) × (roomFor (length ss) ≤ length out)
 
--- after an accepted fresh and any calls, there are as many records, each of the part told last, each fits, and no call is refused for them
+-- after an accepted fresh and any calls, there are as many records, each of the part told last, each fits and has arrays of the lengths of
+-- their types, and no call is refused for them
 abbrev pub Kept : Type 0
 Kept =
     (p : ℕ) (records : List Device) (earlier : List Call) (c : Call)
@@ -278,6 +279,7 @@ Kept =
     (length now ≡ length records)
     × All (λ d. d .registers .part ≡ startPart p records earlier) now
     × All (λ d. fits d ≡ true) now
+    × All Arrays now
     × (refusalOf now c ≡ first (ownTable (length records) c))
 
 -- flags are inputs: after an accepted fresh and any calls, a device's flag of a kind is what the last accepted setting of it since the last

@@ -37,7 +37,7 @@ use Rattle.model.proofs.Lists.{All-replicate}
 use Rattle.model.proofs.Run.{chain-append, chain-nil, chain-holds}
 use Rattle.link.specs.View.{phaseIn, deviceOf, stepRecord}
 use Rattle.link.proofs.View.{Sound}
-use Rattle.link.proofs.Device.{step-part, through-same, chain-keep}
+use Rattle.link.proofs.Device.{keep, step-part, through-same, chain-keep}
 
 -- ---- what an accepted call leaves
 
@@ -148,6 +148,30 @@ length-chain (d ∷ ds) ss = ap suc (length-chain ds ((machine.run stepRecord d 
 pub run-devices : (ds : List Device) (ss : List ℕ) → runDevices ds ss ≡ (chain stepRecord ds ss) .0
 run-devices ds ss = ap (λ (x : List Device × List ℕ). x .0) (through-same ds ss)
 
+-- ---- what fresh devices have and nothing that is called takes away
+
+module _ (P : Device → Type 0) (new : (q : ℕ) → P (freshDevice q)) (stepped : (d : Device) (s : ℕ) → P d → P ((stepRecord d s) .0))
+    (activated : (d : Device) → P d → P (bounded d)) (flagged : (kind : ℕ) (flag : Bool) (d : Device) → P d → P (faulted d kind (digit flag))) where
+  pub effect-keeps : (ds : List Device) (c : Call) → All P ds → All P (effect ds c)
+  effect-keeps ds (fresh q) h = All-replicate P (length ds) (freshDevice q) (new q)
+  effect-keeps ds (run ss out) h = rw (run-devices ds ss) (chain-holds stepRecord P stepped ds ss h)
+  effect-keeps ds boundary h = map-All P bounded activated ds h
+  effect-keeps ds (fault device kind flag) h = set-All P (λ d. faulted d kind (digit flag)) (flagged kind flag) ds (device - 1) blank h
+
+  calls-keep : (ds : List Device) (cs : List Call) → All P ds → All P (afterCalls ds cs)
+  unfolding afterCalls
+  calls-keep ds [] h = h
+  calls-keep ds (c ∷ cs) h =
+      calls-keep (after ds c) cs (rw (after-effect ds c) (cond-both (All P) (eqb (refusalOf ds c) 0) _ _ (λ _. effect-keeps ds c h) (λ _. h)))
+
+  pub start-keeps : (p : ℕ) (records : List Device) (earlier : List Call) → refusalOf records (fresh p) ≡ 0 → All P (afterCalls records (fresh p ∷ earlier))
+  unfolding afterCalls
+  start-keeps p records earlier e =
+      calls-keep (after records (fresh p)) earlier
+      (rw (after-effect records (fresh p), eq-eqb (refusalOf records (fresh p)) 0 e) (All-replicate P (length records) (freshDevice p) (new p)))
+
+-- ---- so no call is refused for the records, whatever is called
+
 pub whole-fresh : (q : ℕ) (ds : List Device) → refusalOf ds (fresh q) ≡ 0 → Whole q (freshDevices q ds)
 unfolding refusalOf freshRefusal
 whole-fresh q ds a =
@@ -163,6 +187,9 @@ whole-fresh q ds a =
       sound = All-replicate Sound (length ds) (freshDevice q) (fresh-sound q);
     }
 
+sound-effect : (ds : List Device) (c : Call) → All Sound ds → All Sound (effect ds c)
+sound-effect ds c h = effect-keeps Sound fresh-sound keep bounded-sound faulted-sound ds c h
+
 whole-from : (p : ℕ) (ds es : List Device) → Whole p ds → length es ≡ length ds → All (λ d. d .registers .part ≡ p) es → All Sound es → Whole p es
 whole-from p ds es w l a o = record { someDevice = rw l (w .someDevice); fewDevices = rw l (w .fewDevices); knownPart = w .knownPart; onePart = a; sound = o }
 
@@ -174,11 +201,11 @@ whole-effect p ds (run ss out) w a =
     (chain-holds stepRecord (λ d. d .registers .part ≡ p) (λ d s h. step-part d s ∙ h) ds ss (w .onePart)) (chain-keep ds ss (w .sound)))
 whole-effect p ds boundary w a =
     whole-from p ds (boundaryDevices ds) w (length-map ds bounded) (map-All (λ d. d .registers .part ≡ p) bounded (λ d h. h) ds (w .onePart))
-    (map-All Sound bounded bounded-sound ds (w .sound))
+    (sound-effect ds boundary (w .sound))
 whole-effect p ds (fault device kind flag) w a =
     whole-from p ds (faultDevices ds device kind flag) w (length-set ds (device - 1) _)
     (set-All (λ d. d .registers .part ≡ p) (λ d. faulted d kind (digit flag)) (λ d h. faulted-part d kind (digit flag) ∙ h) ds (device - 1) blank (w .onePart))
-    (set-All Sound (λ d. faulted d kind (digit flag)) (faulted-sound kind flag) ds (device - 1) blank (w .sound))
+    (sound-effect ds (fault device kind flag) (w .sound))
 
 refused-part : (ds : List Device) (p : ℕ) (c : Call) → (refusalOf ds c ≡ 0 → ⊥) → partBy ds p c ≡ p
 refused-part ds p (fresh q) e = rw (ne-eqb (refusalOf ds (fresh q)) 0 e)

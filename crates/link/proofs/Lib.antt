@@ -5,6 +5,7 @@ pub mod Header
 pub mod Slice
 pub mod Device
 pub mod Calls
+pub mod Arrays
 pub mod Modelled
 pub mod Flags
 pub mod Frames

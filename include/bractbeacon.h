@@ -3,10 +3,10 @@
  *
  * The functions are those of the static library target/staticlib/libbractbeacon.a (`tools/library`, x86-64 Linux).
  * Each has one result and one content of every lent list, for any numbers; the library's contracts say which.
- * "01" below is the customer's paper, "Sign restore: build definition and exact rules".
+ * docs/RULES.md has all rules: what a set, a frame, a device and light are, and when each number is given.
  *
  * Refusals
- *   A refusal is a number of 01's table, BB_REFUSED_PART to BB_REFUSED_POSITION_OR_RECORD below, 0 where the call is
+ *   A refusal is a number of one table, BB_REFUSED_PART to BB_REFUSED_POSITION_OR_RECORD below, 0 where the call is
  *   accepted. The lowest number that applies is given. A refused call changes nothing: every lent byte, value, state
  *   and record stays as it came in, and every other number of its answer is 0.
  *
@@ -30,7 +30,7 @@
 extern "C" {
 #endif
 
-/* Refusals: the numbers of 01's table, each given exactly when what stands beside it holds and no lower one applies. */
+/* Refusals: each is given exactly when what stands beside it holds and no lower one applies. */
 enum {
     BB_REFUSED_PART = 1,        /* the part is neither 6974 nor 6975 */
     BB_REFUSED_DEVICES = 2,     /* the number of devices is not 1 to 1023 */

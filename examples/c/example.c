@@ -1,6 +1,6 @@
 /*
  * From a set to a running sign, through include/bractbeacon.h: frames, line states, a run on three devices, what comes
- * back, the light, the comparison. Prints what came out and exits with 1 where it is not what paper 01 says.
+ * back, the light, the comparison. Prints what came out and exits with 1 where it is not what docs/RULES.md says.
  *
  *   tools/library
  *   gcc -std=c11 -Wall -Wextra -Iinclude examples/c/example.c -Ltarget/staticlib -lbractbeacon -o target/example
@@ -59,7 +59,7 @@ static size_t write_frame(const struct set *set, uint8_t command, size_t devices
     return written.value;
 }
 
-/* 01's frames of one device: a, c, d, e and h. */
+/* The frames of one device among docs/RULES.md, "Numbers to hold against": a, c, d, e and h. */
 static void frames_of_one(const struct set *set)
 {
     static const uint8_t a[] = {0xE8, 0xFC, 0x00, 0x00, 0x00, 0x00};
@@ -176,6 +176,6 @@ int main(void)
     frames_of_one(&set);
     restore(&set, chain);
     light(chain);
-    printf("%s\n", mismatches == 0 ? "all as 01 says" : "not as 01 says");
+    printf("%s\n", mismatches == 0 ? "all as docs/RULES.md says" : "not as docs/RULES.md says");
     return mismatches != 0;
 }

@@ -11,5 +11,5 @@ pub mod part;
 pub mod reader;
 pub mod writer;
 
-/// A number of 01's refusal table.
+/// A number of the table in docs/RULES.md, "Refusal numbers".
 pub type Refusal = u8;

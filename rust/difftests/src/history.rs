@@ -1,6 +1,7 @@
 //! Demand 3: histories of calls, then a restore, and the same restore cut.
 //!
-//! Each call is held against the model; what the restore and its cuts leave is held against 01's own words as well.
+//! Each call is held against the model; what the restore and its cuts leave is held against the words
+//! of docs/RULES.md, "The three demands", as well.
 
 use crate::tally::{Case, Tally};
 use cases::{lines, records, sets, Random};

@@ -125,7 +125,7 @@ pub fn commas(number: u64) -> String {
 }
 
 impl Case {
-    /// The library and the model, or the paper, say the same.
+    /// The library and the model, or the rule itself, say the same.
     pub fn same<T: PartialEq + Debug>(&mut self, what: &str, library: T, model: T) {
         if library != model {
             let (library, model) = (format!("{library:?}"), format!("{model:?}"));

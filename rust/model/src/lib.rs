@@ -1,9 +1,9 @@
-//! The customer's paper 01, written out a second time.
+//! docs/RULES.md, written out a second time.
 //!
-//! This model shares no code or definition with the proved library. Its rules are the paper's; the record's layout, its
-//! slots and its phase numbers, which the paper leaves open, are those of include/bractbeacon.h, and so are the same on
-//! both sides of a differential test. It is clear and slow: frames are lists of bits, a chain goes device by device and state by state, and light is counted. An
-//! operation answers a `Result`, with the paper's refusal number as its error, and a refused one changes nothing.
+//! This model shares no code or definition with the proved library. The record's layout, its
+//! slots and its phase numbers are those of include/bractbeacon.h, and so are the same on both sides of a differential
+//! test. It is clear and slow: frames are lists of bits, a chain goes device by device and state by state, and light is
+//! counted. An operation answers a `Result`, with the refusal number as its error, and a refused one changes nothing.
 
 pub mod bits;
 pub mod chain;
@@ -17,7 +17,7 @@ pub mod reader;
 pub mod set;
 pub mod writer;
 
-/// A number of 01's refusal table.
+/// A number of the table in docs/RULES.md, "Refusal numbers".
 pub type Refusal = u8;
 
 /// Refuses with a number where it applies. Tests stand in the table's order, so the lowest number is given.

@@ -1,4 +1,4 @@
-//! 01's "Numbers to hold against", by their letters; those without a letter follow.
+//! docs/RULES.md, "Numbers to hold against", by their letters; those without a letter follow.
 
 use model::chain;
 use model::frame::{Tail, Told};

@@ -1,5 +1,5 @@
-//! Rules of 01 that its numbers do not touch: the restore and its cut, the order of values, lost devices, records that do not fit, the
-//! comparison.
+//! Rules that the "Numbers to hold against" of docs/RULES.md do not touch: the restore and its cut, the order of values, lost devices,
+//! records that do not fit, the comparison.
 
 use model::chain;
 use model::compare::{compare, Difference, Group};

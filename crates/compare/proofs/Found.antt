@@ -19,7 +19,7 @@ use Rattle.parts.proofs.Rows.{clear, and-left, and-right}
 use Rattle.device.specs.declared.device.Device.{Device}
 use Rattle.calls.specs.Chain.{blank, isCount}
 use Rattle.model.specs.Set.{Set, Own, deal, owned}
-use Rattle.turns.specs.Judging.{unjudged, judgedFrom}
+use Rattle.calls.specs.Judging.{unjudged, judgedFrom}
 use Rattle.compare.specs.declared.compared.Compared.{Compared}
 use Rattle.compare.specs.declared.compared.Given.{Given}
 use Rattle.compare.specs.declared.search.Search.{Search}

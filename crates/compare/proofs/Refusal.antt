@@ -12,7 +12,7 @@ use Rattle.parts.specs.declared.command.Command.the-variants.{Individual}
 use Rattle.parts.proofs.Laws.{banks-three}
 use Rattle.parts.proofs.Rows.{and-left, and-right}
 use Rattle.calls.specs.Chain.{isCount}
-use Rattle.turns.specs.declared.judging.Judged.{Judged}
+use Rattle.calls.specs.declared.judging.Judged.{Judged}
 use Rattle.compare.specs.declared.compared.Given.{Given}
 use Rattle.compare.specs.Compare.{lengthsFit, valuesFit}
 use Rattle.compare.specs.Search.{chainFits, rowsBy}

@@ -12,7 +12,7 @@ use Rattle.parts.specs.declared.command.Command.the-variants.{Individual, Calib
 use Rattle.device.specs.declared.device.Device.{Device}
 use Rattle.calls.specs.Chain.{isCount}
 use Rattle.model.specs.Set.{Set, Own}
-use Rattle.turns.specs.declared.judging.Judged.{Judged}
+use Rattle.calls.specs.declared.judging.Judged.{Judged}
 use Rattle.compare.specs.declared.compared.Compared.{Compared}
 use Rattle.compare.specs.declared.compared.Given.{Given}
 use Rattle.compare.specs.declared.search.Search.{Search}

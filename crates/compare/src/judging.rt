@@ -8,8 +8,8 @@ ghost use Rattle.parts.specs.Refusals.{first};
 ghost use Rattle.compare.specs.Compare.{lengthsFit, valuesFit};
 ghost use Rattle.compare.specs.Search.{chainFits, rowsBy};
 use crate::compared::Given;
+use calls::Judged;
 use parts::Command;
-use turns::Judged;
 
 // The number under which a comparison is refused, or 0, by the set and by what was found in the records.
 pub fn refusal_of(
@@ -21,13 +21,13 @@ pub fn refusal_of(
 ) -> u8
     ensures { λ r. ⌜ r ≡ first (rowsBy given bytes (now (individual .entry)) judged count) ⌝ }
 {
-    if !turns::both(parts::is_known(given.part), judged.known) {
+    if !calls::both(parts::is_known(given.part), judged.known) {
         return 1;
     }
-    if !turns::both(turns::is_count(given.devices), turns::is_count(count)) {
+    if !calls::both(calls::is_count(given.devices), calls::is_count(count)) {
         return 2;
     }
-    if !turns::both(
+    if !calls::both(
         lists_fit(given, bytes, individual.len()),
         chain_fits(given, judged, count),
     ) {
@@ -59,7 +59,7 @@ fn chain_fits(given: Given, judged: Judged, count: usize) -> bool
     ensures { λ r. ⌜ r ≡ chainFits given judged count ⌝ }
 {
     if count == given.devices {
-        turns::both(judged.same, judged.part == given.part)
+        calls::both(judged.same, judged.part == given.part)
     } else {
         false
     }

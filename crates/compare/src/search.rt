@@ -5,9 +5,9 @@ ghost use lib.ListN.{length};
 ghost use Rattle.compare.specs.Search.{given, Ready, begun, begunUnder, lookedAt};
 use crate::compared::Compared;
 use crate::compared::Given;
+use calls::Judged;
 use device::Device;
 use parts::Command;
-use turns::Judged;
 
 pub struct Search {
     pub configuration: u8,

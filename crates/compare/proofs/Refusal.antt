@@ -6,12 +6,11 @@ use mathlib.Core.List.{List}
 use lib.Dec.{leb}
 use lib.ListN.{length}
 use borrow.Author.Tests.{leb-true}
-use Rattle.parts.specs.Parts.{known, partOf, multiplex, sliceFields}
-use Rattle.parts.specs.Refusals.{first}
+use Rattle.parts.specs.Parts.{known, partOf, multiplex, sliceFields, isCount}
+use Rattle.tables.specs.Refusals.{first}
 use Rattle.parts.specs.declared.command.Command.the-variants.{Individual}
 use Rattle.parts.proofs.Laws.{banks-three}
-use Rattle.parts.proofs.Rows.{and-left, and-right}
-use Rattle.calls.specs.Chain.{isCount}
+use Rattle.tables.proofs.Booleans.{and-left, and-right}
 use Rattle.turns.specs.declared.judging.Judged.{Judged}
 use Rattle.compare.specs.declared.compared.Given.{Given}
 use Rattle.compare.specs.Compare.{lengthsFit, valuesFit}

@@ -4,7 +4,7 @@ ghost use mathlib.Core.Bool.{Bool, _&&_};
 ghost use Prim.Native.Nat.{_≤_};
 ghost use lib.Dec.{eqb};
 ghost use lib.ListN.{length};
-ghost use Rattle.parts.specs.Refusals.{first};
+ghost use Rattle.tables.specs.Refusals.{first};
 ghost use Rattle.compare.specs.Compare.{lengthsFit, valuesFit};
 ghost use Rattle.compare.specs.Search.{chainFits, rowsBy};
 use crate::compared::Given;
@@ -70,7 +70,7 @@ fn values_fit(given: Given, individual: &[u16]) -> bool
     ensures { λ r. ⌜ r ≡ valuesFit (given .part) (given .configuration) (given .global) (now (individual .entry)) ⌝ }
 {
     if (given.global as u16) < parts::subframes_of(given.part, given.configuration) {
-        parts::values_below(individual, parts::value_limit(given.part))
+        tables::values_below(individual, parts::value_limit(given.part))
     } else {
         false
     }

@@ -3,10 +3,10 @@ ghost use mathlib.Core.Path.{_≡_};
 ghost use mathlib.Core.Bool.{Bool, _&&_, cond, not, true};
 ghost use Prim.Native.Nat.{_-_};
 ghost use lib.Dec.{ltb, eqb};
-ghost use Rattle.parts.specs.Refusals.{first};
+ghost use Rattle.tables.specs.Refusals.{first};
 ghost use Rattle.device.specs.Step.{faulted};
 ghost use Rattle.bits.specs.Bits.{digit};
-ghost use Rattle.calls.specs.Chain.{isCount};
+ghost use Rattle.parts.specs.Parts.{isCount};
 ghost use Rattle.calls.specs.Calls.{freshTable, roomFor};
 ghost use Rattle.turns.specs.Judging.{unjudged, judgedWith, partRows, runRows, boundaryRows, faultRows};
 ghost use Rattle.turns.specs.Judging.{span, freshSpan, boundarySpan, faultSpan};
@@ -106,7 +106,7 @@ pub fn run_refusal(judged: Judged, n: usize, states: &[u8], room: usize) -> u8
     if lacks_room(states.len(), room) {
         return 5;
     }
-    if !both(parts::bytes_below(states, 4), judged.fits) {
+    if !both(tables::bytes_below(states, 4), judged.fits) {
         return 13;
     }
     0

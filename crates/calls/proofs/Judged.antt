@@ -9,23 +9,16 @@ use native.Mathlib.Omega.{arith}
 use lib.Dec.{ltb, leb}
 use lib.ListN.{length, getD, take}
 use borrow.Author.Tests.{ltb-true, ltb-false, lt-ltb, le-ltb}
-use Rattle.parts.specs.Parts.{known}
-use Rattle.parts.specs.Refusals.{Row, _when_, first}
-use Rattle.parts.specs.Lists.{allBelow}
+use Rattle.parts.specs.Parts.{known, isCount}
+use Rattle.tables.specs.Refusals.{Row, _when_, first}
+use Rattle.tables.specs.Lists.{allBelow, every}
 use Rattle.device.specs.Judgement.{fits}
 use Rattle.device.specs.declared.device.Device.{Device}
-use Rattle.calls.specs.Chain.{every, allKnown, hasPart, sameParts, allFit, isCount, blank}
+use Rattle.calls.specs.Chain.{allKnown, hasPart, sameParts, allFit, blank}
 use Rattle.calls.specs.Calls.{roomFor, chainRows, freshTable, freshRefusal, runRefusal, boundaryRefusal, faultRefusal}
 use Rattle.calls.specs.declared.judging.Judged.{Judged}
 use Rattle.calls.specs.Judging.{unjudged, judgedWith, judgedFrom, partRows, runRows, boundaryRows, faultRows}
-
-and-assoc : (a b c : Bool) → ((a && b) && c) ≡ (a && (b && c))
-and-assoc true b c = refl
-and-assoc false b c = refl
-
-and-true : (a : Bool) → a ≡ (a && true)
-and-true true = refl
-and-true false = refl
+use Rattle.tables.proofs.Booleans.{and-assoc, and-true}
 
 -- ---- the pass, record by record
 
@@ -44,18 +37,18 @@ judged-none j = refl
 
 pub known-found : (j : Judged) (ds : List Device) → judgedFrom j ds .known ≡ (j .known && allKnown ds)
 unfolding judgedFrom
-known-found j [] = and-true (j .known)
+known-found j [] = sym (and-true (j .known))
 known-found j (d ∷ ds) = known-found (judgedWith j d) ds ∙ and-assoc (j .known) (known (d .registers .part)) (allKnown ds)
 
 pub fits-found : (j : Judged) (ds : List Device) → judgedFrom j ds .fits ≡ (j .fits && allFit ds)
 unfolding judgedFrom
-fits-found j [] = and-true (j .fits)
+fits-found j [] = sym (and-true (j .fits))
 fits-found j (d ∷ ds) = fits-found (judgedWith j d) ds ∙ and-assoc (j .fits) (fits d) (allFit ds)
 
 -- after a first record: the rest are of its part
 same-after : (j : Judged) (ds : List Device) → j .some ≡ true → judgedFrom j ds .same ≡ (j .same && every (hasPart (j .part)) ds)
 unfolding judgedFrom
-same-after j [] e = and-true (j .same)
+same-after j [] e = sym (and-true (j .same))
 same-after j (d ∷ ds) e =
     same-after (judgedWith j d) ds refl
     ∙ ap (λ (b : Bool). (j .same && cond b (hasPart (j .part) d) true) && every (hasPart (cond b (j .part) (d .registers .part))) ds) e

@@ -2,7 +2,7 @@
 use Prim.Native.Nat.{ℕ, _-_}
 use mathlib.Core.Bool.{cond}
 use lib.Dec.{eqb}
-use Rattle.parts.specs.Refusals.{first}
+use Rattle.tables.specs.Refusals.{first}
 use Rattle.calls.specs.Calls.{freshTable}
 use Rattle.calls.specs.Judging.{boundaryRows, faultRows}
 use Rattle.calls.specs.declared.judging.Judged.{Judged}

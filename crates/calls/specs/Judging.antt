@@ -5,12 +5,12 @@ use mathlib.Core.Bool.{true, false, not, _&&_, cond}
 use mathlib.Core.List.{List, [], _∷_, _++_}
 use lib.Dec.{eqb, ltb, leb}
 use lib.ListN.{length}
-use Rattle.parts.specs.Parts.{known}
-use Rattle.parts.specs.Refusals.{Row, _when_}
-use Rattle.parts.specs.Lists.{allBelow}
+use Rattle.parts.specs.Parts.{known, isCount}
+use Rattle.tables.specs.Refusals.{Row, _when_}
+use Rattle.tables.specs.Lists.{allBelow}
 use Rattle.device.specs.Judgement.{fits}
 use Rattle.device.specs.declared.device.Device.{Device}
-use Rattle.calls.specs.Chain.{isCount, hasPart}
+use Rattle.calls.specs.Chain.{hasPart}
 use Rattle.calls.specs.Calls.{roomFor}
 use Rattle.calls.specs.declared.judging.Judged.{Judged}
 

@@ -12,5 +12,4 @@ pub use changes::with_fault;
 pub use judging::Judged;
 pub use judging::both;
 pub use judging::judge;
-pub use refusals::is_count;
 pub use refusals::run_refusal;

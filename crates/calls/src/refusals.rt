@@ -1,8 +1,8 @@
 // The number under which each call is refused, or 0, by what one pass over the records found and their number.
 ghost use mathlib.Core.Path.{_≡_};
 ghost use lib.Dec.{ltb};
-ghost use Rattle.parts.specs.Refusals.{first};
-ghost use Rattle.calls.specs.Chain.{isCount};
+ghost use Rattle.tables.specs.Refusals.{first};
+ghost use Rattle.parts.specs.Parts.{isCount};
 ghost use Rattle.calls.specs.Calls.{freshTable, roomFor};
 ghost use Rattle.calls.specs.Judging.{partRows, runRows, boundaryRows, faultRows};
 use crate::judging::Judged;
@@ -19,7 +19,7 @@ pub fn run_refusal(judged: Judged, n: usize, states: &[u8], room: usize) -> u8
     if lacks_room(states.len(), room) {
         return 5;
     }
-    if !both(parts::bytes_below(states, 4), judged.fits) {
+    if !both(tables::bytes_below(states, 4), judged.fits) {
         return 13;
     }
     0
@@ -32,7 +32,7 @@ pub fn fresh_refusal(part: u16, n: usize) -> u8
     if !parts::is_known(part) {
         return 1;
     }
-    if is_count(n) { 0 } else { 2 }
+    if parts::is_count(n) { 0 } else { 2 }
 }
 
 // A frame boundary.
@@ -68,20 +68,13 @@ fn part_refusal(judged: Judged, n: usize) -> u8
     if !judged.known {
         return 1;
     }
-    if !is_count(n) {
+    if !parts::is_count(n) {
         return 2;
     }
     if !judged.same {
         return 4;
     }
     0
-}
-
-// The number of devices is 1 to 1023.
-pub fn is_count(n: usize) -> bool
-    ensures { λ r. ⌜ r ≡ isCount n ⌝ }
-{
-    if 1 <= n { n <= 1023 } else { false }
 }
 
 // There is no room for n + 23 states.

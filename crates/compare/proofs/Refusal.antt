@@ -4,11 +4,10 @@ use mathlib.Core.Bool.{true, _&&_}
 use Prim.Native.Nat.{ℕ, _+_, _*_, _%_, _≤_}
 use lib.Dec.{leb}
 use borrow.Author.Tests.{leb-true}
-use Rattle.parts.specs.Parts.{partOf, multiplex, sliceFields}
+use Rattle.parts.specs.Parts.{partOf, multiplex, sliceFields, isCount}
 use Rattle.parts.specs.declared.command.Command.the-variants.{Individual}
 use Rattle.parts.proofs.Laws.{banks-three}
-use Rattle.parts.proofs.Rows.{and-left, and-right}
-use Rattle.calls.specs.Chain.{isCount}
+use Rattle.tables.proofs.Booleans.{and-left, and-right}
 
 pub counts-small : (d n : ℕ) → (isCount d && isCount n) ≡ true → d ≤ 1023
 counts-small d n e = leb-true d 1023 (and-right (leb 1 d) (leb d 1023) (and-left (isCount d) (isCount n) e))

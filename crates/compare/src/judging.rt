@@ -4,7 +4,7 @@ ghost use mathlib.Core.Bool.{Bool, _&&_};
 ghost use Prim.Native.Nat.{_≤_};
 ghost use lib.Dec.{eqb};
 ghost use lib.ListN.{length};
-ghost use Rattle.parts.specs.Refusals.{first};
+ghost use Rattle.tables.specs.Refusals.{first};
 ghost use Rattle.compare.specs.Compare.{lengthsFit, valuesFit};
 ghost use Rattle.compare.specs.Search.{chainFits, rowsBy};
 use crate::compared::Given;
@@ -24,7 +24,7 @@ pub fn refusal_of(
     if !(parts::is_known(given.part) && judged.known) {
         return 1;
     }
-    if !(calls::is_count(given.devices) && calls::is_count(count)) {
+    if !(parts::is_count(given.devices) && parts::is_count(count)) {
         return 2;
     }
     if !(lists_fit(given, bytes, individual.len()) && chain_fits(given, judged, count)) {
@@ -59,5 +59,5 @@ fn values_fit(given: Given, individual: &[u16]) -> bool
     ensures { λ r. ⌜ r ≡ valuesFit (given .part) (given .configuration) (given .global) (now (individual .entry)) ⌝ }
 {
     (given.global as u16) < parts::subframes_of(given.part, given.configuration)
-        && parts::values_below(individual, parts::value_limit(given.part))
+        && tables::values_below(individual, parts::value_limit(given.part))
 }

@@ -1,6 +1,6 @@
 // Where a run begins, and its answer.
 ghost use mathlib.Core.Path.{_≡_};
-ghost use Rattle.parts.specs.Refusals.{first};
+ghost use Rattle.tables.specs.Refusals.{first};
 ghost use Rattle.calls.specs.Judging.{runRows};
 ghost use Rattle.turns.specs.Answer.{ran};
 ghost use Rattle.turns.specs.Entry.{entryUnder};

@@ -3,7 +3,7 @@
 use Rattle.calls.proofs.Walk.{_≡_, refl, sym, _∙_, ap, subst, ℕ, zero, suc, _*_, _<_, _^_, arith, Bool, true, false, List, [], _∷_, length, getD, set, URA, fullShare, Ty, named, erased, mut, imm, w8, w64, tyBool, tyPtr, tyRef, vbool, vint, vptr, Val, SProp, ent, sep, emp, via, fst∗, Lft, GName, Share, ftrue, fat, flft, Memory, Routine, Heap, Out, Env, Wp, WpFn, Tables, afterSeq, afterBlock, afterTurn, atReturn, Atoms, sem, fmOf, Given, Item, ‵, raw, _⊛_, ⋆, anyQ, atRet, _$_, _∵_, !, qed, by, move, use1, drop, split, join, rewrite, fsplit, fjoin, suffices, frame, done, whole, sub, look-in, agg, look, look-raw, store, store-raw, init, forget, stop, hop, fld, from, load, lit, of-opd, and-then, no-more, bin, addr, assigns, assigns-last, land, stays, leaves-loop, exec, returns, enter, alloc1, alloc0, params1, pass1, pass0, free1, free0, Fun, givenOf, tables, tablesOf, yes, owns, pointee, Is, shows, uint-vals, uint-tells, uint-makes, uint-copy, RefT, now, sliceTy, sliceVal, MutSlice, ShrSlice, Room, finally, slice-vals, mut-slice-tells, shr-slice-tells, row, plain, shrSliceOf, u8, usize, onEntry, tripleOf, Contract, Triple, cited, nothing, owned, heard, says, Stays, gave-slice, stay-dropped, walkOf, ends-at, walked, goes-gave-slice, goes-dropped, word, byte, loop, id⊢}
 use denote.Struct.Laws as LL
 use denote.Enum.Laws as EL
-use Rattle.parts.specs.Refusals.{first}
+use Rattle.tables.specs.Refusals.{first}
 use Rattle.device.specs.declared.device.Device.{Device}
 use Rattle.device.proofs.device.Device.Laws.{mir as dev}
 use Rattle.calls.specs.Chain.{blank}

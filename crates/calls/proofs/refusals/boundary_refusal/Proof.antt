@@ -1,5 +1,5 @@
-use Rattle.parts.proofs.Rows.{sooner, later}
-use Rattle.parts.specs.Refusals.{_when_}
+use Rattle.tables.proofs.Rows.{sooner, later}
+use Rattle.tables.specs.Refusals.{_when_}
 use Rattle.calls.specs.Judging.{partRows}
 use mathlib.Core.Path.{refl}
 use mathlib.Core.Bool.{not}

@@ -1,5 +1,5 @@
-use Rattle.parts.proofs.Rows.{sooner, later}
-use Rattle.parts.specs.Refusals.{_when_}
+use Rattle.tables.proofs.Rows.{sooner, later}
+use Rattle.tables.specs.Refusals.{_when_}
 use Rattle.calls.specs.Judging.{partRows}
 use mathlib.Core.Path.{refl, sym, _∙_}
 use mathlib.Core.Bool.{not, _&&_}
@@ -7,7 +7,7 @@ use mathlib.Core.List.{[], _∷_}
 use lib.Dec.{ltb}
 use borrow.Author.Tests.{not-true, not-false}
 use Rattle.calls.specs.Calls.{roomFor}
-use Rattle.parts.specs.Lists.{allBelow}
+use Rattle.tables.specs.Lists.{allBelow}
 use lib.ListN.{length}
 use borrow.Author.Needs.{needs}
 use Rattle.calls.proofs.refusals.run_refusal.Statement.{statement}

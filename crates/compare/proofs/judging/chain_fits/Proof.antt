@@ -1,7 +1,7 @@
 use mathlib.Core.Path.{sym, _∙_}
 use mathlib.Core.Bool.{true≢false}
 use borrow.Author.Tests.{eq-eqb, ne-eqb}
-use Rattle.parts.proofs.Tests.{by-way}
+use Rattle.tables.proofs.Tests.{by-way}
 use Rattle.compare.proofs.judging.chain_fits.Statement.{statement}
 use Rattle.compare.proofs.judging.chain_fits.Tie as tie
 

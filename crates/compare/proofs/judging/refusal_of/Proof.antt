@@ -3,9 +3,8 @@ use mathlib.Core.Path.{_≡_, sym, _∙_}
 use mathlib.Core.Bool.{Bool, true, _&&_}
 use lib.ListN.{length}
 use borrow.Author.Tests.{not-true, not-false}
-use Rattle.parts.specs.Parts.{known}
-use Rattle.parts.proofs.Tests.{by-way}
-use Rattle.calls.specs.Chain.{isCount}
+use Rattle.parts.specs.Parts.{known, isCount}
+use Rattle.tables.proofs.Tests.{by-way}
 use Rattle.compare.specs.Compare.{lengthsFit}
 use Rattle.compare.specs.Search.{chainFits}
 use Rattle.compare.proofs.Refusal.{counts-small}

@@ -6,7 +6,7 @@ use native.Mathlib.Omega.{arith}
 use lib.Dec.{eqb}
 use lib.ListN.{length, drop}
 use borrow.Author.Tests.{eq-eqb, ne-eqb}
-use Rattle.parts.proofs.Tests.{by-way}
+use Rattle.tables.proofs.Tests.{by-way}
 use Rattle.compare.specs.Compare.{differsAt, inTurns}
 use Rattle.compare.proofs.Differs.{turnsLeft, Turn, differs-end, turns-same}
 use borrow.Author.Needs.{needs}

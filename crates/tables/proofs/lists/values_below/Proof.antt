@@ -1,5 +1,6 @@
-use Rattle.parts.specs.Lists.{allBelow}
-use Rattle.parts.proofs.Tests.{by-way, allBelow-drop, and-false, and-true}
+use Rattle.tables.specs.Lists.{allBelow}
+use Rattle.tables.proofs.Booleans.{and-false, and-true}
+use Rattle.tables.proofs.Tests.{by-way, allBelow-drop}
 use borrow.Author.Tests.{lt-ltb, le-ltb}
 use borrow.Author.Needs.{needs}
 use lib.ListN.{length, drop, drop-of-length-le}
@@ -7,18 +8,21 @@ use lib.Dec.{eqb}
 use mathlib.Core.Bool.{_&&_}
 use mathlib.Core.Path.{_≡_, refl}
 use Prim.Native.Nat.{_≤_, _-_}
-use Rattle.parts.proofs.lists.bytes_below.Statement.{statement}
-use Rattle.parts.proofs.lists.bytes_below.Tie as tie
+use Rattle.tables.proofs.lists.values_below.Statement.{statement}
+use Rattle.tables.proofs.lists.values_below.Tie as tie
 
 abbrev Inv-loop : tie.InvT-loop
-Inv-loop bytes limit over₀ i₀ over i =
-    (i ≤ length bytes) × (allBelow bytes limit ≡ (eqb over 0 && allBelow (drop i bytes) limit))
+Inv-loop values limit over₀ i₀ over i =
+    (i ≤ length values) × (allBelow values limit ≡ (eqb over 0 && allBelow (drop i values) limit))
 
 abbrev μ-loop : tie.MeasureT-loop
-μ-loop bytes limit over₀ i₀ over i = length bytes - i
+μ-loop values limit over₀ i₀ over i = length values - i
 
 loop-holds : tie.Need-loop-holds Inv-loop μ-loop
 loop-holds c = (search needs, refl)
+
+mul-if1 : tie.Need-mul-if1 Inv-loop μ-loop
+mul-if1 c = search needs
 
 shared-slice-read-if1 : tie.Need-shared-slice-read-if1 Inv-loop μ-loop
 shared-slice-read-if1 c = search needs
@@ -40,7 +44,7 @@ loop-again c = let t = c .before .before in (
 returns : tie.Need-returns Inv-loop μ-loop
 returns c = rw (c .before .loop .inv .1, drop-of-length-le _ (c .loop-test .left), and-true)
 
-pub bytes-below-spec : {M : Type 1} → statement M
-bytes-below-spec =
+pub values-below-spec : {M : Type 1} → statement M
+values-below-spec =
     tie.close
-    (tie.spec Inv-loop μ-loop loop-holds shared-slice-read-if1 add-i loop-less loop-again returns)
+    (tie.spec Inv-loop μ-loop loop-holds mul-if1 shared-slice-read-if1 add-i loop-less loop-again returns)

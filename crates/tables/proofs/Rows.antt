@@ -1,13 +1,14 @@
 -- The laws of a refusal, for any rows: what no row gives, and that the number given is the lowest that applies. Assumes nothing.
 use mathlib.Core.Path.{_≡_, refl, sym, ap, _∙_}
-use mathlib.Core.Bool.{Bool, true, false, not, true≢false, _&&_, _||_, cond}
+use mathlib.Core.Bool.{Bool, true, false, not, true≢false, _&&_, cond}
 use mathlib.Core.List.{List, [], _∷_, _++_}
 use Prim.Native.Nat.{ℕ, _<_}
 use native.Mathlib.Omega.{arith}
 use mathlib.Core.Logic.{inl, inr, ⊎-elim}
 use lib.Dec.{ltb, eqb}
 use borrow.Author.Tests.{ltb-true, eqb-true, eqb-false, eq-eqb, ne-eqb}
-use Rattle.parts.specs.Refusals.{Row, _when_, first, Applies, answer, content, Lowest}
+use Rattle.tables.proofs.Booleans.{and-left, and-right}
+use Rattle.tables.specs.Refusals.{Row, _when_, first, Applies, answer, content, Lowest}
 
 -- no row's test holds
 abbrev pub Clear : List Row → Type 0
@@ -23,14 +24,6 @@ numbered ((n when b) ∷ rows) = ltb 0 n && numbered rows
 abbrev pub above : ℕ → List Row → Bool
 above m [] = true
 above m ((n when b) ∷ rows) = ltb m n && above n rows
-
-pub and-left : (a b : Bool) → (a && b) ≡ true → a ≡ true
-and-left true b e = refl
-and-left false b e = absurd (true≢false (sym e))
-
-pub and-right : (a b : Bool) → (a && b) ≡ true → b ≡ true
-and-right true b e = e
-and-right false b e = absurd (true≢false (sym e))
 
 pub clear : (rows : List Row) → numbered rows ≡ true → first rows ≡ 0 → Clear rows
 clear [] p e = tt
@@ -74,12 +67,6 @@ differs {r} {s} {x} {y} e f h = ap not (ne-eqb x y (λ z. h (e ∙ z ∙ sym f))
 
 pub agrees : {r s x y : ℕ} → r ≡ x → s ≡ y → r ≡ s → not (eqb x y) ≡ false
 agrees {r} {s} {x} {y} e f h = ap not (eq-eqb x y (sym e ∙ h ∙ f))
-
-pub or-first : {a : Bool} (b : Bool) → a ≡ true → (a || b) ≡ true
-or-first b e = ap (λ (d : Bool). d || b) e
-
-pub or-second : {a b x : Bool} → a ≡ false → b ≡ x → (a || b) ≡ x
-or-second {a} {b} e f = ap (λ (d : Bool). d || b) e ∙ f
 
 -- an answer and a lent list, by the number that the code found
 pub refused : {A : Type 0} {n m : ℕ} (f : ℕ → A) (a : A) → n ≡ m → (n ≡ 0 → ⊥) → f n ≡ answer m f a

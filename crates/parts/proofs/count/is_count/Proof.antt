@@ -1,6 +1,6 @@
 use borrow.Author.Tests.{le-leb, lt-leb}
-use Rattle.calls.proofs.refusals.is_count.Statement.{statement}
-use Rattle.calls.proofs.refusals.is_count.Tie as tie
+use Rattle.parts.proofs.count.is_count.Statement.{statement}
+use Rattle.parts.proofs.count.is_count.Tie as tie
 
 returns : tie.Need-returns
 returns c = rw (le-leb 1 _ (c .if1 .taken))

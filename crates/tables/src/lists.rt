@@ -1,6 +1,6 @@
 // Tests of whole lists. No early end, so that the loops are vectorised.
 ghost use mathlib.Core.Path.{_≡_};
-ghost use Rattle.parts.specs.Lists.{allBelow};
+ghost use Rattle.tables.specs.Lists.{allBelow};
 
 // Each value is below a limit.
 pub fn values_below(values: &[u16], limit: u16) -> bool

@@ -2,7 +2,6 @@
 ghost use mathlib.Core.Path.{_≡_};
 ghost use lib.Dec.{ltb};
 ghost use Rattle.tables.specs.Refusals.{first};
-ghost use Rattle.parts.specs.Parts.{isCount};
 ghost use Rattle.calls.specs.Calls.{freshTable, roomFor};
 ghost use Rattle.calls.specs.Judging.{partRows, runRows, boundaryRows, faultRows};
 use crate::judging::Judged;

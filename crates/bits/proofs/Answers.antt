@@ -1,6 +1,6 @@
 -- The laws of specs/Packing: what each answer is where the fields fit, and where they do not. Assumes nothing.
 use mathlib.Core.Path.{_≡_, refl, sym, ap, ap₂, _∙_}
-use mathlib.Core.Bool.{Bool, true, false, not, _&&_, cond, true≢false}
+use mathlib.Core.Bool.{Bool, true, false, not, _&&_, cond}
 use mathlib.Core.List.{List}
 use Prim.Native.Nat.{ℕ, _+_, _*_, _-_, _/_, _%_, _≤_, _<_}
 use native.Mathlib.Nat.{add-mul, mul-comm, mul-assoc, div-add-mod'}
@@ -8,22 +8,11 @@ use native.Mathlib.Omega.{arith}
 use borrow.Author.Tests.{not-true, not-false, leb-true, leb-false, le-leb, lt-leb}
 use lib.Dec.{leb}
 use lib.ListN.{length, take, drop}
+use Rattle.tables.proofs.Booleans.{and-left, and-right, and-false, both-and}
 use Rattle.bits.specs.Bits.{number, fields, split, bytesOf, bytesFor, overAt}
 use Rattle.bits.specs.Packing.{fits, packed, packedOut, unpacked, unpackedOut, numberAt}
 use Rattle.bits.specs.declared.packing.Packed.the-variants as P
 use Rattle.bits.specs.declared.packing.Number.the-variants as N
-
-and-left : (a b : Bool) → (a && b) ≡ true → a ≡ true
-and-left true b e = refl
-and-left false b e = absurd (true≢false (sym e))
-
-and-right : (a b : Bool) → (a && b) ≡ true → b ≡ true
-and-right true b e = e
-and-right false b e = absurd (true≢false (sym e))
-
-and-false : (a : Bool) → (a && false) ≡ false
-and-false true = refl
-and-false false = refl
 
 -- ---- a test that the code told, after `if !told`
 
@@ -42,7 +31,7 @@ module _ (widest w n at room : ℕ) where
   fits-room e = leb-true (at + bytesFor (n * w)) room (and-right (leb w widest) (leb (at + bytesFor (n * w)) room) e)
 
   pub fits-within : w ≤ widest → at + bytesFor (n * w) ≤ room → fits widest w n at room ≡ true
-  fits-within h l = ap₂ (λ (x y : Bool). x && y) (le-leb w widest h) (le-leb (at + bytesFor (n * w)) room l)
+  fits-within h l = both-and (leb w widest) (leb (at + bytesFor (n * w)) room) (le-leb w widest h) (le-leb (at + bytesFor (n * w)) room l)
 
   pub fits-wide : widest < w → fits widest w n at room ≡ false
   fits-wide h = ap (λ (x : Bool). x && leb (at + bytesFor (n * w)) room) (lt-leb w widest h)

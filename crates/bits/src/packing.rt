@@ -105,10 +105,7 @@ fn has_room(widest: u32, width: u32, count: usize, at: usize, room: usize) -> bo
     requires { ⌜ (widest ≤ 64) × (count / 8 * widest < 2 ^ 63) ⌝ }
     ensures { λ r. ⌜ r ≡ fits widest width count at room ⌝ }
 {
-    if widest < width {
-        return false;
-    }
-    if room < at {
+    if widest < width || room < at {
         return false;
     }
     let wide = width as usize;

@@ -6,12 +6,12 @@ use mathlib.Core.List.{List, [], _∷_, _++_, map}
 use lib.Dec.{leb, ltb}
 use lib.ListN.{length, getD, set, replicate}
 use Rattle.bits.specs.Bits.{digit, over}
-use Rattle.parts.specs.Parts.{known}
-use Rattle.parts.specs.Refusals.{Row, _when_, first, content}
+use Rattle.parts.specs.Parts.{known, isCount}
+use Rattle.tables.specs.Refusals.{Row, _when_, first, content}
 use Rattle.device.specs.Step.{freshDevice, bounded, faulted}
-use Rattle.parts.specs.Lists.{allBelow}
+use Rattle.tables.specs.Lists.{allBelow}
 use Rattle.device.specs.declared.device.Device.{Device}
-use Rattle.calls.specs.Chain.{through, allKnown, sameParts, allFit, isCount, blank}
+use Rattle.calls.specs.Chain.{through, allKnown, sameParts, allFit, blank}
 
 -- a lent chain is judged by its records: parts under 1 and 4, count under 2
 abbrev pub chainRows : List Device → List Row

@@ -1,14 +1,15 @@
 -- A lent chain: a list of device records, device 1 first. What line states do to it, device by device, and the tests by which its records
 -- are judged. Document 01, "One device, clock by clock" and "Refusal numbers".
 use Prim.Native.Nat.{ℕ}
-use mathlib.Core.Bool.{Bool, true, _&&_}
+use mathlib.Core.Bool.{Bool, true}
 use mathlib.Core.List.{List, [], _∷_}
-use lib.Dec.{eqb, leb}
+use lib.Dec.{eqb}
 use Rattle.parts.specs.Parts.{known}
 use Rattle.device.specs.Step.{freshDevice}
 use Rattle.device.specs.Judgement.{fits}
 use Rattle.device.specs.Run.{run}
 use Rattle.device.specs.declared.device.Device.{Device}
+use Rattle.tables.specs.Lists.{every}
 
 -- the devices after line states, and what the last one sent: each device takes all that the one before it sent
 unfoldable pub through : List Device → List ℕ → List Device × List ℕ
@@ -17,11 +18,6 @@ through (d ∷ ds) ss =
     let one : Device × List ℕ = run d ss in
     let rest : List Device × List ℕ = through ds (one .1) in
     (one .0 ∷ rest .0, rest .1)
-
--- each passes a test
-abbrev pub every : {A : Type 0} → (A → Bool) → List A → Bool
-every f [] = true
-every f (x ∷ xs) = f x && every f xs
 
 -- a record is of a part
 abbrev pub hasPart : ℕ → Device → Bool
@@ -39,10 +35,6 @@ sameParts (d ∷ ds) = every (hasPart (d .registers .part)) ds
 -- each record holds only what it can
 abbrev pub allFit : List Device → Bool
 allFit ds = every fits ds
-
--- N is 1 to 1023
-abbrev pub isCount : ℕ → Bool
-isCount n = leb 1 n && leb n 1023
 
 -- stands where a list has no device
 abbrev pub blank : Device

@@ -6,8 +6,8 @@ use mathlib.Core.Bool.{Bool, true}
 use mathlib.Core.List.{List, [], _∷_, _++_}
 use mathlib.Core.Logic.{_⊎_}
 use lib.ListN.{length, take}
-use Rattle.parts.specs.Lists.{allBelow}
-use Rattle.parts.specs.Refusals.{Row, content}
+use Rattle.tables.specs.Lists.{allBelow}
+use Rattle.tables.specs.Refusals.{Row, content}
 use Rattle.device.specs.declared.device.Device.{Device}
 use Rattle.calls.specs.Calls.{freshTable, runTable, boundaryTable, faultTable, freshRefusal, runRefusal, boundaryRefusal, faultRefusal}
 use Rattle.calls.specs.Calls.{freshDevices, freshAfter, runDevices, runAfter, runRoom, returned, boundaryDevices, boundaryAfter, faultDevices, faultAfter}

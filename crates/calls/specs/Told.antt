@@ -6,8 +6,8 @@ use mathlib.Core.Bool.{Bool, false, not, _&&_, cond}
 use mathlib.Core.List.{List, [], _∷_}
 use lib.Dec.{eqb, leb, ltb}
 use lib.ListN.{length}
-use Rattle.parts.specs.Lists.{allBelow}
-use Rattle.parts.specs.Refusals.{Row, _when_}
+use Rattle.tables.specs.Lists.{allBelow}
+use Rattle.tables.specs.Refusals.{Row, _when_}
 use Rattle.device.specs.declared.registers.Registers.{Registers}
 use Rattle.device.specs.declared.device.Device.{Device}
 use Rattle.calls.specs.Calls.{freshTable, roomFor}

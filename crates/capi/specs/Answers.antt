@@ -4,7 +4,7 @@ use mathlib.Core.Bool.{not}
 use mathlib.Core.List.{List, [], _∷_}
 use lib.IntN.{pos}
 use Rattle.bits.specs.Bits.{digit}
-use Rattle.parts.specs.Refusals.{Row, _when_, first, answer}
+use Rattle.tables.specs.Refusals.{Row, _when_, first, answer}
 use Rattle.parts.specs.Parts.{known, code, commandAt}
 use Rattle.bits.specs.declared.packing.Packed.{Packed}
 use Rattle.bits.specs.declared.packing.Packed.the-variants as P

@@ -1,6 +1,6 @@
 // One device, by value.
 ghost use mathlib.Core.Path.{_≡_};
-ghost use Rattle.parts.specs.Refusals.{first};
+ghost use Rattle.tables.specs.Refusals.{first};
 ghost use Rattle.device.specs.Judgement.{judgement, stepAnswer};
 ghost use Rattle.capi.specs.Answers.{numbers, ofSent, ofStep};
 use device::Device;

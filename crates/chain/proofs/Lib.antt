@@ -1,6 +1,2 @@
 -- Walks over a lent chain of records: what a walk cites, and the laws of a loop over its elements.
-pub mod Lent
-pub mod Dev
-pub mod Walk
 pub mod Sweep
-pub mod Judges

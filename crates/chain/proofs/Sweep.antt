@@ -10,14 +10,14 @@ use lib.ListN.{length, getD, set, replicate, length-set, length-map}
 use lib.Seq.{set-at, getD-at}
 use borrow.Author.Tests.{lt-ltb, le-ltb, leb-true, eqb-true}
 use Rattle.bits.specs.Bits.{digit}
-use Rattle.parts.specs.Refusals.{first, content}
-use Rattle.parts.proofs.Rows.{clear}
+use Rattle.tables.specs.Refusals.{first, content}
+use Rattle.tables.proofs.Rows.{clear}
 use Rattle.device.specs.Step.{freshDevice, bounded, faulted}
 use Rattle.device.specs.declared.device.Device.{Device}
 use Rattle.calls.specs.Chain.{allFit, blank}
 use Rattle.calls.specs.Calls.{freshRefusal, freshAfter, boundaryRefusal, boundaryAfter, faultTable, faultRefusal, faultAfter}
-use Rattle.turns.specs.declared.judging.Span.{Span}
-use Rattle.turns.specs.Judging.{span}
+use Rattle.calls.specs.declared.changes.Span.{Span}
+use Rattle.calls.specs.Changes.{span}
 
 unfoldable pub sweep : (Device → Device) → ℕ → ℕ → List Device → List Device
 sweep f from zero xs = xs

@@ -1,14 +1,12 @@
 // The four calls on a lent chain of device records, changed in place, for C and Rust. Each function here walks the records; what it does
-// with one of them is by value, in the crates device and turns.
+// with one of them is by value, in the crates device, calls and turns.
 ghost use mathlib.Core.Path.{_≡_};
 ghost use mathlib.Core.Bool.{not};
 ghost use lib.Dec.{eqb};
 ghost use lib.ListN.{length};
 ghost use Rattle.calls.specs.Calls.{freshRefusal, freshAfter, runAfter, runRoom, boundaryRefusal, boundaryAfter, faultRefusal, faultAfter};
 ghost use Rattle.turns.specs.Answer.{runAnswer};
-ghost use Rattle.turns.specs.Judging.{unjudged, judgedFrom};
 use device::Device;
-use turns::Judged;
 use turns::Ran;
 
 // Makes a chain fresh: told the part, it takes the records whatever they hold. The refusal's number, or 0.
@@ -16,7 +14,7 @@ use turns::Ran;
 pub extern "C" fn bb_fresh(chain: &mut [Device], part: u16) -> u8
     ensures { λ r. ⌜ (r ≡ freshRefusal part (length (now (chain .entry)))) × (now (chain .exit) ≡ freshAfter part (now (chain .entry))) ⌝ }
 {
-    let span = turns::fresh_span(part, chain.len());
+    let span = calls::fresh_span(part, chain.len());
     let device = Device::fresh(part);
     let mut i = span.from;
     while i < span.to {
@@ -32,7 +30,7 @@ pub extern "C" fn bb_fresh(chain: &mut [Device], part: u16) -> u8
 pub extern "C" fn bb_run(chain: &mut [Device], states: &[u8], returned: &mut [u8]) -> Ran
     ensures { λ r. ⌜ (r ≡ runAnswer (now (chain .entry)) (now (states .entry)) (length (now (returned .entry)))) × (now (chain .exit) ≡ runAfter (now (chain .entry)) (now (states .entry)) (length (now (returned .entry)))) × (now (returned .exit) ≡ runRoom (now (chain .entry)) (now (states .entry)) (now (returned .entry))) ⌝ }
 {
-    let judged = judge(chain);
+    let judged = calls::judge(chain);
     let entry = turns::enter(judged, chain.len(), states, returned.len());
     let mut cursor = entry.cursor;
     while cursor.going {
@@ -50,8 +48,8 @@ pub extern "C" fn bb_run(chain: &mut [Device], states: &[u8], returned: &mut [u8
 pub extern "C" fn bb_boundary(chain: &mut [Device]) -> u8
     ensures { λ r. ⌜ (r ≡ boundaryRefusal (now (chain .entry))) × (now (chain .exit) ≡ boundaryAfter (now (chain .entry))) ⌝ }
 {
-    let judged = judge(chain);
-    let span = turns::boundary_span(judged, chain.len());
+    let judged = calls::judge(chain);
+    let span = calls::boundary_span(judged, chain.len());
     let mut i = span.from;
     while i < span.to {
         chain[i] = chain[i].boundary();
@@ -66,25 +64,12 @@ pub extern "C" fn bb_boundary(chain: &mut [Device]) -> u8
 pub extern "C" fn bb_set_fault(chain: &mut [Device], device: usize, kind: u8, flag: u8) -> u8
     ensures { λ r. ⌜ (r ≡ faultRefusal (now (chain .entry)) device kind) × (now (chain .exit) ≡ faultAfter (now (chain .entry)) device kind (not (eqb flag 0))) ⌝ }
 {
-    let judged = judge(chain);
-    let span = turns::fault_span(judged, chain.len(), device, kind);
+    let judged = calls::judge(chain);
+    let span = calls::fault_span(judged, chain.len(), device, kind);
     let mut i = span.from;
     while i < span.to {
-        chain[i] = turns::with_fault(chain[i], kind, flag);
+        chain[i] = calls::with_fault(chain[i], kind, flag);
         i += 1;
     }
     span.refusal
-}
-
-// Each record is judged, once for each call.
-pub fn judge(chain: &[Device]) -> Judged
-    ensures { λ r. ⌜ r ≡ judgedFrom unjudged (now (chain .entry)) ⌝ }
-{
-    let mut judged = turns::judge_none();
-    let mut i: usize = 0;
-    while i < chain.len() {
-        judged = turns::judge_one(judged, chain[i]);
-        i += 1;
-    }
-    judged
 }

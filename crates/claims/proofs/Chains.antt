@@ -6,12 +6,12 @@ use mathlib.Core.List.{List, [], _∷_}
 use Prim.Native.Nat.{ℕ}
 use lib.ListN.{length}
 use borrow.Author.Tests.{not-false, ltb-false}
-use Rattle.parts.specs.Lists.{allBelow}
-use Rattle.parts.specs.Refusals.{first}
-use Rattle.parts.proofs.Rows.{clear}
+use Rattle.tables.specs.Lists.{allBelow}
+use Rattle.tables.specs.Refusals.{first}
+use Rattle.tables.proofs.Rows.{clear}
 use Rattle.device.specs.Judgement.{fits}
 use Rattle.device.specs.declared.device.Device.{Device}
-use Rattle.device.proofs.Places.{and-both}
+use Rattle.tables.proofs.Booleans.{and-both}
 use Rattle.calls.specs.Chain.{allFit}
 use Rattle.calls.specs.Calls.{runTable, runRefusal, roomFor}
 use Rattle.calls.specs.History.{Call, fresh, refusalOf, after, afterCalls}

@@ -10,11 +10,11 @@ use lib.Seq.{drop-at}
 use lib.ListN.{drop, length, length-map, take, getD}
 use borrow.Author.Tests.{le-ltb}
 use Rattle.bits.specs.Bits.{bytesOf}
-use Rattle.parts.specs.Lists.{allBelow}
+use Rattle.tables.specs.Lists.{allBelow}
 use Rattle.parts.specs.Parts.{partOf}
-use Rattle.parts.specs.Refusals.{first}
+use Rattle.tables.specs.Refusals.{first}
 use Rattle.parts.specs.Wire.{Line, low, high, lows, lineOf, stateOf, dataBit, returnOf}
-use Rattle.parts.proofs.Rows.{clear, none}
+use Rattle.tables.proofs.Rows.{clear, none}
 use Rattle.parts.specs.declared.command.Command.{Command}
 use Rattle.parts.specs.declared.command.Command.the-variants.{Individual}
 use Rattle.line.specs.States.{dataBits}

@@ -8,15 +8,15 @@ use native.Mathlib.Omega.{arith}
 use lib.Dec.{ltb}
 use lib.ListN.{length}
 use borrow.Author.Tests.{eq-eqb, le-leb, not-false}
-use Rattle.parts.specs.Lists.{allBelow}
+use Rattle.tables.specs.Lists.{allBelow, every}
 use Rattle.parts.specs.Parts.{known, partOf, limit, subframes}
 use Rattle.parts.specs.declared.command.Command.{Command}
 use Rattle.parts.specs.declared.command.Command.the-variants.{Individual, Global}
-use Rattle.parts.proofs.Rows.{none}
+use Rattle.tables.proofs.Rows.{none}
 use Rattle.frames.specs.declared.told.Tail.{Tail}
 use Rattle.device.specs.Judgement.{fits}
 use Rattle.device.specs.declared.device.Device.{Device}
-use Rattle.calls.specs.Chain.{every, hasPart}
+use Rattle.calls.specs.Chain.{hasPart}
 use Rattle.calls.specs.History.{Call, boundary, afterCalls}
 use Rattle.model.specs.Lists.{All}
 use Rattle.model.specs.Set.{Set}

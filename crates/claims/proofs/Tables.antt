@@ -8,8 +8,8 @@ use lib.Dec.{eqb, ltb}
 use lib.ListN.{length}
 use borrow.Author.Tests.{eqb-true, eqb-false, eq-eqb, ne-eqb}
 use Rattle.bits.specs.Bits.{over}
-use Rattle.parts.specs.Refusals.{Row, first, Lowest, answer, content}
-use Rattle.parts.proofs.Rows as rows
+use Rattle.tables.specs.Refusals.{Row, first, Lowest, answer, content}
+use Rattle.tables.proofs.Rows as rows
 use Rattle.parts.specs.declared.command.Command.{Command}
 use Rattle.parts.specs.declared.command.Command.the-variants.{Individual, Calibration, Global, Configuration}
 use Rattle.line.specs.States.{frameRows, clockedAnswer, clockedOut, stateRows, packedAnswer, packedOut}

@@ -12,7 +12,7 @@ use lib.ListN.{length, take, getD}
 use lib.Signed.{_<ℤ_}
 use Rattle.bits.specs.Bits.{digit, fields, bytesOf, bytesFor, over}
 use Rattle.parts.specs.Parts.{Part, partOf, subframes}
-use Rattle.parts.specs.Refusals.{first}
+use Rattle.tables.specs.Refusals.{first}
 use Rattle.parts.specs.Wire.{Line, lineOf, stateOf, lows}
 use Rattle.parts.specs.declared.command.Command.{Command}
 use Rattle.parts.specs.declared.command.Command.the-variants.{Individual}

@@ -3,7 +3,7 @@
 use Prim.Native.Nat.{ℕ}
 use mathlib.Core.Path.{_≡_}
 use mathlib.Core.List.{List}
-use Rattle.parts.specs.Refusals.{Row, Applies, Lowest}
+use Rattle.tables.specs.Refusals.{Row, Applies, Lowest}
 use Rattle.line.specs.declared.states.Line.{Line}
 use Rattle.line.specs.declared.states.Line.the-variants as L
 use Rattle.frames.specs.declared.told.Written.{Written}

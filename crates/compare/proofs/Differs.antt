@@ -1,10 +1,12 @@
 -- Where two lists first differ, found from the front: by the numbers at the next place, they differ there or one place further on is left
 -- to look at. The same of two lists in turns, two places at a time. Assumes nothing.
 use mathlib.Core.Path.{_≡_, ap, _∙_}
+use mathlib.Core.Bool.{Bool, true, false, _&&_, cond}
 use mathlib.Core.List.{List, _∷_}
 use Prim.Native.Nat.{ℕ, suc, _+_, _<_, _≤_}
 use native.Mathlib.Numerals.{add-one}
 use native.Mathlib.Omega.{arith}
+use lib.Dec.{eqb, eqb·zero-suc, eqb·suc-suc}
 use lib.ListN.{length, getD, drop, drop-of-length-le}
 use lib.Seq.{drop-cons}
 use borrow.Author.Tests.{eq-eqb, ne-eqb}
@@ -31,26 +33,41 @@ module _ (xs ys : List ℕ) (i : ℕ) (h : i < length xs) (k : i < length ys) wh
 abbrev pub turnsLeft : List ℕ → List ℕ → List ℕ → ℕ → ℕ
 turnsLeft vs xs ys i = differsAt (drop (i + i) vs) (inTurns (drop i xs) (drop i ys))
 
-module _ (vs xs ys : List ℕ) (i : ℕ) (l : i + i + 1 < length vs) (h : i < length xs) (k : i < length ys) where
-  both : turnsLeft vs xs ys i
-      ≡ differsAt (getD vs (i + i) 0 ∷ getD vs (i + i + 1) 0 ∷ drop (i + i + 1 + 1) vs) (getD xs i 0 ∷ getD ys i 0 ∷ inTurns (drop (suc i) xs) (drop (suc i) ys))
-  unfolding inTurns
-  both =
-      let one : drop (i + i) vs ≡ getD vs (i + i) 0 ∷ drop (i + i + 1) vs = rw (add-one (i + i), drop-cons vs (i + i) 0 (omega arith)) in
-      let two : drop (i + i + 1) vs ≡ getD vs (i + i + 1) 0 ∷ drop (i + i + 1 + 1) vs = rw (add-one (i + i + 1), drop-cons vs (i + i + 1) 0 l) in
-      ap (λ (r : List ℕ). differsAt r (inTurns (drop i xs) (drop i ys))) (one ∙ ap (λ (r : List ℕ). getD vs (i + i) 0 ∷ r) two)
-      ∙ rw (drop-cons xs i 0, drop-cons ys i 0)
+-- the next two places stand in their lists
+pub record Turn (vs xs ys : List ℕ) (i : ℕ) : Type 0 where
+  pub values : i + i + 1 < length vs
+  pub mux0 : i < length xs
+  pub mux1 : i < length ys
+
+module _ {vs xs ys : List ℕ} {i : ℕ} (t : Turn vs xs ys i) where
+  abbrev first : Bool
+  first = eqb (getD vs (i + i) 0) (getD xs i 0)
+
+  abbrev second : Bool
+  second = eqb (getD vs (i + i + 1) 0) (getD ys i 0)
+
+  turns-step : turnsLeft vs xs ys i ≡ cond first (suc (cond second (suc (turnsLeft vs xs ys (i + 1))) 0)) 0
+  unfolding differsAt inTurns
+  turns-step =
+      let one : drop (i + i) vs ≡ getD vs (i + i) 0 ∷ drop (i + i + 1) vs = rw (add-one (i + i), drop-cons vs (i + i) 0 (omega (arith, t .values))) in
+      let two : drop (i + i + 1) vs ≡ getD vs (i + i + 1) 0 ∷ drop (i + i + 1 + 1) vs = rw (add-one (i + i + 1), drop-cons vs (i + i + 1) 0 (t .values)) in
+      let n : i + i + 1 + 1 ≡ (i + 1) + (i + 1) = omega arith in
+      rw (one, two, drop-cons xs i 0 (t .mux0), drop-cons ys i 0 (t .mux1), n, add-one i)
 
   pub turns-first : (getD vs (i + i) 0 ≡ getD xs i 0 → ⊥) → turnsLeft vs xs ys i ≡ 0
-  unfolding differsAt
-  turns-first n = both ∙ rw (ne-eqb (getD vs (i + i) 0) (getD xs i 0) n)
+  turns-first n = turns-step ∙ rw (ne-eqb _ _ n)
 
   pub turns-second : getD vs (i + i) 0 ≡ getD xs i 0 → (getD vs (i + i + 1) 0 ≡ getD ys i 0 → ⊥) → turnsLeft vs xs ys i ≡ 1
-  unfolding differsAt
-  turns-second e n = both ∙ rw (eq-eqb (getD vs (i + i) 0) (getD xs i 0) e, ne-eqb (getD vs (i + i + 1) 0) (getD ys i 0) n)
+  turns-second e n = turns-step ∙ rw (eq-eqb _ _ e, ne-eqb _ _ n)
 
   pub turns-next : getD vs (i + i) 0 ≡ getD xs i 0 → getD vs (i + i + 1) 0 ≡ getD ys i 0 → turnsLeft vs xs ys i ≡ suc (suc (turnsLeft vs xs ys (i + 1)))
-  unfolding differsAt
-  turns-next e f =
-      let n : i + i + 1 + 1 ≡ (i + 1) + (i + 1) = omega arith in
-      both ∙ rw (eq-eqb (getD vs (i + i) 0) (getD xs i 0) e, eq-eqb (getD vs (i + i + 1) 0) (getD ys i 0) f, n, add-one i)
+  turns-next e f = turns-step ∙ rw (eq-eqb _ _ e, eq-eqb _ _ f)
+
+  -- these two and n more are the same: these are, and the n are
+  pub turns-same : (n : ℕ) → eqb (turnsLeft vs xs ys i) (suc (suc n)) ≡ (first && (second && eqb (turnsLeft vs xs ys (i + 1)) n))
+  turns-same n = ap (λ (m : ℕ). eqb m (suc (suc n))) turns-step ∙ go first second (turnsLeft vs xs ys (i + 1))
+    where
+      go : (a b : Bool) (m : ℕ) → eqb (cond a (suc (cond b (suc m) 0)) 0) (suc (suc n)) ≡ (a && (b && eqb m n))
+      go true true m = eqb·suc-suc (suc m) (suc n) ∙ eqb·suc-suc m n
+      go true false m = eqb·suc-suc 0 (suc n) ∙ eqb·zero-suc n
+      go false b m = eqb·zero-suc (suc n)

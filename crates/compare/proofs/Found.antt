@@ -11,15 +11,16 @@ use lib.Dec.{eqb, ltb}
 use lib.ListN.{length, getD, take, drop}
 use lib.Seq.{drop-cons, drop-drop}
 use borrow.Author.Tests.{ltb-true, ltb-false, leb-true, eqb-true, ne-eqb, not-false}
-use Rattle.parts.specs.Parts.{Part, partOf, multiplex, sliceFields}
-use Rattle.parts.specs.Refusals.{answer}
+use Rattle.parts.specs.Parts.{Part, partOf, multiplex, sliceFields, isCount}
+use Rattle.tables.specs.Refusals.{answer}
 use Rattle.parts.specs.declared.command.Command.the-variants.{Individual}
 use Rattle.parts.proofs.Laws.{banks-three}
-use Rattle.parts.proofs.Rows.{clear, and-left, and-right}
+use Rattle.tables.proofs.Booleans.{and-left, and-right}
+use Rattle.tables.proofs.Rows.{clear}
 use Rattle.device.specs.declared.device.Device.{Device}
-use Rattle.calls.specs.Chain.{blank, isCount}
+use Rattle.calls.specs.Chain.{blank}
 use Rattle.model.specs.Set.{Set, Own, deal, owned}
-use Rattle.turns.specs.Judging.{unjudged, judgedFrom}
+use Rattle.calls.specs.Judging.{unjudged, judgedFrom}
 use Rattle.compare.specs.declared.compared.Compared.{Compared}
 use Rattle.compare.specs.declared.compared.Given.{Given}
 use Rattle.compare.specs.declared.search.Search.{Search}

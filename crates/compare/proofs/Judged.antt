@@ -8,13 +8,15 @@ use lib.Dec.{eqb}
 use lib.ListN.{length}
 use borrow.Author.Tests.{eqb-true}
 use Rattle.parts.specs.Parts as Parts
-use Rattle.parts.specs.Refusals.{first}
-use Rattle.parts.proofs.Tests.{and-true, and-false}
+use Rattle.tables.specs.Refusals.{first}
+use Rattle.tables.proofs.Booleans.{and-true, and-false}
 use Rattle.device.specs.declared.device.Device.{Device}
-use Rattle.calls.specs.Chain.{every, hasPart, isCount, allKnown}
-use Rattle.turns.specs.declared.judging.Judged.{Judged}
-use Rattle.turns.specs.Judging.{unjudged, judgedWith, judgedFrom}
-use Rattle.turns.proofs.Judged.{known-found, fits-found, same-found}
+use Rattle.calls.specs.Chain.{hasPart, allKnown}
+use Rattle.parts.specs.Parts.{isCount}
+use Rattle.tables.specs.Lists.{every}
+use Rattle.calls.specs.declared.judging.Judged.{Judged}
+use Rattle.calls.specs.Judging.{unjudged, judgedWith, judgedFrom}
+use Rattle.calls.proofs.Judged.{known-found, fits-found, same-found}
 use Rattle.compare.specs.declared.compared.Given.{Given}
 use Rattle.compare.specs.Compare.{rowsOf, lengthsFit, valuesFit, sameChain, compareRefusal}
 use Rattle.compare.specs.Search.{setBy, chainFits, rowsBy}

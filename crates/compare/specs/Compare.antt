@@ -6,12 +6,12 @@ use mathlib.Core.Bool.{Bool, not, _&&_, cond}
 use mathlib.Core.List.{List, [], _∷_}
 use lib.Dec.{eqb, ltb}
 use lib.ListN.{length}
-use Rattle.parts.specs.Parts.{partOf, known, multiplex, limit, subframes, sliceFields}
-use Rattle.parts.specs.Lists.{allBelow}
-use Rattle.parts.specs.Refusals.{Row, _when_, first, answer}
+use Rattle.parts.specs.Parts.{partOf, known, multiplex, limit, subframes, sliceFields, isCount}
+use Rattle.tables.specs.Lists.{allBelow, every}
+use Rattle.tables.specs.Refusals.{Row, _when_, first, answer}
 use Rattle.parts.specs.declared.command.Command.the-variants.{Individual, Calibration}
 use Rattle.device.specs.declared.device.Device.{Device}
-use Rattle.calls.specs.Chain.{every, hasPart, allKnown, allFit, isCount}
+use Rattle.calls.specs.Chain.{hasPart, allKnown, allFit}
 use Rattle.model.specs.Set.{Set, Own, owned}
 use Rattle.compare.specs.declared.compared.Compared.{Compared}
 

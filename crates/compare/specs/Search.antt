@@ -6,13 +6,12 @@ use mathlib.Core.Bool.{Bool, false, _&&_, cond}
 use mathlib.Core.List.{List}
 use lib.Dec.{eqb, ltb}
 use lib.ListN.{length, take, drop}
-use Rattle.parts.specs.Parts.{partOf, known, multiplex, sliceFields}
-use Rattle.parts.specs.Refusals.{Row, first}
+use Rattle.parts.specs.Parts.{partOf, known, multiplex, sliceFields, isCount}
+use Rattle.tables.specs.Refusals.{Row, first}
 use Rattle.parts.specs.declared.command.Command.the-variants.{Individual, Calibration}
 use Rattle.device.specs.declared.device.Device.{Device}
-use Rattle.calls.specs.Chain.{isCount}
 use Rattle.model.specs.Set.{Set, Own}
-use Rattle.turns.specs.declared.judging.Judged.{Judged}
+use Rattle.calls.specs.declared.judging.Judged.{Judged}
 use Rattle.compare.specs.declared.compared.Compared.{Compared}
 use Rattle.compare.specs.declared.compared.Given.{Given}
 use Rattle.compare.specs.declared.search.Search.{Search}

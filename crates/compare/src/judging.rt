@@ -4,12 +4,12 @@ ghost use mathlib.Core.Bool.{Bool, _&&_};
 ghost use Prim.Native.Nat.{_≤_};
 ghost use lib.Dec.{eqb};
 ghost use lib.ListN.{length};
-ghost use Rattle.parts.specs.Refusals.{first};
+ghost use Rattle.tables.specs.Refusals.{first};
 ghost use Rattle.compare.specs.Compare.{lengthsFit, valuesFit};
 ghost use Rattle.compare.specs.Search.{chainFits, rowsBy};
 use crate::compared::Given;
 use parts::Command;
-use turns::Judged;
+use calls::Judged;
 
 // The number under which a comparison is refused, or 0, by the set and by what was found in the records.
 pub fn refusal_of(
@@ -21,16 +21,13 @@ pub fn refusal_of(
 ) -> u8
     ensures { λ r. ⌜ r ≡ first (rowsBy given bytes (now (individual .entry)) judged count) ⌝ }
 {
-    if !turns::both(parts::is_known(given.part), judged.known) {
+    if !(parts::is_known(given.part) && judged.known) {
         return 1;
     }
-    if !turns::both(turns::is_count(given.devices), turns::is_count(count)) {
+    if !(parts::is_count(given.devices) && parts::is_count(count)) {
         return 2;
     }
-    if !turns::both(
-        lists_fit(given, bytes, individual.len()),
-        chain_fits(given, judged, count),
-    ) {
+    if !(lists_fit(given, bytes, individual.len()) && chain_fits(given, judged, count)) {
         return 4;
     }
     if !values_fit(given, individual) {
@@ -47,31 +44,20 @@ fn lists_fit(given: Given, bytes: usize, values: usize) -> bool
     let devices = given.devices;
     let banks = parts::slice_fields(Command::Calibration, given.part, 0) as usize;
     let fields = parts::slice_fields(Command::Individual, given.part, given.configuration) as usize;
-    if bytes == devices * banks {
-        values == devices * fields
-    } else {
-        false
-    }
+    bytes == devices * banks && values == devices * fields
 }
 
 // The chain has the set's number of devices, and its records are of the set's part.
 fn chain_fits(given: Given, judged: Judged, count: usize) -> bool
     ensures { λ r. ⌜ r ≡ chainFits given judged count ⌝ }
 {
-    if count == given.devices {
-        turns::both(judged.same, judged.part == given.part)
-    } else {
-        false
-    }
+    count == given.devices && judged.same && judged.part == given.part
 }
 
 // The global byte and the individual values are in range.
 fn values_fit(given: Given, individual: &[u16]) -> bool
     ensures { λ r. ⌜ r ≡ valuesFit (given .part) (given .configuration) (given .global) (now (individual .entry)) ⌝ }
 {
-    if (given.global as u16) < parts::subframes_of(given.part, given.configuration) {
-        parts::values_below(individual, parts::value_limit(given.part))
-    } else {
-        false
-    }
+    (given.global as u16) < parts::subframes_of(given.part, given.configuration)
+        && tables::values_below(individual, parts::value_limit(given.part))
 }

@@ -1,6 +1,7 @@
 // One device against its own part of the set.
 ghost use mathlib.Core.Path.{_≡_};
 ghost use Prim.Native.Nat.{_+_, _*_, _%_, _<_, _≤_};
+ghost use lib.Dec.{eqb};
 ghost use lib.ListN.{length};
 ghost use Rattle.compare.specs.Compare.{differsAt, inTurns, activeValues, inGroups, groups, compared, same};
 ghost use Rattle.compare.specs.Search.{Ready, ownAt};
@@ -47,9 +48,9 @@ fn differs(device: usize, group: u8, place: usize) -> Compared
     ensures { λ r. ⌜ r ≡ compared 0 device group place ⌝ }
 {
     Compared {
-        device: device,
+        device,
         place: place as u16,
-        group: group,
+        group,
         refusal: 0,
     }
 }
@@ -98,11 +99,15 @@ fn values_differ(values: &[u16], held: [u16; 24]) -> usize
     i
 }
 
-// The same of the 48 values of a multiplexed device: each output's MUX0 value and then its MUX1 value.
+// The same of the 48 values of a multiplexed device: each output's MUX0 value and then its MUX1 value. Where all are the same, one quick
+// pass says so.
 fn turns_differ(values: &[u16], mux0: [u16; 24], mux1: [u16; 24]) -> usize
     requires { ⌜ length (now values) ≡ 48 ⌝ }
     ensures { λ r. ⌜ r ≡ differsAt (now (values .entry)) (inTurns mux0 mux1) ⌝ }
 {
+    if turns_same(values, mux0, mux1) {
+        return 48;
+    }
     let mut i: usize = 0;
     while i < 24 {
         let even = i + i;
@@ -115,4 +120,25 @@ fn turns_differ(values: &[u16], mux0: [u16; 24], mux1: [u16; 24]) -> usize
         i += 1;
     }
     48
+}
+
+// All 48 are the same. No early end, so that the loop is vectorised.
+fn turns_same(values: &[u16], mux0: [u16; 24], mux1: [u16; 24]) -> bool
+    requires { ⌜ length (now values) ≡ 48 ⌝ }
+    ensures { λ r. ⌜ r ≡ eqb (differsAt (now (values .entry)) (inTurns mux0 mux1)) 48 ⌝ }
+{
+    let mut same = true;
+    let mut i: usize = 0;
+    while i < 24 {
+        let even = i + i;
+        let odd = even + 1;
+        if values[even] != mux0[i] {
+            same = false;
+        }
+        if values[odd] != mux1[i] {
+            same = false;
+        }
+        i += 1;
+    }
+    same
 }

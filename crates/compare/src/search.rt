@@ -5,9 +5,9 @@ ghost use lib.ListN.{length};
 ghost use Rattle.compare.specs.Search.{given, Ready, begun, begunUnder, lookedAt};
 use crate::compared::Compared;
 use crate::compared::Given;
+use calls::Judged;
 use device::Device;
 use parts::Command;
-use turns::Judged;
 
 pub struct Search {
     pub configuration: u8,
@@ -39,10 +39,10 @@ pub fn begin(
     ensures { λ r. ⌜ r ≡ begun (given part devices configuration global) bytes (now (individual .entry)) judged count ⌝ }
 {
     let given = Given {
-        part: part,
-        devices: devices,
-        configuration: configuration,
-        global: global,
+        part,
+        devices,
+        configuration,
+        global,
     };
     begin_under(
         crate::judging::refusal_of(given, bytes, individual, judged, count),
@@ -67,7 +67,7 @@ fn begin_under(refusal: u8, given: Given) -> Search
             device: 0,
             place: 0,
             group: 0,
-            refusal: refusal,
+            refusal,
         },
     }
 }
@@ -90,7 +90,7 @@ pub fn look(device: Device, search: Search, calibration: &[u8], individual: &[u1
             bytes: search.bytes + search.banks,
             values: search.values + search.fields,
             going: next < search.devices,
-            answer: answer,
+            answer,
         }
     } else {
         let mut last = search;

@@ -5,8 +5,8 @@ use mathlib.Core.Bool.{Bool, true, false, _&&_, not, cond}
 use mathlib.Core.List.{List, [], _∷_}
 use Prim.Native.Nat.{ℕ}
 use native.Mathlib.Omega.{arith}
-use Rattle.parts.specs.Refusals.{Row, _when_, first, Lowest}
-use Rattle.parts.proofs.Rows.{lowest}
+use Rattle.tables.specs.Refusals.{Row, _when_, first, Lowest}
+use Rattle.tables.proofs.Rows.{lowest}
 use Rattle.device.specs.Judgement.{judgement, stepRefusals}
 use Rattle.device.specs.declared.device.Device.{Device}
 

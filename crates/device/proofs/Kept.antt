@@ -10,7 +10,7 @@ use lib.Dec.{eqb, ltb, lit<}
 use lib.ListN.{getD, set, replicate}
 use borrow.Author.Tests.{lt-ltb, le-leb, ltb-true, leb-true}
 use Rattle.parts.specs.Parts.{partOf, multiplex, limit, fieldWidth, fieldLimit}
-use Rattle.parts.specs.Lists.{allBelow}
+use Rattle.tables.specs.Lists.{allBelow}
 use Rattle.parts.specs.declared.command.Command.{Command}
 use Rattle.parts.specs.declared.command.Command.the-variants.{Individual, Calibration, Global, Configuration}
 use Rattle.device.specs.Phases.{placeOf, phaseOf, pushed, windowOf, heard, rising, opened, opening, counting}
@@ -24,7 +24,8 @@ use Rattle.device.specs.declared.registers.Registers.{Registers}
 use Rattle.device.specs.declared.device.Device.{Device}
 use Rattle.device.specs.declared.device.Stepped.{Stepped}
 use Rattle.device.proofs.Fields.{limit-pos, field-limit-pos, field-limit-le, slice-bits-pos}
-use Rattle.device.proofs.Places.{and-both, both-and, cond-both, Small, phase-small, place-fits}
+use Rattle.device.proofs.Places.{Small, phase-small, place-fits}
+use Rattle.tables.proofs.Booleans.{and-both, both-and, cond-both}
 
 -- ---- lists of values
 

@@ -1,7 +1,6 @@
--- Phases and their numbers in the record: the round trip both ways, and that the numbers of a phase that fits fit. By cases on the phase.
--- First three laws of tests. Assumes nothing.
+-- Phases and their numbers in the record: the round trip both ways, and that the numbers of a phase that fits fit. By cases on the phase. Assumes nothing.
 use mathlib.Core.Path.{_≡_, refl, ap, sym, subst}
-use mathlib.Core.Bool.{Bool, true, false, _&&_, cond, true≢false}
+use mathlib.Core.Bool.{true, _&&_}
 use Prim.Native.Nat.{_<_}
 use native.Mathlib.Nat.{mod-lt, mod-eq-of-lt}
 use lib.Dec.{eqb, lit<}
@@ -13,22 +12,7 @@ use Rattle.device.specs.declared.phase.Phase.{Phase}
 use Rattle.device.specs.declared.phase.Phase.the-variants.{Hunting, Opening, Counting, Slice, Passing, Lost}
 use Rattle.device.specs.declared.phase.Place.{Place}
 use Rattle.device.specs.declared.registers.Registers.{Registers}
-
--- ---- tests
-
-pub and-both : (a b : Bool) → (a && b) ≡ true → (a ≡ true) × (b ≡ true)
-and-both true b h = (refl, h)
-and-both false b h = absurd (true≢false (sym h))
-
-pub both-and : (a b : Bool) → a ≡ true → b ≡ true → (a && b) ≡ true
-both-and a b p q = rw (p, q)
-
--- what holds of both ways of a test holds of what it chooses
-pub cond-both : {A : Type 0} (P : A → Type 0) (t : Bool) (a b : A) → (t ≡ true → P a) → (t ≡ false → P b) → P (cond t a b)
-cond-both P true a b p q = p refl
-cond-both P false a b p q = q refl
-
--- ---- places and phases
+use Rattle.tables.proofs.Booleans.{and-both, both-and, cond-both}
 
 -- a phase's numbers fit the types of the record's: only the window can be too large for its own
 abbrev pub Small : Phase → Type 0

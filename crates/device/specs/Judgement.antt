@@ -4,8 +4,8 @@ use mathlib.Core.Bool.{Bool, true, _&&_, not}
 use mathlib.Core.List.{List, [], _∷_}
 use lib.Dec.{eqb, ltb, leb}
 use Rattle.parts.specs.Parts.{partOf, known, limit}
-use Rattle.parts.specs.Lists.{allBelow}
-use Rattle.parts.specs.Refusals.{Row, _when_, first, answer}
+use Rattle.tables.specs.Lists.{allBelow}
+use Rattle.tables.specs.Refusals.{Row, _when_, first, answer}
 use Rattle.device.specs.Phases.{placeOf, phaseOf}
 use Rattle.device.specs.Step.{step, sliceLength}
 use Rattle.device.specs.declared.phase.Place.{Place}

@@ -1,8 +1,8 @@
 // The judgement of a record: 1 for its part, 13 where a number is out of range.
 ghost use mathlib.Core.Path.{_≡_};
 ghost use mathlib.Core.Bool.{Bool};
-ghost use Rattle.parts.specs.Lists.{allBelow};
-ghost use Rattle.parts.specs.Refusals.{first};
+ghost use Rattle.tables.specs.Lists.{allBelow};
+ghost use Rattle.tables.specs.Refusals.{first};
 ghost use Rattle.device.specs.Judgement.{phaseFits, samePlace, placeFits, flagsFit, pairBelow, valuesFit, fits, judgement};
 use crate::device::Device;
 use crate::phase::Phase;
@@ -133,7 +133,7 @@ fn pair_below(one: [u16; 24], other: [u16; 24], limit: u16) -> bool
 fn all24_below(values: [u16; 24], limit: u16) -> bool
     ensures { λ r. ⌜ r ≡ allBelow values limit ⌝ }
 {
-    parts::values_below(&values, limit)
+    tables::values_below(&values, limit)
 }
 
 // Each of 48 values is below a limit: they are judged as two lists of 24, by the loop that judges the others, which is vectorised.

@@ -6,9 +6,9 @@ use Prim.Native.Nat.{ℕ, _^_, _<_, _≤_}
 use native.Mathlib.Omega.{arith}
 use borrow.Author.Tests.{lt-ltb, le-ltb}
 use Rattle.bits.specs.Bits.{fields, bytesOf}
-use Rattle.parts.specs.Refusals.{first}
+use Rattle.tables.specs.Refusals.{first}
 use Rattle.parts.specs.Wire.{returnOf}
-use Rattle.parts.proofs.Rows as rows
+use Rattle.tables.proofs.Rows as rows
 use Rattle.parts.specs.declared.command.Command.{Command}
 use Rattle.frames.specs.Frames.{tailBits, toldRows}
 use Rattle.frames.specs.Returns.{countOf, returnTable, returnRefusal, returned}

@@ -10,10 +10,11 @@ use lib.ListN.{length, getD, drop, take, replicate}
 use borrow.Author.Tests.{le-ltb, eqb-true, ltb-true, not-false}
 use Rattle.bits.specs.Bits.{fields, over}
 use Rattle.bits.proofs.Laws as bit
-use Rattle.parts.specs.Lists.{allBelow}
-use Rattle.parts.specs.Refusals.{_when_, first, answer, content}
+use Rattle.tables.specs.Lists.{allBelow}
+use Rattle.tables.specs.Refusals.{_when_, first, answer, content}
 use Rattle.parts.specs.Parts.{partOf, limit, subframes, fieldWidth}
-use Rattle.parts.proofs.Rows as rows
+use Rattle.tables.proofs.Rows as rows
+use Rattle.tables.proofs.Booleans.{and-left, or-second, or-none}
 use Rattle.parts.specs.declared.command.Command.{Command}
 use Rattle.parts.specs.declared.command.Command.the-variants.{Individual, Calibration, Global, Configuration}
 use Rattle.frames.specs.Frames.{fieldCount, fieldBits, slicesBits, frameBits, frameOf, frameLength, allSame, tailHigh, toldRows}
@@ -93,8 +94,8 @@ module _ (t : Told) (tail : Tail) (byte : ℕ) (bytes values : List ℕ) (room :
               (
                 short,
                 (
-                  rows.or-second (ap (copyHigh t (t .command)) held ∙ given-low t (t .command) byte bytes values (writable .value))
-                      (tests.or-no (valueHigh t (t .command) byte values) (tailHigh tail) (clear .1 .1 .1 .1 .1 .0) .1),
+                  or-second (ap (copyHigh t (t .command)) held ∙ given-low t (t .command) byte bytes values (writable .value))
+                      (or-none (valueHigh t (t .command) byte values) (tailHigh tail) (clear .1 .1 .1 .1 .1 .0) .1),
                   (
                     rows.agrees refl refl (packed.packed-sync (t .command) 0 bs tail (slicesBits t) long),
                     (
@@ -179,7 +180,7 @@ value-low t Global h l b e = ap not (first-below h l (not-false _ e)) where
   first-below : (s : List ℕ) → 0 < length s → allBelow s (subframes (partOf (t .part)) (t .configuration)) ≡ true
       → ltb (getD s 0 0) (subframes (partOf (t .part)) (t .configuration)) ≡ true
   first-below [] z f = absurd (omega arith)
-  first-below (x ∷ s) z f = rows.and-left _ _ f
+  first-below (x ∷ s) z f = and-left _ _ f
 value-low t Configuration h l b e = refl
 
 length-held : (t : Told) (fr : List ℕ) → length (heldFields t fr) ≡ fieldCount t
@@ -203,7 +204,7 @@ held-again t tail fr b v small taken room wide = (
           (
             le-ltb room (frameLength t tail) (omega (arith, long)),
             (
-              rows.or-second
+              or-second
                   (value-low t (t .command) h (omega (arith, len, some)) (bit.split-lt (fieldBits t) (fieldCount t) (drop 24 (fields 8 fr))) (six .0))
                   (six .1),
               tt,
@@ -232,7 +233,7 @@ held-again t tail fr b v small taken room wide = (
   long = is (c .1 .1 .1 .0)
 
   six : (copyHigh t (t .command) h ≡ false) × (tailHigh tail ≡ false)
-  six = tests.or-no (copyHigh t (t .command) h) (tailHigh tail) (d .0)
+  six = or-none (copyHigh t (t .command) h) (tailHigh tail) (d .0)
 
   len : length h ≡ fieldCount t
   len = length-held t fr

@@ -1,27 +1,27 @@
 -- What a call knows once no number of its table, or of the rows before, was given: the tests as facts, by name. Assumes nothing.
 use mathlib.Core.Path.{_≡_, refl, sym, _∙_}
-use mathlib.Core.Bool.{true, false, _&&_}
+use mathlib.Core.Bool.{true, false}
 use mathlib.Core.List.{List, _++_}
 use Prim.Native.Nat.{ℕ, _+_, _*_, _^_, _<_, _≤_}
 use native.Mathlib.Omega.{arith}
-use lib.Dec.{ltb}
 use lib.Pow.{pow-pos}
 use lib.ListN.{length, getD, length-replicate}
 use borrow.Author.Tests.{ltb-true, ltb-false, eqb-true, not-false}
 use Rattle.bits.specs.Bits.{bytesFor}
-use Rattle.parts.specs.Refusals.{first}
+use Rattle.tables.specs.Refusals.{first}
 use Rattle.parts.specs.Parts.{known, partOf, limit, fieldWidth}
 use Rattle.parts.specs.declared.command.Command.{Command}
 use Rattle.parts.specs.declared.command.Command.the-variants.{Individual, Calibration, Global, Configuration}
-use Rattle.parts.proofs.Rows as rows
-use Rattle.parts.proofs.Rows.{and-left, and-right}
+use Rattle.tables.proofs.Rows as rows
+use Rattle.tables.proofs.Booleans.{or-none}
+use Rattle.parts.proofs.Laws.{count-bounds}
 use Rattle.frames.specs.Frames.{fieldCount, frameLength, tailHigh, toldRows}
 use Rattle.frames.specs.Writing.{given, listWrong, valueHigh, writeRows, writeRefusal}
 use Rattle.frames.specs.Reading.{roomShort, lengthRows, bodyRows, readRefusal}
 use Rattle.frames.specs.Returns.{returnRows, returnRefusal}
 use Rattle.frames.specs.declared.told.Told.{Told}
 use Rattle.frames.specs.declared.told.Tail.{Tail}
-use Rattle.frames.proofs.Tests.{or-no, below-all, below-replicate}
+use Rattle.frames.proofs.Tests.{below-all, below-replicate}
 
 -- ---- rows 1 to 3
 
@@ -34,11 +34,11 @@ pub record Taken (part devices : ℕ) (tail : Tail) : Type 0 where
 module _ (part devices : ℕ) (tail : Tail) where
   pub taken : rows.Clear (toldRows part devices tail) → Taken part devices tail
   taken c =
-      let both : (ltb 0 devices && ltb devices 1024) ≡ true = not-false _ (c .1 .0) in
+      let count = count-bounds devices (not-false _ (c .1 .0)) in
       record {
         part-known = not-false _ (c .0);
-        some = ltb-true 0 devices (and-left (ltb 0 devices) (ltb devices 1024) both);
-        few = ltb-true devices 1024 (and-right (ltb 0 devices) (ltb devices 1024) both);
+        some = count .0;
+        few = omega (arith, count .1);
         short = ltb-false 64 (tail .length) (c .1 .1 .0);
       }
 
@@ -60,7 +60,7 @@ unfolding writeRefusal
 writable t tail byte bytes values room e =
     let c = rows.clear (toldRows (t .part) (t .devices) tail ++ writeRows t tail byte bytes values room) refl e in
     let d = c .1 .1 .1 in
-    let six = or-no (valueHigh t (t .command) byte values) (tailHigh tail) (d .1 .1 .0) in
+    let six = or-none (valueHigh t (t .command) byte values) (tailHigh tail) (d .1 .1 .0) in
     record {
       told = taken (t .part) (t .devices) tail (c .0, (c .1 .0, (c .1 .1 .0, tt)));
       list = d .0;

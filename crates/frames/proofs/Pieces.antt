@@ -10,7 +10,7 @@ use lib.Seq.{take-all, getD-drop, getD-take}
 use Rattle.bits.specs.Bits.{bits, number, fields, split, bytesOf, bytesFor, over, overAt}
 use Rattle.bits.proofs.Laws as bit
 use Rattle.parts.specs.Parts.{partOf, subframes}
-use Rattle.parts.specs.Lists.{allBelow}
+use Rattle.tables.specs.Lists.{allBelow}
 use Rattle.parts.specs.Wire.{commandCount, header, frame}
 use Rattle.parts.specs.declared.command.Command.{Command}
 use Rattle.parts.specs.declared.command.Command.the-variants.{Individual, Calibration, Global, Configuration}

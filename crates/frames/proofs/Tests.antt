@@ -1,6 +1,6 @@
 -- The laws of tests: of one number, of each number of a list, and of a tail's bits. Assumes nothing.
 use mathlib.Core.Path.{_≡_, refl, sym, ap, ap₂, _∙_}
-use mathlib.Core.Bool.{Bool, true, false, not, true≢false, _&&_, _||_}
+use mathlib.Core.Bool.{Bool, true, false, not, _&&_}
 use mathlib.Core.List.{List, [], _∷_}
 use Prim.Native.Nat.{ℕ, zero, suc, _+_, _*_, _/_, _^_, _<_, _≤_}
 use native.Mathlib.Nat.{div-lt-iff-lt-mul, div-eq-of-lt}
@@ -11,14 +11,10 @@ use lib.Pow.{pow-pos}
 use lib.ListN.{length, getD, drop, replicate, length-replicate, getD-replicate}
 use lib.Seq.{drop-cons}
 use borrow.Author.Tests.{le-leb, lt-leb, lt-ltb, le-ltb, ltb-true, ltb-false, eqb-true, eq-eqb}
-use Rattle.parts.specs.Lists.{allBelow}
-use Rattle.parts.proofs.Rows.{and-left, and-right}
+use Rattle.tables.specs.Lists.{allBelow}
+use Rattle.tables.proofs.Booleans.{and-left, and-right}
 use Rattle.frames.specs.Frames.{allSame, tailHigh}
 use Rattle.frames.specs.declared.told.Tail.{Tail}
-
-pub or-no : (a b : Bool) → (a || b) ≡ false → (a ≡ false) × (b ≡ false)
-or-no true b e = absurd (true≢false e)
-or-no false b e = (refl, e)
 
 pub leb-not : (a b : ℕ) → leb a b ≡ not (ltb b a)
 leb-not a b = at (ltb b a) refl where

@@ -7,8 +7,8 @@ use mathlib.Core.List.{List, [], _∷_}
 use lib.Dec.{eqb, ltb}
 use lib.ListN.{take, drop}
 use Rattle.bits.specs.Bits.{bits, number, fields, bytesOf, bytesFor}
-use Rattle.parts.specs.Refusals.{Row, _when_}
-use Rattle.parts.specs.Parts.{known, partOf, multiplex, code, fieldWidth, sliceFields}
+use Rattle.tables.specs.Refusals.{Row, _when_}
+use Rattle.parts.specs.Parts.{known, isCount, partOf, multiplex, code, fieldWidth, sliceFields}
 use Rattle.parts.specs.Wire.{frame}
 use Rattle.parts.specs.declared.command.Command.{Command}
 use Rattle.frames.specs.declared.told.Told.{Told}
@@ -65,7 +65,7 @@ field at n bs = number (take n (drop at bs))
 abbrev pub toldRows : ℕ → ℕ → Tail → List Row
 toldRows part devices tail =
     (1 when not (known part))
-    ∷ (2 when not (ltb 0 devices && ltb devices 1024))
+    ∷ (2 when not (isCount devices))
     ∷ (3 when ltb 64 (tail .length))
     ∷ []
 

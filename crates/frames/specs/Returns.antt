@@ -5,7 +5,7 @@ use mathlib.Core.List.{List, _∷_, _++_}
 use lib.Dec.{eqb, ltb}
 use lib.ListN.{length}
 use Rattle.bits.specs.Bits.{fields, bytesFor}
-use Rattle.parts.specs.Refusals.{Row, _when_, first, answer}
+use Rattle.tables.specs.Refusals.{Row, _when_, first, answer}
 use Rattle.parts.specs.declared.command.Command.{Command}
 use Rattle.frames.specs.Frames.{field, tailHigh, toldRows, headRows, endRows}
 use Rattle.frames.specs.declared.told.Tail.{Tail}

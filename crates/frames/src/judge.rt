@@ -3,7 +3,7 @@ ghost use mathlib.Core.Path.{_≡_};
 ghost use Prim.Native.Nat.{_+_, _*_, _<_, _≤_};
 ghost use lib.ListN.{length};
 ghost use Rattle.bits.specs.Bits.{fields, bytesFor};
-ghost use Rattle.parts.specs.Refusals.{first};
+ghost use Rattle.tables.specs.Refusals.{first};
 ghost use Rattle.frames.specs.Frames.{tailHigh, toldRows, headRows, endRows};
 use crate::take::field_at;
 use crate::told::Tail;
@@ -27,10 +27,7 @@ pub fn judge_told(part: u16, devices: usize, tail: Tail) -> u8
     if !parts::is_known(part) {
         return 1;
     }
-    if devices == 0 {
-        return 2;
-    }
-    if 1024 <= devices {
+    if !parts::is_count(devices) {
         return 2;
     }
     if 64 < tail.length {

@@ -2,7 +2,7 @@
 ghost use mathlib.Core.Path.{_≡_};
 ghost use Prim.Native.Nat.{_+_, _<_, _≤_};
 ghost use lib.ListN.{length, take, drop, getD};
-ghost use Rattle.parts.specs.Lists.{allBelow};
+ghost use Rattle.tables.specs.Lists.{allBelow};
 ghost use Rattle.frames.specs.Frames.{allSame};
 
 // Every byte is the given one. No early end, so that the loop is vectorised.
@@ -26,7 +26,7 @@ pub fn held_below(frame: &[u8], n: usize, limit: u8) -> bool
     ensures { λ r. ⌜ r ≡ allBelow (take n (drop 3 (now (frame .entry)))) limit ⌝ }
 {
     let end = 3 + n;
-    parts::bytes_below(&frame[3..end], limit)
+    tables::bytes_below(&frame[3..end], limit)
 }
 
 // The n bytes behind a frame's header are all as the first of them.

@@ -3,7 +3,7 @@ ghost use mathlib.Core.Path.{_≡_};
 ghost use mathlib.Core.Bool.{false};
 ghost use Prim.Native.Nat.{_+_, _*_, _<_, _≤_};
 ghost use lib.ListN.{length};
-ghost use Rattle.parts.specs.Refusals.{first};
+ghost use Rattle.tables.specs.Refusals.{first};
 ghost use Rattle.frames.specs.Frames.{fieldCount, slicesBits, frameLength};
 ghost use Rattle.frames.specs.Reading.{heldFields, roomShort, copyHigh, copiesDiffer, lengthRows, rangeRows, sliceRows, bodyRows, readRefusal, found, bytesFound, valuesFound, read, readBytes, readValues};
 use crate::judge::is_tail_high;

@@ -1,7 +1,7 @@
 // The return reader.
 ghost use mathlib.Core.Path.{_≡_};
 ghost use Prim.Native.Nat.{_≤_};
-ghost use Rattle.parts.specs.Refusals.{first};
+ghost use Rattle.tables.specs.Refusals.{first};
 ghost use Rattle.frames.specs.Returns.{returnRows, returnRefusal, returned};
 use crate::judge::is_tail_high;
 use crate::judge::judge_end;

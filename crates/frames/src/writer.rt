@@ -4,7 +4,7 @@ ghost use mathlib.Core.Bool.{false};
 ghost use Prim.Native.Nat.{_+_, _<_, _≤_};
 ghost use lib.ListN.{length};
 ghost use Rattle.bits.specs.Bits.{bytesFor, over, overAt};
-ghost use Rattle.parts.specs.Refusals.{first};
+ghost use Rattle.tables.specs.Refusals.{first};
 ghost use Rattle.frames.specs.Frames.{fieldCount, slicesBits, frameOf};
 ghost use Rattle.frames.specs.Writing.{settings, slicesOf, headerNumber, listWrong, valueHigh, writeRows, writeRefusal, written, writtenOut};
 use crate::judge::is_tail_high;
@@ -90,7 +90,7 @@ fn is_value_high(told: Told, byte: u8, values: &[u16]) -> bool
 {
     let command = told.command;
     match command {
-        Command::Individual => !parts::values_below(values, parts::value_limit(told.part)),
+        Command::Individual => !tables::values_below(values, parts::value_limit(told.part)),
         Command::Calibration => false,
         Command::Global => (byte as u16) >= parts::subframes_of(told.part, told.configuration),
         Command::Configuration => false, // any byte may be one

@@ -13,7 +13,8 @@ use borrow.Author.Tests.{le-ltb, lt-ltb}
 use Rattle.parts.specs.declared.command.Command.{Command}
 use Rattle.device.specs.Phases.{phaseOf, pushed, windowOf, heard, inHeader, headed, opened}
 use Rattle.device.specs.Step.{step, stepHigh, at, moved, sliceLength}
-use Rattle.device.proofs.Places.{Small, phase-place, phase-small, cond-both}
+use Rattle.device.proofs.Places.{Small, phase-place, phase-small}
+use Rattle.tables.proofs.Booleans.{cond-both}
 use Rattle.device.specs.declared.phase.Phase.{Phase}
 use Rattle.device.specs.declared.phase.Phase.the-variants.{Hunting, Opening, Counting, Slice, Passing, Lost}
 use Rattle.device.specs.declared.phase.Sent.the-variants.{Nothing}

@@ -17,7 +17,7 @@ use Rattle.parts.specs.declared.command.Command.the-variants.{Individual, Calib
 use Rattle.device.specs.Phases.{pushed}
 use Rattle.device.specs.Held.{withSlice, stored, fault, raised}
 use Rattle.device.specs.Step.{at, moved, sending, sliceLength}
-use Rattle.device.proofs.Places.{cond-both}
+use Rattle.tables.proofs.Booleans.{cond-both}
 use Rattle.device.proofs.Fields.{field-width-pos, field-width-le}
 use Rattle.device.specs.declared.phase.Phase.the-variants.{Slice, Passing}
 use Rattle.device.specs.declared.phase.Sent.the-variants.{Header}

@@ -7,8 +7,8 @@ use mathlib.Core.List.{List, [], _∷_, map}
 use lib.Dec.{eqb, ltb}
 use lib.ListN.{length, take, getD}
 use Rattle.bits.specs.Bits.{fields, bytesOf, bytesFor, over}
-use Rattle.parts.specs.Lists.{allBelow}
-use Rattle.parts.specs.Refusals.{Row, _when_, first, answer, content}
+use Rattle.tables.specs.Lists.{allBelow}
+use Rattle.tables.specs.Refusals.{Row, _when_, first, answer, content}
 use Rattle.parts.specs.Wire.{statesOf, lineOf, dataBit}
 use Rattle.line.specs.declared.states.Line.{Line}
 use Rattle.line.specs.declared.states.Line.the-variants as L

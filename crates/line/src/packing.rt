@@ -2,7 +2,7 @@
 ghost use mathlib.Core.Path.{_≡_};
 ghost use Prim.Native.Nat.{_+_, _*_, _<_, _≤_};
 ghost use lib.ListN.{length, getD};
-ghost use Rattle.parts.specs.Refusals.{first};
+ghost use Rattle.tables.specs.Refusals.{first};
 ghost use Rattle.bits.specs.Bits.{bytesOf, bytesFor, over};
 ghost use Rattle.line.specs.States.{stateRows, dataBits, digitAt, packedAnswer, packedOut};
 use crate::states::Line;
@@ -31,7 +31,7 @@ fn judge_states(states: &[u8], room: usize) -> u8
     if room < bytes_for(states.len()) {
         return 5;
     }
-    if !parts::bytes_below(states, 4) {
+    if !tables::bytes_below(states, 4) {
         return 13;
     }
     0

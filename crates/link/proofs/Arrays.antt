@@ -19,7 +19,7 @@ use Rattle.device.specs.declared.registers.Registers.{Registers}
 use Rattle.device.specs.declared.device.Device.{Device}
 use Rattle.device.specs.declared.device.Stepped.{Stepped}
 use Rattle.device.proofs.Lists.{length-strided}
-use Rattle.device.proofs.Places.{cond-both}
+use Rattle.tables.proofs.Booleans.{cond-both}
 use Rattle.calls.specs.History.{Call, fresh, boundary, fault, refusalOf, afterCalls}
 use Rattle.model.specs.Lists.{All}
 use Rattle.link.specs.View.{stepRecord, Arrays}

@@ -11,10 +11,10 @@ use lib.ListN.{length, length-map, getD, set, length-set, length-replicate, take
 use borrow.Author.Tests.{leb-true, le-leb, eq-eqb, eqb-true, eqb-false, ne-eqb, not-false}
 use Rattle.bits.specs.Bits.{digit, over}
 use Rattle.bits.proofs.Laws.{take-over}
-use Rattle.parts.specs.Lists.{allBelow}
-use Rattle.parts.specs.Parts.{known}
-use Rattle.parts.specs.Refusals.{first, content}
-use Rattle.parts.proofs.Rows.{clear}
+use Rattle.tables.specs.Lists.{allBelow, every}
+use Rattle.parts.specs.Parts.{known, isCount}
+use Rattle.tables.specs.Refusals.{first, content}
+use Rattle.tables.proofs.Rows.{clear}
 use Rattle.device.specs.Held.{showing, activated}
 use Rattle.device.specs.Phases.{phaseOf}
 use Rattle.device.specs.Step.{freshDevice, bounded, faulted}
@@ -23,9 +23,9 @@ use Rattle.device.specs.declared.phase.Phase.{Phase}
 use Rattle.device.specs.declared.phase.Phase.the-variants.{Hunting, Opening, Counting, Slice, Passing, Lost}
 use Rattle.device.specs.declared.registers.Registers.{Registers}
 use Rattle.device.specs.declared.device.Device.{Device}
-use Rattle.device.proofs.Places.{and-both, cond-both}
+use Rattle.tables.proofs.Booleans.{and-both, cond-both}
 use Rattle.device.proofs.Kept.{kept-bounded, kept-faulted, kept-fresh}
-use Rattle.calls.specs.Chain.{every, hasPart, allKnown, sameParts, allFit, isCount, blank}
+use Rattle.calls.specs.Chain.{hasPart, allKnown, sameParts, allFit, blank}
 use Rattle.calls.specs.Calls.{freshTable, freshRefusal, freshDevices, runRefusal, runDevices, returned, boundaryRefusal, boundaryDevices, faultRefusal, faultDevices}
 use Rattle.calls.specs.History.{Call, fresh, run, boundary, fault, refusalOf, effect, after, afterCalls, given, answered, fed, answers, Keeps, RunOrKeeps, Runs, FaultOrLow, Settles}
 use Rattle.calls.specs.Told.{partBy, partTold, ownTable}

@@ -24,7 +24,8 @@ use Rattle.device.specs.declared.phase.Sent.the-variants.{Nothing, One}
 use Rattle.device.specs.declared.registers.Registers.{Registers}
 use Rattle.device.specs.declared.device.Device.{Device}
 use Rattle.device.specs.declared.device.Stepped.{Stepped}
-use Rattle.device.proofs.Places.{and-both, cond-both, Small}
+use Rattle.device.proofs.Places.{Small}
+use Rattle.tables.proofs.Booleans.{and-both, cond-both}
 use Rattle.device.proofs.Kept.{Below, below-of, Good, phase-good, kept}
 use Rattle.model.specs.Lists.{All}
 use Rattle.calls.specs.Chain.{through}

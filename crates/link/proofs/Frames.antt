@@ -11,7 +11,7 @@ use lib.Seq.{take-at}
 use borrow.Author.Tests.{ltb-true, eqb-true, not-false}
 use Rattle.bits.specs.Bits.{fields, bytesOf, padded}
 use Rattle.bits.proofs.Laws.{bits-of-bytes}
-use Rattle.parts.specs.Lists.{allBelow}
+use Rattle.tables.specs.Lists.{allBelow}
 use Rattle.parts.specs.Parts.{partOf, limit, subframes, fieldWidth}
 use Rattle.parts.specs.Wire.{stateOf, statesOf, lows, frame, clocked}
 use Rattle.parts.specs.declared.command.Command.{Command}

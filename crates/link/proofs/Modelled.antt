@@ -9,10 +9,10 @@ use lib.ListN.{length, length-map, getD, set, replicate, List·getD-map}
 use borrow.Author.Tests.{eq-eqb, not-false}
 use Rattle.bits.specs.Bits.{isOne, digit}
 use Rattle.parts.specs.Parts.{partOf}
-use Rattle.parts.specs.Lists.{allBelow}
+use Rattle.tables.specs.Lists.{allBelow}
 use Rattle.parts.specs.Wire.{Line, lineOf}
 use Rattle.parts.proofs.Laws.{banks-three}
-use Rattle.parts.proofs.Rows.{clear}
+use Rattle.tables.proofs.Rows.{clear}
 use Rattle.device.specs.Held.{flagged, showing}
 use Rattle.device.specs.Phases.{phaseOf}
 use Rattle.device.specs.Step.{freshDevice, faulted}
@@ -20,7 +20,7 @@ use Rattle.device.specs.Judgement.{fits}
 use Rattle.device.specs.declared.phase.Phase.{Phase}
 use Rattle.device.specs.declared.registers.Registers.{Registers}
 use Rattle.device.specs.declared.device.Device.{Device}
-use Rattle.device.proofs.Places.{and-both, cond-both}
+use Rattle.tables.proofs.Booleans.{and-both, cond-both}
 use Rattle.calls.specs.Chain.{allFit, blank}
 use Rattle.calls.specs.Calls.{runTable, runRefusal}
 use Rattle.calls.specs.History.{Call, fresh, run, boundary, fault, refusalOf, effect, after, given, answered}

@@ -10,13 +10,13 @@ use lib.Dec.{eqb}
 use lib.ListN.{length, take, getD, set, List·getD-map}
 use borrow.Author.Tests.{lt-ltb}
 use Rattle.bits.specs.Bits.{digit}
-use Rattle.parts.specs.Lists.{allBelow}
+use Rattle.tables.specs.Lists.{allBelow}
 use Rattle.parts.specs.Parts.{partOf}
 use Rattle.parts.specs.Wire.{Line, lows, lineOf, dataBit}
 use Rattle.line.specs.States.{dataBits}
 use Rattle.device.specs.Step.{faulted}
 use Rattle.device.specs.declared.device.Device.{Device}
-use Rattle.device.proofs.Places.{cond-both}
+use Rattle.tables.proofs.Booleans.{cond-both}
 use Rattle.device.proofs.Kept.{below-head}
 use Rattle.calls.specs.Chain.{blank}
 use Rattle.calls.specs.Calls.{runRefusal, faultRefusal, boundaryDevices}

@@ -5,7 +5,7 @@ use mathlib.Core.Path.{_≡_}
 use mathlib.Core.Bool.{Bool, true}
 use mathlib.Core.List.{List, [], _∷_, _++_, map, flatten}
 use lib.ListN.{take, getD}
-use Rattle.parts.specs.Lists.{allBelow}
+use Rattle.tables.specs.Lists.{allBelow}
 use Rattle.parts.specs.Parts.{partOf}
 use Rattle.parts.specs.Wire.{stateOf, lows}
 use Rattle.parts.specs.declared.command.Command.{Command}

@@ -1,7 +1,7 @@
 -- A restore of a set, cut after any number of states: in each device each group is wholly new or wholly old, by its slice's arrival. The
 -- four frames are cut one after the other; individual slices fit because configuration has wholly arrived before them. Assumes nothing.
 use mathlib.Core.Path.{_≡_, refl, sym, _∙_}
-use mathlib.Core.Bool.{Bool, true, false, _&&_, cond}
+use mathlib.Core.Bool.{Bool, true, false, cond}
 use mathlib.Core.List.{List, [], _++_, map, flatten}
 use Prim.Native.Nat.{ℕ, suc, _+_, _-_, _≤_, _<_}
 use native.Mathlib.Omega.{arith}
@@ -21,6 +21,7 @@ use Rattle.model.proofs.Frame.{quiet}
 use Rattle.model.proofs.Set.{load-configuration, load-calibration, load-global, load-individual}
 use Rattle.model.proofs.Restore.{Ready, Configured, Calibrated, GlobalWaiting, both-fits, fit-configuration, fit-calibration, fit-global, fit-individual, stage1, stage2, stage3, global-own}
 use Rattle.model.proofs.Cut.{cutAll, cutPieces, FitsAll, cut-at, cut-pieces, length-cut, length-states}
+use Rattle.tables.proofs.Booleans.{cond-and}
 
 mux0-own : (m : Bool) (vs : List ℕ) (v : Values) → (withIndividual m vs v) .mux0 ≡ cond m (evens vs) vs
 mux0-own true vs v = refl
@@ -39,10 +40,6 @@ record CutBy (b1 b2 b3 b4 : Bool) (o : Own) (old new : Registers) : Type 0 where
   pub mux0 : new .waiting .mux0 ≡ cond b4 (cond (multiplexed (o .configuration)) (evens (o .individual)) (o .individual)) (old .waiting .mux0)
   pub mux1 : new .waiting .mux1 ≡ cond b4 (cond (multiplexed (o .configuration)) (odds (o .individual)) (old .waiting .mux1)) (old .waiting .mux1)
   pub active : new .active ≡ old .active
-
-cond-and : {A : Type 0} (a b : Bool) (x y : A) → cond a (cond b x y) y ≡ cond (a && b) x y
-cond-and true b x y = refl
-cond-and false b x y = refl
 
 by-tests : (arrived : Command → Bool) (o : Own) (old new : Registers) → CutBy (arrived Configuration) (arrived Calibration) (arrived Global) (arrived Individual) o old new
     → CutFields arrived o old new

@@ -1,20 +1,22 @@
 -- Laws of the parts, the commands and their slices. Most go by cases: a row is one of two, a command one of four.
 -- The table of slice lengths is tested whole, once, and `slice-table` turns the test into the rule. Assumes nothing.
 use mathlib.Core.Path.{_≡_, refl, ap, ap₂, _∙_}
-use mathlib.Core.Bool.{Bool, true, false, cond, _||_}
+use mathlib.Core.Bool.{Bool, true, false, cond}
 use mathlib.Core.List.{List, [], _∷_}
-use Prim.Native.Nat.{ℕ, _+_, _*_, _/_, _%_, _<_}
+use Prim.Native.Nat.{ℕ, _+_, _*_, _/_, _%_, _<_, _≤_}
 use native.Mathlib.Omega.{arith}
-use lib.Dec.{eqb, eqb→eq}
+use lib.Dec.{eqb, leb, eqb→eq}
+use borrow.Author.Tests.{leb-true}
 use lib.ListN.{getD}
-use Rattle.parts.specs.Parts.{Part, max6974, max6975, partOf, rowIndex, code, commandAt, sliceBits, limit}
+use Rattle.parts.specs.Parts.{Part, max6974, max6975, rows, noPart, partOf, rowIndex, isCount, code, commandAt, sliceBits, limit}
 use Rattle.parts.specs.declared.command.Command.{Command}
 use Rattle.parts.specs.declared.command.Command.the-variants.{Individual, Calibration, Global, Configuration}
-use Rattle.parts.proofs.Table.{every-at}
+use Rattle.tables.proofs.Booleans.{and-both}
+use Rattle.tables.proofs.Table.{everyPlace-at}
 
 -- what holds of each row holds of the row of any number
 pub each-row : (P : Part → Type 0) → P max6974 → P max6975 → (n : ℕ) → P (partOf n)
-each-row P a b n = by (eqb n 6974) where
+each-row P a b n = by (eqb n (max6974 .name)) where
   by : (t : Bool) → P (cond t max6974 max6975)
   by true = a
   by false = b
@@ -27,7 +29,7 @@ pub limit-clocks : (n : ℕ) → limit (partOf n) ≡ partOf n .clocks
 limit-clocks n = each-row (λ p. limit p ≡ p .clocks) refl refl n
 
 pub row-index-lt : (n : ℕ) → rowIndex n < 2
-row-index-lt n = by (eqb n 6974) where
+row-index-lt n = by (eqb n (max6974 .name)) where
   by : (t : Bool) → cond t 0 1 < 2
   by true = omega arith
   by false = omega arith
@@ -44,9 +46,8 @@ command-code Calibration = refl
 command-code Global = refl
 command-code Configuration = refl
 
-pub or-false : (b : Bool) → b ≡ (b || false)
-or-false true = refl
-or-false false = refl
+pub count-bounds : (n : ℕ) → isCount n ≡ true → (1 ≤ n) × (n ≤ 1023)
+count-bounds n e = let b = and-both (leb 1 n) (leb n 1023) e in (leb-true 1 n (b .0), leb-true n 1023 (b .1))
 
 -- ---- the table of slice lengths
 
@@ -54,16 +55,16 @@ or-false false = refl
 abbrev pub table : List ℕ
 table = 288 ∷ 576 ∷ 336 ∷ 672 ∷ 24 ∷ 24 ∷ 24 ∷ 24 ∷ 24 ∷ 24 ∷ 24 ∷ 24 ∷ 24 ∷ 24 ∷ 24 ∷ 24 ∷ []
 
--- the row with a place
+-- the row at a place
 abbrev rowAt : ℕ → Part
-rowAt i = cond (eqb i 0) max6974 max6975
+rowAt i = getD rows i noPart
 
 -- an entry is the length that its place says
 abbrev entry : ℕ → ℕ → Bool
 entry k x = eqb x (sliceBits (rowAt (k / 2 % 2)) (commandAt (k / 4)) (k % 2))
 
 row-at : (n : ℕ) → rowAt (rowIndex n) ≡ partOf n
-row-at n = by (eqb n 6974) where
+row-at n = by (eqb n (max6974 .name)) where
   by : (t : Bool) → rowAt (cond t 0 1) ≡ cond t max6974 max6975
   by true = refl
   by false = refl
@@ -77,7 +78,7 @@ slice-table c n m h =
     let e1 : k / 2 % 2 ≡ rowIndex n = omega arith in
     let e2 : k / 4 ≡ code c = omega arith in
     let e3 : k % 2 ≡ m = omega arith in
-    eqb→eq (getD table k 0) (sliceBits (rowAt (k / 2 % 2)) (commandAt (k / 4)) (k % 2)) (every-at entry table tt k i)
+    eqb→eq (getD table k 0) (sliceBits (rowAt (k / 2 % 2)) (commandAt (k / 4)) (k % 2)) (everyPlace-at entry table tt k i)
     ∙ ap (λ (j : ℕ). sliceBits (rowAt j) (commandAt (k / 4)) (k % 2)) e1
     ∙ ap (λ (j : ℕ). sliceBits (rowAt (rowIndex n)) (commandAt j) (k % 2)) e2
     ∙ ap (λ (j : ℕ). sliceBits (rowAt (rowIndex n)) (commandAt (code c)) j) e3

@@ -1,5 +1,3 @@
--- Laws of refusals, of tables, of tests of lists, and of the parts and their slices.
-pub mod Rows
-pub mod Table
-pub mod Tests
+-- Laws of the parts, of the commands and their slices, and of N; and the cases of a command that a `_` leaves.
 pub mod Laws
+pub mod Cases

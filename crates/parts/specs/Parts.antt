@@ -1,9 +1,9 @@
--- The parts as rows, the four commands, and what a row, a command and a configuration make: subframes, and slices.
+-- The parts as rows, the four commands, what a row, a command and a configuration make: subframes, and slices; and N, the devices of a chain.
 -- Nothing but the rows knows a part's numbers; what is said of slices and subframes is said of any row.
-use Prim.Native.Nat.{ℕ, _+_, _*_, _/_, _%_, _^_}
-use mathlib.Core.Bool.{Bool, false, _||_, cond}
+use Prim.Native.Nat.{ℕ, suc, _+_, _*_, _/_, _%_, _^_}
+use mathlib.Core.Bool.{Bool, false, _&&_, _||_, cond}
 use mathlib.Core.List.{List, [], _∷_}
-use lib.Dec.{eqb}
+use lib.Dec.{eqb, leb}
 use lib.ListN.{getD}
 use Rattle.parts.specs.declared.part.Constants.{Constants}
 use Rattle.parts.specs.declared.command.Command.{Command}
@@ -39,18 +39,36 @@ knownIn (p ∷ ps) n = eqb n (p .name) || knownIn ps n
 abbrev pub known : ℕ → Bool
 known n = knownIn rows n
 
--- the row with a number, or the last one
+-- stands where there is no row
+abbrev pub noPart : Part
+noPart = record { name = 0; banks = 0; width = 0; edge = 0; clocks = 0; subframesBy = [] }
+
+-- of rows, p the first of them: the row with a number, or the last one
 abbrev pub rowFrom : Part → List Part → ℕ → Part
 rowFrom p [] n = p
 rowFrom p (q ∷ qs) n = cond (eqb n (p .name)) p (rowFrom q qs n)
 
+-- its place among them
+abbrev pub placeFrom : Part → List Part → ℕ → ℕ
+placeFrom p [] n = 0
+placeFrom p (q ∷ qs) n = cond (eqb n (p .name)) 0 (suc (placeFrom q qs n))
+
+-- the same of a list of rows
+abbrev pub rowIn : List Part → ℕ → Part
+rowIn [] n = noPart
+rowIn (p ∷ ps) n = rowFrom p ps n
+
+abbrev pub placeIn : List Part → ℕ → ℕ
+placeIn [] n = 0
+placeIn (p ∷ ps) n = placeFrom p ps n
+
 -- the row of a number; of one that is no part, the last row
 abbrev pub partOf : ℕ → Part
-partOf n = rowFrom max6974 (max6975 ∷ []) n
+partOf n = rowIn rows n
 
 -- its place among the rows
 abbrev pub rowIndex : ℕ → ℕ
-rowIndex n = cond (eqb n 6974) 0 1
+rowIndex n = placeIn rows n
 
 -- what the code's constants say of a row
 abbrev pub constantsOf : Part → Constants
@@ -105,3 +123,11 @@ sliceFields p Configuration mux = p .banks
 -- bits of one slice
 abbrev pub sliceBits : Part → Command → ℕ → ℕ
 sliceBits p c mux = sliceFields p c mux * fieldWidth p c
+
+-- the most devices of a chain
+abbrev pub mostDevices : ℕ
+mostDevices = 1023
+
+-- N is 1 to 1023
+abbrev pub isCount : ℕ → Bool
+isCount n = leb 1 n && leb n mostDevices

@@ -39,14 +39,10 @@ pub fn command_of(number: u8) -> Command
     ensures { λ r. ⌜ r ≡ commandAt number ⌝ }
 {
     let bits = number % 4;
-    if bits == 0 {
-        return Command::Individual;
+    match bits {
+        0 => Command::Individual,
+        1 => Command::Calibration,
+        2 => Command::Global,
+        _ => Command::Configuration,
     }
-    if bits == 1 {
-        return Command::Calibration;
-    }
-    if bits == 2 {
-        return Command::Global;
-    }
-    Command::Configuration
 }

@@ -1,7 +1,7 @@
-// The parts, the four commands and the slices. What they mean is in specs/Parts; what is common to all refusals is in specs/Refusals,
-// and frames as bits and as line states are in specs/Wire.
+// The parts, the four commands, the slices, and the number of devices. What they mean is in specs/Parts; frames as bits and as line
+// states are in specs/Wire.
 mod command;
-mod lists;
+mod count;
 mod part;
 mod slices;
 
@@ -9,8 +9,7 @@ pub use command::Command;
 pub use command::command_of;
 pub use command::number_of;
 pub use command::pairs_of;
-pub use lists::bytes_below;
-pub use lists::values_below;
+pub use count::is_count;
 pub use part::Constants;
 pub use part::Max6974;
 pub use part::Max6975;

@@ -50,10 +50,7 @@ pub struct Constants {
 pub fn is_known(part: u16) -> bool
     ensures { λ r. ⌜ r ≡ known part ⌝ }
 {
-    if part == Max6974::NUMBER {
-        return true;
-    }
-    part == Max6975::NUMBER
+    part == Max6974::NUMBER || part == Max6975::NUMBER
 }
 
 // What a part's type says, by its number.

@@ -48,9 +48,7 @@ pub fn field_width(command: Command, part: u16) -> u32
 {
     match command {
         Command::Individual => constants_of(part).width,
-        Command::Calibration => 8,
-        Command::Global => 8,
-        Command::Configuration => 8,
+        _ => 8,
     }
 }
 
@@ -60,9 +58,7 @@ pub fn field_limit(command: Command, part: u16) -> u16
 {
     match command {
         Command::Individual => value_limit(part),
-        Command::Calibration => 256,
-        Command::Global => 256,
-        Command::Configuration => 256,
+        _ => 256,
     }
 }
 
@@ -74,8 +70,6 @@ pub fn slice_fields(command: Command, part: u16, configuration: u8) -> u16
     let phases = 1 + (configuration % 2) as u16;
     match command {
         Command::Individual => 8 * banks * phases,
-        Command::Calibration => banks,
-        Command::Global => banks,
-        Command::Configuration => banks,
+        _ => banks,
     }
 }

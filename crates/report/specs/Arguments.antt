@@ -6,7 +6,7 @@ use mathlib.Core.Bool.{Bool, true, false, not, _&&_, cond}
 use mathlib.Core.List.{List, [], _∷_}
 use lib.Dec.{eqb, ltb, leb}
 use lib.ListN.{length}
-use Rattle.parts.specs.Refusals.{Row, _when_, first, answer}
+use Rattle.tables.specs.Refusals.{Row, _when_, first, answer}
 use Rattle.parts.specs.Parts.{known}
 use Rattle.report.specs.declared.arguments.Parsed.{Parsed}
 use Rattle.report.specs.declared.arguments.Parsed.the-variants as P

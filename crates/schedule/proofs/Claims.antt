@@ -7,9 +7,10 @@ use native.Mathlib.Omega.{arith}
 use lib.Dec.{eqb}
 use lib.IntN.{pos, negℤ}
 use lib.Signed.{_<ℤ_}
-use Rattle.parts.specs.Refusals.{first, answer}
+use Rattle.tables.specs.Refusals.{first, answer}
 use Rattle.parts.specs.Parts.{Part, partOf, subframes}
-use Rattle.parts.proofs.Rows.{clear, none, or-second, accepted}
+use Rattle.tables.proofs.Booleans.{or-second, or-none}
+use Rattle.tables.proofs.Rows.{clear, none, accepted}
 use Rattle.device.specs.declared.device.Device.{Device}
 use Rattle.device.specs.Judgement.{fits}
 use Rattle.schedule.specs.declared.answer.Asked.the-variants as asked
@@ -18,7 +19,7 @@ use Rattle.schedule.specs.Light.{count, total, level, isOn, leadOf, isEv
 use Rattle.schedule.specs.Answers.{positionOver, litRows, litAnswer, litClocksAnswer}
 use Rattle.schedule.specs.OfDevice.{activeValue, deviceRows, deviceAnswer, deviceClocksAnswer}
 use Rattle.schedule.proofs.Subframes.{level-lt, count-frame, count-quotients, lead-below}
-use Rattle.schedule.proofs.Lit.{lit-run, lit-first-end, run-empty, count-lit, total-lit, lit-on, or-none, position-zero}
+use Rattle.schedule.proofs.Lit.{lit-run, lit-first-end, run-empty, count-lit, total-lit, lit-on, position-zero}
 
 -- a frame has exactly g + 1 ON subframes
 pub frame-on :

@@ -2,7 +2,7 @@
 -- edge zone ends and stops at the value or the other edge zone; an odd one's is its mirror image. Both have the same number of clocks.
 -- A test of a run is two tests of its ends, by cases on each; the number of clocks of a run by induction on the clocks. Assumes nothing.
 use mathlib.Core.Path.{_≡_, refl, sym, ap, ap₂, _∙_}
-use mathlib.Core.Bool.{Bool, true, false, true≢false, _&&_, _||_, cond}
+use mathlib.Core.Bool.{Bool, true, false, _&&_, _||_, cond}
 use Prim.Native.Nat.{ℕ, zero, suc, _+_, _-_, _*_, _%_, _<_, _≤_, min, max}
 use native.Mathlib.Nat.{add-zero, zero-add, zero-mul, one-mul, add-mul}
 use native.Mathlib.Omega.{arith}
@@ -11,9 +11,9 @@ use borrow.Author.Tests.{eqb-true, eqb-false, eq-eqb, ne-eqb, ltb-true, ltb-fals
 use Rattle.bits.specs.Bits.{digit}
 use Rattle.parts.specs.Parts.{Part, partOf, subframes, multiplex}
 use Rattle.parts.proofs.Laws.{each-row}
-use Rattle.parts.proofs.Rows.{or-second}
 use Rattle.schedule.specs.Answers.{positionOver}
 use Rattle.schedule.specs.Light.{count, total, nameNumber, litAt, litBy, isEven, inRun, litFrom, litTo, litCount, isOn, isLit, litFirst, litEnd}
+use Rattle.tables.proofs.Booleans.{or-none, and-false, or-second}
 
 ltb-min : (c m n : ℕ) → ltb c (min m n) ≡ ltb c n && ltb c m
 ltb-min c m n = at (ltb c n) refl (ltb c m) refl where
@@ -130,15 +130,11 @@ total-lit p configuration global v output (suc n) =
 
 -- ---- by the tests of the code
 
-and-false : (a : Bool) → false ≡ (a && false)
-and-false true = refl
-and-false false = refl
-
 pub dark-first : (p : Part) (v output c : ℕ) → c < p .edge → false ≡ litAt p v output c
 dark-first p v output c h = rw (lt-leb (p .edge) c h)
 
 pub dark-last : (p : Part) (v output c : ℕ) → p .clocks - p .edge ≤ c → false ≡ litAt p v output c
-dark-last p v output c h = rw (le-ltb c (p .clocks - p .edge) h) (and-false (leb (p .edge) c))
+dark-last p v output c h = rw (le-ltb c (p .clocks - p .edge) h) (sym (and-false (leb (p .edge) c)))
 
 pub lit-inside : (p : Part) (v output c : ℕ) → p .edge ≤ c → c < p .clocks - p .edge → litBy p v output c ≡ litAt p v output c
 lit-inside p v output c h k = rw (le-leb (p .edge) c h, lt-ltb c (p .clocks - p .edge) k)
@@ -152,10 +148,6 @@ even-bit output = at (eqb (output % 2) 1) refl where
 
 pub edge-le : (part : ℕ) → partOf part .edge ≤ partOf part .clocks
 edge-le part = each-row (λ p. p .edge ≤ p .clocks) (lit≤ tt) (lit≤ tt) part
-
-pub or-none : (a b : Bool) → (a || b) ≡ false → (a ≡ false) × (b ≡ false)
-or-none true b e = absurd (true≢false e)
-or-none false b e = (refl, e)
 
 -- a position that is not over is one of the part's
 pub position-within :

@@ -8,19 +8,19 @@ use native.Mathlib.Omega.{arith}
 use lib.Dec.{eqb}
 use lib.ListN.{getD}
 use borrow.Author.Tests.{not-false, lt-leb}
-use Rattle.parts.specs.Refusals.{_when_, first, Lowest}
+use Rattle.tables.specs.Refusals.{_when_, first, Lowest}
 use Rattle.parts.specs.Parts.{partOf, subframes, limit}
 use Rattle.parts.proofs.Laws.{banks-three}
-use Rattle.parts.proofs.Rows.{clear, none, accepted, lowest}
+use Rattle.tables.proofs.Rows.{clear, none, accepted, lowest}
 use Rattle.device.specs.declared.device.Device.{Device}
 use Rattle.device.specs.Judgement.{placeFits, flagsFit, valuesFit, fits}
 use Rattle.device.proofs.Fields.{limit-pos}
 use Rattle.device.proofs.Kept.{below-at, below-of}
-use Rattle.device.proofs.Places.{and-both}
+use Rattle.tables.proofs.Booleans.{and-both, or-none}
 use Rattle.schedule.specs.declared.answer.Asked.the-variants.{Refused}
 use Rattle.schedule.specs.Answers.{positionOver, litRows, litAnswer}
 use Rattle.schedule.specs.OfDevice.{activeValue, deviceRows, deviceAnswer}
-use Rattle.schedule.proofs.Lit.{or-none, position-within}
+use Rattle.schedule.proofs.Lit.{position-within}
 
 -- a number from the rows before the second test, and one from the second test
 pub sooner-or : {n : ℕ} (a b c : Bool) → n ≡ first ((1 when a) ∷ (13 when b) ∷ []) → (n ≡ 0 → ⊥) → n ≡ first ((1 when a) ∷ (13 when b || c) ∷ [])

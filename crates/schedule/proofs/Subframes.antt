@@ -15,7 +15,7 @@ use borrow.Author.Tests.{ltb-true, ltb-false}
 use Rattle.bits.specs.Bits.{digit}
 use Rattle.parts.specs.Parts.{Part, max6974, max6975, partOf, subframes, multiplex, glb4}
 use Rattle.parts.proofs.Laws.{each-row}
-use Rattle.parts.proofs.Table.{every, every-at}
+use Rattle.tables.proofs.Table.{everyPlace, everyPlace-at}
 use Rattle.schedule.specs.Light.{count, onFirst, on, onCount, lead, level}
 use Rattle.schedule.proofs.Signed.{sub-equal, sub-below}
 
@@ -91,13 +91,13 @@ subframes-within part configuration = each-row (λ p. (0 < subframes p configura
   at :
       (p : Part)
       → length (p .subframesBy) ≡ 4
-      → T (every (λ k n. ltb 0 n) 0 (p .subframesBy))
-      → T (every (λ k n. leb n 128) 0 (p .subframesBy))
+      → T (everyPlace (λ k n. ltb 0 n) 0 (p .subframesBy))
+      → T (everyPlace (λ k n. leb n 128) 0 (p .subframesBy))
       → (0 < subframes p configuration) × (subframes p configuration ≤ 128)
   at p e t u =
       let k : ℕ = multiplex configuration + 2 * glb4 configuration in
       let l : k < length (p .subframesBy) = omega (arith, e) in
-      (ltb→lt 0 (subframes p configuration) (every-at (λ k n. ltb 0 n) (p .subframesBy) t k l), leb→le (subframes p configuration) 128 (every-at (λ k n. leb n 128) (p .subframesBy) u k l))
+      (ltb→lt 0 (subframes p configuration) (everyPlace-at (λ k n. ltb 0 n) (p .subframesBy) t k l), leb→le (subframes p configuration) 128 (everyPlace-at (λ k n. leb n 128) (p .subframesBy) u k l))
 
 -- any byte is a level
 pub level-lt : (part configuration global : ℕ) → level (partOf part) configuration global < subframes (partOf part) configuration

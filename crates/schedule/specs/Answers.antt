@@ -3,7 +3,7 @@ use Prim.Native.Nat.{ℕ, _+_, _*_}
 use mathlib.Core.Bool.{Bool, not, _||_}
 use mathlib.Core.List.{List, [], _∷_}
 use lib.Dec.{ltb, leb}
-use Rattle.parts.specs.Refusals.{Row, _when_, first, answer}
+use Rattle.tables.specs.Refusals.{Row, _when_, first, answer}
 use Rattle.parts.specs.Parts.{Part, known, partOf, multiplex, subframes, limit}
 use Rattle.schedule.specs.Light.{isOn, leadOf, isLit, litFirst, litEnd}
 use Rattle.schedule.specs.declared.answer.Asked.{Asked}

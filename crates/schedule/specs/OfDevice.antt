@@ -5,7 +5,7 @@ use mathlib.Core.Bool.{Bool, not, _||_, cond}
 use mathlib.Core.List.{List, [], _∷_}
 use lib.Dec.{eqb}
 use lib.ListN.{getD}
-use Rattle.parts.specs.Refusals.{Row, _when_, first, answer}
+use Rattle.tables.specs.Refusals.{Row, _when_, first, answer}
 use Rattle.parts.specs.Parts.{known, partOf}
 use Rattle.device.specs.declared.device.Device.{Device}
 use Rattle.device.specs.declared.registers.Registers.{Registers}

@@ -1,6 +1,6 @@
 // The refusals: each gives the first number of its table, or 0.
 ghost use mathlib.Core.Path.{_≡_};
-ghost use Rattle.parts.specs.Refusals.{first};
+ghost use Rattle.tables.specs.Refusals.{first};
 ghost use Rattle.parts.specs.Parts.{partOf};
 ghost use Rattle.schedule.specs.Answers.{onRows, leadRows, litRows, positionOver};
 use parts::constants_of;

@@ -1,7 +1,7 @@
 // The light of a device record, by its active values.
 ghost use mathlib.Core.Path.{_≡_};
 ghost use Prim.Native.Nat.{_<_};
-ghost use Rattle.parts.specs.Refusals.{first};
+ghost use Rattle.tables.specs.Refusals.{first};
 ghost use Rattle.schedule.specs.OfDevice.{activeValue, deviceRows, deviceAnswer, deviceClocksAnswer};
 use crate::answer::Asked;
 use crate::answer::Clocks;

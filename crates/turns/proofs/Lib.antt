@@ -1,5 +1,4 @@
--- Laws under the calls on a lent chain.
-pub mod Judged
+-- Laws under a run of a lent chain.
 pub mod Lines
 pub mod Header
 pub mod Taking

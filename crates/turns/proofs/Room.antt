@@ -9,14 +9,14 @@ use native.Mathlib.Omega.{arith}
 use lib.Dec.{ltb, leb, eqb, lit≤}
 use lib.ListN.{length, length-append}
 use borrow.Author.Tests.{ltb-true, ltb-false, leb-true, eqb-true}
-use Rattle.parts.specs.Parts.{Part, partOf, multiplex, fieldWidth, fieldLimit}
-use Rattle.parts.specs.Lists.{allBelow}
-use Rattle.parts.specs.Refusals.{first}
+use Rattle.parts.specs.Parts.{Part, partOf, multiplex, fieldWidth, fieldLimit, isCount}
+use Rattle.tables.specs.Lists.{allBelow}
+use Rattle.tables.specs.Refusals.{first}
 use Rattle.parts.specs.Wire.{header, statesOf}
 use Rattle.parts.specs.declared.command.Command.{Command}
 use Rattle.parts.specs.declared.command.Command.the-variants.{Individual, Calibration, Global, Configuration}
 use Rattle.parts.proofs.Laws.{each-row, banks-three, command-code}
-use Rattle.parts.proofs.Rows.{clear}
+use Rattle.tables.proofs.Rows.{clear}
 use Rattle.device.specs.Phases.{phaseOf, placeOf, heard, rising, opened, opening, counting}
 use Rattle.device.specs.Held.{took, stored, fault, raised}
 use Rattle.device.specs.Step.{step, stepHigh, moved, sending, sliceLength, sentStates, at}
@@ -29,8 +29,8 @@ use Rattle.device.specs.declared.registers.Registers.{Registers}
 use Rattle.device.specs.declared.device.Device.{Device}
 use Rattle.device.specs.declared.device.Stepped.{Stepped}
 use Rattle.device.proofs.Fields.{field-width-pos}
-use Rattle.device.proofs.Places.{and-both}
-use Rattle.calls.specs.Chain.{through, allFit, isCount}
+use Rattle.tables.proofs.Booleans.{and-both}
+use Rattle.calls.specs.Chain.{through, allFit}
 use Rattle.calls.specs.Calls.{runTable, runRefusal}
 use Rattle.turns.specs.Front.{isPassing, passes}
 use Rattle.turns.proofs.Lines.{header-is, length-header-states}

@@ -32,6 +32,7 @@ use Rattle.turns.proofs.Lines.{put-full, length-put, put-append, highs-
 use Rattle.turns.proofs.Header.{run-then, run-header}
 use Rattle.turns.proofs.Taking.{by-test, through-append, High, AllPass, none, also, passer, through-high, Takes, takes-none, takes, Ending, quiet, sent, endings, ending-low}
 use Rattle.turns.proofs.Turns.{no-way, owed, low-front, lineTurn, turnWithin, turned-is, turned-out-is, Good, measure, good-start, good-next, nearer-next, turns-on, turns-stop, near-start}
+use Rattle.tables.proofs.Booleans.{and-left}
 
 abbrev Whole : Type 0
 Whole = List Device × List ℕ
@@ -473,10 +474,6 @@ fits-neat d h p =
     let q : placeOf (phaseOf (d .place)) ≡ d .place = place-phase (d .place) (d .registers) (and-left (placeFits (d .place) (d .registers)) _ h) in
     ap (λ (x : Place). record { registers = d .registers; place = x }) (sym q ∙ ap placeOf (is-passing (phaseOf (d .place)) p))
   where
-    and-left : (a b : Bool) → (a && b) ≡ true → a ≡ true
-    and-left true b e = refl
-    and-left false b e = absurd (true≢false (sym e))
-
     is-passing : (p : Phase) → isPassing p ≡ true → p ≡ Passing
     is-passing (Hunting x) e = absurd (no-way e)
     is-passing (Opening x) e = absurd (no-way e)

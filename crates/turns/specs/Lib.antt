@@ -1,6 +1,4 @@
--- What the covered functions under the calls on a lent chain answer: the judgement of records, what a run answers, its turns, and where it
--- begins.
-pub mod Judging
+-- What the covered functions under a run of a lent chain answer: what the run answers, its turns, and where it begins.
 pub mod Answer
 pub mod Front
 pub mod Entry

@@ -1,11 +1,11 @@
 // Where a run begins, and its answer.
 ghost use mathlib.Core.Path.{_≡_};
-ghost use Rattle.parts.specs.Refusals.{first};
-ghost use Rattle.turns.specs.Judging.{runRows};
+ghost use Rattle.tables.specs.Refusals.{first};
+ghost use Rattle.calls.specs.Judging.{runRows};
 ghost use Rattle.turns.specs.Answer.{ran};
 ghost use Rattle.turns.specs.Entry.{entryUnder};
 use crate::cursor::Cursor;
-use crate::judging::Judged;
+use calls::Judged;
 
 // The refusal's number, or 0, and where the run begins: a refused one is at its end.
 pub struct Entry {
@@ -24,11 +24,7 @@ pub struct Ran {
 pub fn enter(judged: Judged, n: usize, states: &[u8], room: usize) -> Entry
     ensures { λ r. ⌜ r ≡ entryUnder (first (runRows judged n (now (states .entry)) room)) n (now (states .entry)) ⌝ }
 {
-    enter_under(
-        crate::judging::run_refusal(judged, n, states, room),
-        n,
-        states,
-    )
+    enter_under(calls::run_refusal(judged, n, states, room), n, states)
 }
 
 fn enter_under(refusal: u8, n: usize, states: &[u8]) -> Entry

@@ -1,36 +1,37 @@
 -- `chain::bb_boundary` meets its contract: a walk of its MIR, by hand. Records are judged once; each turn of the loop reads a record, calls `boundary` on it and stores what it gives.
-use Rattle.chain.proofs.Walk.{_≡_, refl, sym, _∙_, ap, subst, ℕ, zero, suc, _+_, _*_, _<_, _^_, arith, Bool, List, [], _∷_, length, getD, set, URA, fullShare, Ty, named, erased, mut, imm, w8, w64, tyBool, tyPtr, tyRef, vbool, vint, vptr, Val, SProp, ent, emp, via, fst∗, Lft, GName, Share, ftrue, fat, flft, Memory, Routine, Heap, Out, Env, Wp, WpFn, Tables, afterSeq, afterBlock, afterTurn, atReturn, Atoms, fmOf, Given, Item, ‵, raw, _⊛_, ⋆, anyQ, atRet, _$_, _∵_, !, qed, by, move, use1, drop, split, join, rewrite, fsplit, fjoin, suffices, frame, done, whole, sub, look-in, agg, look, look-raw, store, store-raw, init, forget, stop, hop, fld, from, load, lit, of-opd, and-then, no-more, bin, addr, assigns, assigns-last, land, stays, leaves-loop, exec, returns, enter, alloc1, alloc0, params1, pass1, pass0, free1, free0, Fun, givenOf, tables, tablesOf, owns, pointee, Is, uint-makes, RefT, sliceTy, sliceVal, MutSlice, Room, finally, slice-vals, mut-slice-tells, row, plain, u8, onEntry, tripleOf, Contract, Triple, cited, nothing, owned, heard, says, Stays, gave-slice, walkOf, ends-at, walked, goes-gave-slice, word, byte, loop, id⊢}
+use Rattle.calls.proofs.Walk.{_≡_, refl, sym, _∙_, ap, subst, ℕ, zero, suc, _+_, _*_, _<_, _^_, arith, Bool, List, [], _∷_, length, getD, set, URA, fullShare, Ty, named, erased, mut, imm, w8, w64, tyBool, tyPtr, tyRef, vbool, vint, vptr, Val, SProp, ent, emp, via, fst∗, Lft, GName, Share, ftrue, fat, flft, Memory, Routine, Heap, Out, Env, Wp, WpFn, Tables, afterSeq, afterBlock, afterTurn, atReturn, Atoms, fmOf, Given, Item, ‵, raw, _⊛_, ⋆, anyQ, atRet, _$_, _∵_, !, qed, by, move, use1, drop, split, join, rewrite, fsplit, fjoin, suffices, frame, done, whole, sub, look-in, agg, look, look-raw, store, store-raw, init, forget, stop, hop, fld, from, load, lit, of-opd, and-then, no-more, bin, addr, assigns, assigns-last, land, stays, leaves-loop, exec, returns, enter, alloc1, alloc0, params1, pass1, pass0, free1, free0, Fun, givenOf, tables, tablesOf, owns, pointee, Is, uint-makes, RefT, sliceTy, sliceVal, MutSlice, Room, finally, slice-vals, mut-slice-tells, row, plain, u8, onEntry, tripleOf, Contract, Triple, cited, nothing, owned, heard, says, Stays, gave-slice, walkOf, ends-at, walked, goes-gave-slice, word, byte, loop, id⊢}
 use denote.Struct.Laws as LL
 use Rattle.device.specs.declared.device.Device.{Device}
 use Rattle.device.proofs.device.Device.Laws.{mir as dev}
 use Rattle.calls.specs.Chain.{blank}
 use Rattle.device.specs.Step.{bounded}
 use Rattle.calls.specs.Calls.{boundaryRefusal, boundaryAfter}
-use Rattle.turns.specs.Judging.{unjudged, judgedFrom, span, boundarySpan}
-use Rattle.turns.proofs.Judged.{boundary-refusal-found}
+use Rattle.calls.specs.Judging.{unjudged, judgedFrom}
+use Rattle.calls.specs.Changes.{span, boundarySpan}
+use Rattle.calls.proofs.Judged.{boundary-refusal-found}
 use Rattle.chain.proofs.Sweep.{boundary-within, boundary-swept}
-use Rattle.turns.specs.declared.judging.Judged.{Judged}
-use Rattle.turns.proofs.judging.Judged as J
-use Rattle.turns.proofs.judging.Judged.Laws as J′
-use Rattle.chain.proofs.Judges.{jval, jvals, jtells, jmade, JudgeC, to-judge, asks-judge}
-use Rattle.turns.specs.declared.judging.Span.{Span}
-use Rattle.chain.proofs.Dev.{D, val, vals, tells, made, lawful, place-fits, place-at, size, out, into, back}
-use Rattle.chain.proofs.Lent.{ref, sl, Open, opened, final, lends-shared, returned-shared, hold, free, Again, again, loops, calls-plain, calls-val, closes}
+use Rattle.calls.specs.declared.judging.Judged.{Judged}
+use Rattle.calls.proofs.judging.Judged as J
+use Rattle.calls.proofs.judging.Judged.Laws as J′
+use Rattle.calls.proofs.Judges.{jval, jvals, jtells, jmade, JudgeC, to-judge, asks-judge}
+use Rattle.calls.specs.declared.changes.Span.{Span}
+use Rattle.calls.proofs.Dev.{D, val, vals, tells, made, lawful, place-fits, place-at, size, out, into, back}
+use Rattle.calls.proofs.Lent.{ref, sl, Open, opened, final, lends-shared, returned-shared, hold, free, Again, again, loops, calls-plain, calls-val, closes}
 use Rattle.chain.proofs.Sweep.{sweep, sweep-none, sweep-next, length-sweep, turnsOf, Within, at-next, at-first, test-yes, test-no}
-use Rattle.turns.proofs.judging.Span as Sp
-use Rattle.turns.proofs.judging.Span.Laws as Sp′
+use Rattle.calls.proofs.changes.Span as Sp
+use Rattle.calls.proofs.changes.Span.Laws as Sp′
 use Rattle.device.proofs.device.Device.boundary as step
 use Rattle.device.proofs.device.Device.boundary.Symbol as step-def
 use Rattle.device.proofs.device.Device.boundary.Symbol.{name as #step}
 use Rattle.device.proofs.device.Device.boundary.Met as step-thm
-use Rattle.chain.proofs.judge as judge
-use Rattle.chain.proofs.judge.Symbol as judge-def
-use Rattle.chain.proofs.judge.Symbol.{name as #judge}
-use Rattle.chain.proofs.judge.Met as judge-thm
-use Rattle.turns.proofs.boundary_span as spans
-use Rattle.turns.proofs.boundary_span.Symbol as spans-def
-use Rattle.turns.proofs.boundary_span.Symbol.{name as #spans}
-use Rattle.turns.proofs.boundary_span.Met as spans-thm
+use Rattle.calls.proofs.judge as judge
+use Rattle.calls.proofs.judge.Symbol as judge-def
+use Rattle.calls.proofs.judge.Symbol.{name as #judge}
+use Rattle.calls.proofs.judge.Met as judge-thm
+use Rattle.calls.proofs.boundary_span as spans
+use Rattle.calls.proofs.boundary_span.Symbol as spans-def
+use Rattle.calls.proofs.boundary_span.Symbol.{name as #spans}
+use Rattle.calls.proofs.boundary_span.Met as spans-thm
 use Rattle.chain.proofs.bb_boundary.Key.{name as #bb-boundary}
 use Rattle.chain.proofs.bb_boundary as bb-boundary
 use Rattle.chain.proofs.bb_boundary.Statement as stated
@@ -201,6 +202,6 @@ bb-boundary-spec 𝓤 H 𝓜 𝓖 𝓡 =
     (λ κs qs bounds a g are. via 𝓤 _ (fst∗ 𝓤 _ (emp 𝓤))
     (walk 𝓤 H (𝓖 .A) W (𝓜 .mem) (𝓡 .run) (κs .0) (qs .0) (a .0 .ptr .0) (a .0 .ptr .1) (a .0 .name) (a .0 .now) 𝓣
     (cited 𝓤 H (StepC 𝓤 H (𝓖 .A) (𝓜 .mem) (𝓡 .run)) 𝓜 𝓡 code.env #step step-def.routine code.calls-device·device·Device·boundary (step-thm.met 𝓤 H 𝓜 𝓖 𝓡))
-    (cited 𝓤 H (JudgeC 𝓤 H (𝓖 .A) (𝓜 .mem) (𝓡 .run)) 𝓜 𝓡 code.env #judge judge-def.routine code.calls-chain·judge (judge-thm.met 𝓤 H 𝓜 𝓖 𝓡))
-    (cited 𝓤 H (SpansC 𝓤 H (𝓖 .A) (𝓜 .mem) (𝓡 .run)) 𝓜 𝓡 code.env #spans spans-def.routine code.calls-turns·boundary-span (spans-thm.met 𝓤 H 𝓜 𝓖 𝓡))
+    (cited 𝓤 H (JudgeC 𝓤 H (𝓖 .A) (𝓜 .mem) (𝓡 .run)) 𝓜 𝓡 code.env #judge judge-def.routine code.calls-calls·judge (judge-thm.met 𝓤 H 𝓜 𝓖 𝓡))
+    (cited 𝓤 H (SpansC 𝓤 H (𝓖 .A) (𝓜 .mem) (𝓡 .run)) 𝓜 𝓡 code.env #spans spans-def.routine code.calls-calls·boundary-span (spans-thm.met 𝓤 H 𝓜 𝓖 𝓡))
     (are .0 .0 .1))))

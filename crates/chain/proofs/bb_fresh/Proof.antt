@@ -1,27 +1,27 @@
 -- `chain::bb_fresh` meets its contract: a walk of its MIR, by hand. Each turn of the loop stores a fresh record, whatever was there.
-use Rattle.chain.proofs.Walk.{_≡_, refl, sym, _∙_, ap, subst, ℕ, zero, suc, _+_, _*_, _<_, _^_, arith, Bool, List, [], _∷_, length, URA, fullShare, Ty, named, mut, w8, w16, w64, tyInt, tyBool, tyPtr, tyRef, vbool, vint, vptr, Val, SProp, ent, emp, via, fst∗, Lft, GName, Share, ftrue, fat, flft, Memory, Routine, Heap, Out, Env, Wp, WpFn, Tables, afterSeq, afterBlock, afterTurn, atReturn, Atoms, fmOf, Given, Item, ‵, _⊛_, ⋆, anyQ, atRet, _$_, _∵_, !, qed, by, move, drop, split, join, rewrite, fsplit, fjoin, suffices, frame, done, whole, sub, look-in, look, store, store-raw, init, forget, stop, hop, fld, from, load, lit, of-opd, and-then, no-more, bin, assigns, assigns-last, land, stays, leaves-loop, exec, returns, enter, alloc1, alloc0, params1, pass1, pass0, free1, free0, Fun, givenOf, tables, tablesOf, yes, owns, pointee, Is, uint-vals, uint-tells, uint-makes, RefT, sliceTy, sliceVal, MutSlice, Room, finally, slice-vals, mut-slice-tells, row, plain, u8, u16, onEntry, tripleOf, Contract, Triple, cited, nothing, owned, heard, says, Stays, gave-slice, stay-dropped, walkOf, ends-at, walked, goes-gave-slice, goes-dropped, word, byte, loop, id⊢}
+use Rattle.calls.proofs.Walk.{_≡_, refl, sym, _∙_, ap, subst, ℕ, zero, suc, _+_, _*_, _<_, _^_, arith, Bool, List, [], _∷_, length, URA, fullShare, Ty, named, mut, w8, w16, w64, tyInt, tyBool, tyPtr, tyRef, vbool, vint, vptr, Val, SProp, ent, emp, via, fst∗, Lft, GName, Share, ftrue, fat, flft, Memory, Routine, Heap, Out, Env, Wp, WpFn, Tables, afterSeq, afterBlock, afterTurn, atReturn, Atoms, fmOf, Given, Item, ‵, _⊛_, ⋆, anyQ, atRet, _$_, _∵_, !, qed, by, move, drop, split, join, rewrite, fsplit, fjoin, suffices, frame, done, whole, sub, look-in, look, store, store-raw, init, forget, stop, hop, fld, from, load, lit, of-opd, and-then, no-more, bin, assigns, assigns-last, land, stays, leaves-loop, exec, returns, enter, alloc1, alloc0, params1, pass1, pass0, free1, free0, Fun, givenOf, tables, tablesOf, yes, owns, pointee, Is, uint-vals, uint-tells, uint-makes, RefT, sliceTy, sliceVal, MutSlice, Room, finally, slice-vals, mut-slice-tells, row, plain, u8, u16, onEntry, tripleOf, Contract, Triple, cited, nothing, owned, heard, says, Stays, gave-slice, stay-dropped, walkOf, ends-at, walked, goes-gave-slice, goes-dropped, word, byte, loop, id⊢}
 use denote.Struct.Laws as LL
 use Rattle.device.specs.declared.device.Device.{Device}
 use Rattle.device.proofs.device.Device.Laws.{mir as dev}
 use Rattle.device.specs.Step.{freshDevice}
 use Rattle.calls.specs.Calls.{freshRefusal, freshAfter}
-use Rattle.turns.specs.Judging.{span, freshSpan}
-use Rattle.turns.proofs.Judged.{fresh-refusal-found}
+use Rattle.calls.specs.Changes.{span, freshSpan}
+use Rattle.calls.proofs.Judged.{fresh-refusal-found}
 use Rattle.chain.proofs.Sweep.{fresh-within, fresh-swept}
-use Rattle.turns.specs.declared.judging.Span.{Span}
-use Rattle.chain.proofs.Dev.{D, val, vals, tells, lawful, place-fits, place-at, size, out, into}
-use Rattle.chain.proofs.Lent.{ref, sl, Open, opened, final, hold, free, Again, again, loops, calls-plain, closes}
+use Rattle.calls.specs.declared.changes.Span.{Span}
+use Rattle.calls.proofs.Dev.{D, val, vals, tells, lawful, place-fits, place-at, size, out, into}
+use Rattle.calls.proofs.Lent.{ref, sl, Open, opened, final, hold, free, Again, again, loops, calls-plain, closes}
 use Rattle.chain.proofs.Sweep.{sweep, sweep-none, sweep-next, length-sweep, turnsOf, Within, at-next, at-first, test-yes, test-no}
-use Rattle.turns.proofs.judging.Span as Sp
-use Rattle.turns.proofs.judging.Span.Laws as Sp′
+use Rattle.calls.proofs.changes.Span as Sp
+use Rattle.calls.proofs.changes.Span.Laws as Sp′
 use Rattle.device.proofs.device.Device.fresh as step
 use Rattle.device.proofs.device.Device.fresh.Symbol as step-def
 use Rattle.device.proofs.device.Device.fresh.Symbol.{name as #step}
 use Rattle.device.proofs.device.Device.fresh.Met as step-thm
-use Rattle.turns.proofs.fresh_span as spans
-use Rattle.turns.proofs.fresh_span.Symbol as spans-def
-use Rattle.turns.proofs.fresh_span.Symbol.{name as #spans}
-use Rattle.turns.proofs.fresh_span.Met as spans-thm
+use Rattle.calls.proofs.fresh_span as spans
+use Rattle.calls.proofs.fresh_span.Symbol as spans-def
+use Rattle.calls.proofs.fresh_span.Symbol.{name as #spans}
+use Rattle.calls.proofs.fresh_span.Met as spans-thm
 use Rattle.chain.proofs.bb_fresh.Key.{name as #bb-fresh}
 use Rattle.chain.proofs.bb_fresh as bb-fresh
 use Rattle.chain.proofs.bb_fresh.Statement as stated
@@ -177,5 +177,5 @@ bb-fresh-spec 𝓤 H 𝓜 𝓖 𝓡 =
     (λ κs qs bounds a g are. via 𝓤 _ (fst∗ 𝓤 _ (emp 𝓤))
     (walk 𝓤 H (𝓖 .A) W (𝓜 .mem) (𝓡 .run) (κs .0) (qs .0) (a .0 .ptr .0) (a .0 .ptr .1) (a .0 .name) (a .0 .now) (a .1 .0) 𝓣
     (cited 𝓤 H (StepC 𝓤 H (𝓖 .A) (𝓜 .mem) (𝓡 .run)) 𝓜 𝓡 code.env #step step-def.routine code.calls-device·device·Device·fresh (step-thm.met 𝓤 H 𝓜 𝓖 𝓡))
-    (cited 𝓤 H (SpansC 𝓤 H (𝓖 .A) (𝓜 .mem) (𝓡 .run)) 𝓜 𝓡 code.env #spans spans-def.routine code.calls-turns·fresh-span (spans-thm.met 𝓤 H 𝓜 𝓖 𝓡))
+    (cited 𝓤 H (SpansC 𝓤 H (𝓖 .A) (𝓜 .mem) (𝓡 .run)) 𝓜 𝓡 code.env #spans spans-def.routine code.calls-calls·fresh-span (spans-thm.met 𝓤 H 𝓜 𝓖 𝓡))
     (are .0 .0 .1) (are .1 .0 .1))))

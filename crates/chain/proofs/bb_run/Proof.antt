@@ -1,9 +1,9 @@
 -- `chain::bb_run` meets its contract: a walk of its MIR, by hand. Records are judged once; each turn reads a record, calls `take_turn`
 -- and `turn_after` with the slices lent on, and stores the record and the cursor. What a turn does to the run is in turns/proofs/Whole.
-use Rattle.chain.proofs.Walk.{_≡_, refl, sym, _∙_, ap, subst, ℕ, zero, suc, _*_, _<_, _^_, arith, Bool, true, false, List, [], _∷_, length, getD, set, URA, fullShare, Ty, named, erased, mut, imm, w8, w64, tyBool, tyPtr, tyRef, vbool, vint, vptr, Val, SProp, ent, sep, emp, via, fst∗, Lft, GName, Share, ftrue, fat, flft, Memory, Routine, Heap, Out, Env, Wp, WpFn, Tables, afterSeq, afterBlock, afterTurn, atReturn, Atoms, sem, fmOf, Given, Item, ‵, raw, _⊛_, ⋆, anyQ, atRet, _$_, _∵_, !, qed, by, move, use1, drop, split, join, rewrite, fsplit, fjoin, suffices, frame, done, whole, sub, look-in, agg, look, look-raw, store, store-raw, init, forget, stop, hop, fld, from, load, lit, of-opd, and-then, no-more, bin, addr, assigns, assigns-last, land, stays, leaves-loop, exec, returns, enter, alloc1, alloc0, params1, pass1, pass0, free1, free0, Fun, givenOf, tables, tablesOf, yes, owns, pointee, Is, shows, uint-vals, uint-tells, uint-makes, uint-copy, RefT, now, sliceTy, sliceVal, MutSlice, ShrSlice, Room, finally, slice-vals, mut-slice-tells, shr-slice-tells, row, plain, shrSliceOf, u8, usize, onEntry, tripleOf, Contract, Triple, cited, nothing, owned, heard, says, Stays, gave-slice, stay-dropped, walkOf, ends-at, walked, goes-gave-slice, goes-dropped, word, byte, loop, id⊢}
+use Rattle.calls.proofs.Walk.{_≡_, refl, sym, _∙_, ap, subst, ℕ, zero, suc, _*_, _<_, _^_, arith, Bool, true, false, List, [], _∷_, length, getD, set, URA, fullShare, Ty, named, erased, mut, imm, w8, w64, tyBool, tyPtr, tyRef, vbool, vint, vptr, Val, SProp, ent, sep, emp, via, fst∗, Lft, GName, Share, ftrue, fat, flft, Memory, Routine, Heap, Out, Env, Wp, WpFn, Tables, afterSeq, afterBlock, afterTurn, atReturn, Atoms, sem, fmOf, Given, Item, ‵, raw, _⊛_, ⋆, anyQ, atRet, _$_, _∵_, !, qed, by, move, use1, drop, split, join, rewrite, fsplit, fjoin, suffices, frame, done, whole, sub, look-in, agg, look, look-raw, store, store-raw, init, forget, stop, hop, fld, from, load, lit, of-opd, and-then, no-more, bin, addr, assigns, assigns-last, land, stays, leaves-loop, exec, returns, enter, alloc1, alloc0, params1, pass1, pass0, free1, free0, Fun, givenOf, tables, tablesOf, yes, owns, pointee, Is, shows, uint-vals, uint-tells, uint-makes, uint-copy, RefT, now, sliceTy, sliceVal, MutSlice, ShrSlice, Room, finally, slice-vals, mut-slice-tells, shr-slice-tells, row, plain, shrSliceOf, u8, usize, onEntry, tripleOf, Contract, Triple, cited, nothing, owned, heard, says, Stays, gave-slice, stay-dropped, walkOf, ends-at, walked, goes-gave-slice, goes-dropped, word, byte, loop, id⊢}
 use denote.Struct.Laws as LL
 use denote.Enum.Laws as EL
-use Rattle.parts.specs.Refusals.{first}
+use Rattle.tables.specs.Refusals.{first}
 use Rattle.device.specs.declared.device.Device.{Device}
 use Rattle.device.proofs.device.Device.Laws.{mir as dev}
 use Rattle.calls.specs.Chain.{blank}
@@ -11,11 +11,11 @@ use Rattle.calls.specs.Calls.{runRefusal}
 use Rattle.turns.specs.declared.cursor.Cursor.{Cursor}
 use Rattle.turns.specs.declared.entry.Entry.{Entry}
 use Rattle.turns.specs.declared.entry.Ran.{Ran}
-use Rattle.turns.specs.declared.judging.Judged.{Judged}
+use Rattle.calls.specs.declared.judging.Judged.{Judged}
 use Rattle.device.specs.declared.phase.Sent.{Sent}
 use Rattle.intake.specs.declared.states.Taken.{Taken}
 use Rattle.turns.specs.Front.{Running, nowAt, turnTaken, cursorAfter, turned, turnedOut, turning, enough}
-use Rattle.turns.specs.Judging.{unjudged, judgedFrom, runRows}
+use Rattle.calls.specs.Judging.{unjudged, judgedFrom, runRows}
 use Rattle.turns.specs.Answer.{ran}
 use Rattle.turns.specs.Entry.{entryUnder, runEnd}
 use Rattle.turns.proofs.cursor.Cursor as C
@@ -24,22 +24,22 @@ use Rattle.turns.proofs.entry.Entry as B
 use Rattle.turns.proofs.entry.Entry.Laws as B′
 use Rattle.turns.proofs.entry.Ran as R
 use Rattle.turns.proofs.entry.Ran.Laws as R′
-use Rattle.turns.proofs.judging.Judged as J
-use Rattle.turns.proofs.judging.Judged.Laws as J′
+use Rattle.calls.proofs.judging.Judged as J
+use Rattle.calls.proofs.judging.Judged.Laws as J′
 use Rattle.intake.proofs.states.Taken as S
 use Rattle.intake.proofs.states.Taken.Laws as S′
 use Rattle.device.proofs.phase.Sent as N
 use Rattle.device.proofs.phase.Sent.Laws as N′
-use Rattle.turns.proofs.Judged.{run-refusal-found}
+use Rattle.calls.proofs.Judged.{run-refusal-found}
 use Rattle.turns.proofs.Turns.{Good, turned-device, turned-cursor}
 use Rattle.turns.proofs.Whole.{Stands, stands-next, stands-zero, stands-end, stands-start, run-same}
-use Rattle.chain.proofs.Dev.{D, val, vals, tells, made, lawful, place-fits, place-at, size, out, into, back}
-use Rattle.chain.proofs.Lent.{ref, sl, Open, Seen, opened, final, looked, shut, lends, returned, lends-shared, returned-shared, hold, free, Again, again, loops, calls-val, calls-plain, closes}
-use Rattle.chain.proofs.Judges.{jval, jtells, JIs, JudgeC, to-judge, asks-judge}
-use Rattle.chain.proofs.judge as judge
-use Rattle.chain.proofs.judge.Symbol as judge-def
-use Rattle.chain.proofs.judge.Symbol.{name as #judge}
-use Rattle.chain.proofs.judge.Met as judge-thm
+use Rattle.calls.proofs.Dev.{D, val, vals, tells, made, lawful, place-fits, place-at, size, out, into, back}
+use Rattle.calls.proofs.Lent.{ref, sl, Open, Seen, opened, final, looked, shut, lends, returned, lends-shared, returned-shared, hold, free, Again, again, loops, calls-val, calls-plain, closes}
+use Rattle.calls.proofs.Judges.{jval, jtells, JIs, JudgeC, to-judge, asks-judge}
+use Rattle.calls.proofs.judge as judge
+use Rattle.calls.proofs.judge.Symbol as judge-def
+use Rattle.calls.proofs.judge.Symbol.{name as #judge}
+use Rattle.calls.proofs.judge.Met as judge-thm
 use Rattle.turns.proofs.enter as opening
 use Rattle.turns.proofs.enter.Symbol as opening-def
 use Rattle.turns.proofs.enter.Symbol.{name as #opening}
@@ -347,6 +347,6 @@ bb-run-spec 𝓤 H 𝓜 𝓖 𝓡 =
     (cited 𝓤 H (TakeC 𝓤 H (𝓖 .A) (𝓜 .mem) (𝓡 .run)) 𝓜 𝓡 code.env #take take-def.routine code.calls-turns·take-turn (take-thm.met 𝓤 H 𝓜 𝓖 𝓡))
     (cited 𝓤 H (AfterC 𝓤 H (𝓖 .A) (𝓜 .mem) (𝓡 .run)) 𝓜 𝓡 code.env #after after-def.routine code.calls-turns·turn-after (after-thm.met 𝓤 H 𝓜 𝓖 𝓡))
     (cited 𝓤 H (AnswerC 𝓤 H (𝓖 .A) (𝓜 .mem) (𝓡 .run)) 𝓜 𝓡 code.env #answer answer-def.routine code.calls-turns·answer (answer-thm.met 𝓤 H 𝓜 𝓖 𝓡))
-    (cited 𝓤 H (JudgeC 𝓤 H (𝓖 .A) (𝓜 .mem) (𝓡 .run)) 𝓜 𝓡 code.env #judge judge-def.routine code.calls-chain·judge (judge-thm.met 𝓤 H 𝓜 𝓖 𝓡))
+    (cited 𝓤 H (JudgeC 𝓤 H (𝓖 .A) (𝓜 .mem) (𝓡 .run)) 𝓜 𝓡 code.env #judge judge-def.routine code.calls-calls·judge (judge-thm.met 𝓤 H 𝓜 𝓖 𝓡))
     (cited 𝓤 H (EnterC 𝓤 H (𝓖 .A) (𝓜 .mem) (𝓡 .run)) 𝓜 𝓡 code.env #opening opening-def.routine code.calls-turns·enter (opening-thm.met 𝓤 H 𝓜 𝓖 𝓡))
     (are .0 .0 .1) (are .1 .0 .0 .1) (are .1 .1 .0 .0 .1))))

@@ -1,5 +1,5 @@
 -- `chain::bb_set_fault` meets its contract: a walk of its MIR, by hand. Records are judged once; the loop takes one turn, at the device named, or none.
-use Rattle.chain.proofs.Walk.{_≡_, refl, sym, _∙_, ap, subst, ℕ, zero, suc, _+_, _-_, _*_, _<_, _^_, arith, Bool, not, eqb, List, [], _∷_, length, getD, set, URA, fullShare, Ty, named, erased, mut, imm, w8, w64, tyBool, tyPtr, tyRef, vbool, vint, vptr, Val, SProp, ent, emp, via, fst∗, Lft, GName, Share, ftrue, fat, flft, Memory, Routine, Heap, Out, Env, Wp, WpFn, Tables, afterSeq, afterBlock, afterTurn, atReturn, Atoms, fmOf, Given, Item, ‵, raw, _⊛_, ⋆, anyQ, atRet, _$_, _∵_, !, qed, by, move, use1, drop, split, join, rewrite, fsplit, fjoin, suffices, frame, done, whole, sub, look-in, agg, look, look-raw, store, store-raw, init, forget, stop, hop, fld, from, load, lit, of-opd, and-then, no-more, bin, addr, assigns, assigns-last, land, stays, leaves-loop, exec, returns, enter, alloc1, alloc0, params1, pass1, pass0, free1, free0, Fun, givenOf, tables, tablesOf, yes, owns, pointee, Is, uint-vals, uint-tells, uint-makes, RefT, sliceTy, sliceVal, MutSlice, Room, finally, slice-vals, mut-slice-tells, row, plain, u8, usize, onEntry, tripleOf, Contract, Triple, cited, nothing, owned, heard, says, Stays, gave-slice, stay-dropped, walkOf, ends-at, walked, goes-gave-slice, goes-dropped, word, byte, loop, id⊢}
+use Rattle.calls.proofs.Walk.{_≡_, refl, sym, _∙_, ap, subst, ℕ, zero, suc, _+_, _-_, _*_, _<_, _^_, arith, Bool, not, eqb, List, [], _∷_, length, getD, set, URA, fullShare, Ty, named, erased, mut, imm, w8, w64, tyBool, tyPtr, tyRef, vbool, vint, vptr, Val, SProp, ent, emp, via, fst∗, Lft, GName, Share, ftrue, fat, flft, Memory, Routine, Heap, Out, Env, Wp, WpFn, Tables, afterSeq, afterBlock, afterTurn, atReturn, Atoms, fmOf, Given, Item, ‵, raw, _⊛_, ⋆, anyQ, atRet, _$_, _∵_, !, qed, by, move, use1, drop, split, join, rewrite, fsplit, fjoin, suffices, frame, done, whole, sub, look-in, agg, look, look-raw, store, store-raw, init, forget, stop, hop, fld, from, load, lit, of-opd, and-then, no-more, bin, addr, assigns, assigns-last, land, stays, leaves-loop, exec, returns, enter, alloc1, alloc0, params1, pass1, pass0, free1, free0, Fun, givenOf, tables, tablesOf, yes, owns, pointee, Is, uint-vals, uint-tells, uint-makes, RefT, sliceTy, sliceVal, MutSlice, Room, finally, slice-vals, mut-slice-tells, row, plain, u8, usize, onEntry, tripleOf, Contract, Triple, cited, nothing, owned, heard, says, Stays, gave-slice, stay-dropped, walkOf, ends-at, walked, goes-gave-slice, goes-dropped, word, byte, loop, id⊢}
 use denote.Struct.Laws as LL
 use Rattle.device.specs.declared.device.Device.{Device}
 use Rattle.device.proofs.device.Device.Laws.{mir as dev}
@@ -7,31 +7,32 @@ use Rattle.calls.specs.Chain.{blank}
 use Rattle.bits.specs.Bits.{digit}
 use Rattle.device.specs.Step.{faulted}
 use Rattle.calls.specs.Calls.{faultRefusal, faultAfter}
-use Rattle.turns.specs.Judging.{unjudged, judgedFrom, span, faultSpan}
-use Rattle.turns.proofs.Judged.{fault-refusal-found}
+use Rattle.calls.specs.Judging.{unjudged, judgedFrom}
+use Rattle.calls.specs.Changes.{span, faultSpan}
+use Rattle.calls.proofs.Judged.{fault-refusal-found}
 use Rattle.chain.proofs.Sweep.{fault-within, fault-swept}
-use Rattle.turns.specs.declared.judging.Judged.{Judged}
-use Rattle.turns.proofs.judging.Judged as J
-use Rattle.turns.proofs.judging.Judged.Laws as J′
-use Rattle.chain.proofs.Judges.{jval, jvals, jtells, jmade, JudgeC, to-judge, asks-judge}
-use Rattle.turns.specs.declared.judging.Span.{Span}
-use Rattle.chain.proofs.Dev.{D, val, vals, tells, made, lawful, place-fits, place-at, size, out, into, back}
-use Rattle.chain.proofs.Lent.{ref, sl, Open, opened, final, lends-shared, returned-shared, hold, free, Again, again, loops, calls-plain, calls-val, closes}
+use Rattle.calls.specs.declared.judging.Judged.{Judged}
+use Rattle.calls.proofs.judging.Judged as J
+use Rattle.calls.proofs.judging.Judged.Laws as J′
+use Rattle.calls.proofs.Judges.{jval, jvals, jtells, jmade, JudgeC, to-judge, asks-judge}
+use Rattle.calls.specs.declared.changes.Span.{Span}
+use Rattle.calls.proofs.Dev.{D, val, vals, tells, made, lawful, place-fits, place-at, size, out, into, back}
+use Rattle.calls.proofs.Lent.{ref, sl, Open, opened, final, lends-shared, returned-shared, hold, free, Again, again, loops, calls-plain, calls-val, closes}
 use Rattle.chain.proofs.Sweep.{sweep, sweep-none, sweep-next, length-sweep, turnsOf, Within, at-next, at-first, test-yes, test-no}
-use Rattle.turns.proofs.judging.Span as Sp
-use Rattle.turns.proofs.judging.Span.Laws as Sp′
-use Rattle.turns.proofs.with_fault as step
-use Rattle.turns.proofs.with_fault.Symbol as step-def
-use Rattle.turns.proofs.with_fault.Symbol.{name as #step}
-use Rattle.turns.proofs.with_fault.Met as step-thm
-use Rattle.chain.proofs.judge as judge
-use Rattle.chain.proofs.judge.Symbol as judge-def
-use Rattle.chain.proofs.judge.Symbol.{name as #judge}
-use Rattle.chain.proofs.judge.Met as judge-thm
-use Rattle.turns.proofs.fault_span as spans
-use Rattle.turns.proofs.fault_span.Symbol as spans-def
-use Rattle.turns.proofs.fault_span.Symbol.{name as #spans}
-use Rattle.turns.proofs.fault_span.Met as spans-thm
+use Rattle.calls.proofs.changes.Span as Sp
+use Rattle.calls.proofs.changes.Span.Laws as Sp′
+use Rattle.calls.proofs.with_fault as step
+use Rattle.calls.proofs.with_fault.Symbol as step-def
+use Rattle.calls.proofs.with_fault.Symbol.{name as #step}
+use Rattle.calls.proofs.with_fault.Met as step-thm
+use Rattle.calls.proofs.judge as judge
+use Rattle.calls.proofs.judge.Symbol as judge-def
+use Rattle.calls.proofs.judge.Symbol.{name as #judge}
+use Rattle.calls.proofs.judge.Met as judge-thm
+use Rattle.calls.proofs.fault_span as spans
+use Rattle.calls.proofs.fault_span.Symbol as spans-def
+use Rattle.calls.proofs.fault_span.Symbol.{name as #spans}
+use Rattle.calls.proofs.fault_span.Met as spans-thm
 use Rattle.chain.proofs.bb_set_fault.Key.{name as #bb-set-fault}
 use Rattle.chain.proofs.bb_set_fault as bb-set-fault
 use Rattle.chain.proofs.bb_set_fault.Statement as stated
@@ -201,7 +202,7 @@ bb-set-fault-spec 𝓤 H 𝓜 𝓖 𝓡 =
     (walked 𝓤 H (𝓖 .A) bb-set-fault.ended stayed (bb-set-fault.clauses 𝓤 H (𝓖 .A) (𝓜 .mem) (𝓡 .run)) (WpFn 𝓤 H (𝓣 .C) (𝓣 .Λ) code.function) (λ κs. (slice-vals, (uint-vals w64, (uint-vals w8, (uint-vals w8, tt))))) (λ κs. (mut-slice-tells (named 0) (κs .0) D, (uint-tells w64, (uint-tells w8, (uint-tells w8, tt)))))
     (λ κs qs bounds a g are. via 𝓤 _ (fst∗ 𝓤 _ (emp 𝓤))
     (walk 𝓤 H (𝓖 .A) W (𝓜 .mem) (𝓡 .run) (κs .0) (qs .0) (a .0 .ptr .0) (a .0 .ptr .1) (a .0 .name) (a .0 .now) (a .1 .0) (a .1 .1 .0) (a .1 .1 .1 .0) 𝓣
-    (cited 𝓤 H (StepC 𝓤 H (𝓖 .A) (𝓜 .mem) (𝓡 .run)) 𝓜 𝓡 code.env #step step-def.routine code.calls-turns·with-fault (step-thm.met 𝓤 H 𝓜 𝓖 𝓡))
-    (cited 𝓤 H (JudgeC 𝓤 H (𝓖 .A) (𝓜 .mem) (𝓡 .run)) 𝓜 𝓡 code.env #judge judge-def.routine code.calls-chain·judge (judge-thm.met 𝓤 H 𝓜 𝓖 𝓡))
-    (cited 𝓤 H (SpansC 𝓤 H (𝓖 .A) (𝓜 .mem) (𝓡 .run)) 𝓜 𝓡 code.env #spans spans-def.routine code.calls-turns·fault-span (spans-thm.met 𝓤 H 𝓜 𝓖 𝓡))
+    (cited 𝓤 H (StepC 𝓤 H (𝓖 .A) (𝓜 .mem) (𝓡 .run)) 𝓜 𝓡 code.env #step step-def.routine code.calls-calls·with-fault (step-thm.met 𝓤 H 𝓜 𝓖 𝓡))
+    (cited 𝓤 H (JudgeC 𝓤 H (𝓖 .A) (𝓜 .mem) (𝓡 .run)) 𝓜 𝓡 code.env #judge judge-def.routine code.calls-calls·judge (judge-thm.met 𝓤 H 𝓜 𝓖 𝓡))
+    (cited 𝓤 H (SpansC 𝓤 H (𝓖 .A) (𝓜 .mem) (𝓡 .run)) 𝓜 𝓡 code.env #spans spans-def.routine code.calls-calls·fault-span (spans-thm.met 𝓤 H 𝓜 𝓖 𝓡))
     (are .0 .0 .1) (are .1 .0 .1) (are .1 .1 .0 .1) (are .1 .1 .1 .0 .1))))

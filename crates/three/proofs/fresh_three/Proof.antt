@@ -1,12 +1,12 @@
 -- `three::fresh_three` meets its contract: a walk of its MIR, by hand. The array is taken apart into a row, lent to `bb_fresh`, and read whole again.
-use Rattle.chain.proofs.Walk.{_≡_, refl, sym, _∙_, subst, ℕ, List, [], _∷_, length, lit<, URA, fullShare, named, erased, mut, w8, w16, tyRef, vint, Val, SProp, ent, emp, via, fst∗, GName, ftrue, fat, flft, Memory, Routine, Heap, WpFn, Tables, Atoms, fmOf, Given, Item, ‵, raw, _⊛_, ⋆, _$_, _∵_, !, qed, by, move, use1, drop, split, join, rewrite, fsplit, fjoin, feqL, suffices, frame, done, agg, look, init, forget, stop, from, load, lit, of-opd, and-then, no-more, addr, assigns, land, returns, enter, alloc1, alloc0, params1, pass1, pass0, free1, free0, Fun, givenOf, tables, tablesOf, yes, owns, pointee, Is, uint-vals, uint-tells, uint-makes, sliceTy, sliceVal, MutSlice, Room, row, plain, u16, onEntry, tripleOf, Contract, Triple, cited, nothing, owned, heard, says, Stays, stay-dropped, walkOf, ends-at, walked, goes-dropped, id⊢}
+use Rattle.calls.proofs.Walk.{_≡_, refl, sym, _∙_, subst, ℕ, List, [], _∷_, length, lit<, URA, fullShare, named, erased, mut, w8, w16, tyRef, vint, Val, SProp, ent, emp, via, fst∗, GName, ftrue, fat, flft, Memory, Routine, Heap, WpFn, Tables, Atoms, fmOf, Given, Item, ‵, raw, _⊛_, ⋆, _$_, _∵_, !, qed, by, move, use1, drop, split, join, rewrite, fsplit, fjoin, feqL, suffices, frame, done, agg, look, init, forget, stop, from, load, lit, of-opd, and-then, no-more, addr, assigns, land, returns, enter, alloc1, alloc0, params1, pass1, pass0, free1, free0, Fun, givenOf, tables, tablesOf, yes, owns, pointee, Is, uint-vals, uint-tells, uint-makes, sliceTy, sliceVal, MutSlice, Room, row, plain, u16, onEntry, tripleOf, Contract, Triple, cited, nothing, owned, heard, says, Stays, stay-dropped, walkOf, ends-at, walked, goes-dropped, id⊢}
 use types.Kit.{cut}
 use denote.Array.{Array, array-vals, array-tells, array-makes, array-lawful}
 use denote.Builtin.{ArrayOf}
 use Rattle.device.specs.declared.device.Device.{Device}
 use Rattle.calls.specs.Calls.{freshRefusal, freshAfter}
-use Rattle.chain.proofs.Dev.{D, vals, tells, made, lawful}
-use Rattle.chain.proofs.Lent.{ref, sl, lends, returned, apart, whole-again, calls-val, closes}
+use Rattle.calls.proofs.Dev.{D, vals, tells, made, lawful}
+use Rattle.calls.proofs.Lent.{ref, sl, lends, returned, apart, whole-again, calls-val, closes}
 use Rattle.chain.proofs.bb_fresh as callee
 use Rattle.chain.proofs.bb_fresh.Symbol as callee-def
 use Rattle.chain.proofs.bb_fresh.Symbol.{name as #callee}

@@ -1,5 +1,5 @@
 -- `three::run_three` meets its contract: a walk of its MIR, by hand. The array is lent to `bb_run`, and the two other slices are passed on at their own lifetimes.
-use Rattle.chain.proofs.Walk.{_≡_, refl, sym, _∙_, subst, ℕ, List, [], _∷_, length, lit<, URA, fullShare, named, erased, mut, tyRef, Val, SProp, ent, emp, via, fst∗, Lft, GName, Share, ftrue, fat, flft, Memory, Routine, Heap, WpFn, Tables, Atoms, fmOf, Given, Item, ‵, raw, _⊛_, ⋆, _$_, _∵_, !, qed, by, move, use1, drop, split, join, rewrite, fsplit, fjoin, feqL, suffices, frame, done, whole, sub, look-in, agg, look, init, forget, stop, hop, fld, from, load, lit, of-opd, and-then, no-more, addr, assigns, land, returns, enter, alloc1, alloc0, params1, pass1, pass0, free1, free0, Fun, givenOf, tables, tablesOf, yes, owns, pointee, Is, RefT, sliceTy, sliceVal, MutSlice, ShrSlice, Room, finally, slice-vals, mut-slice-tells, shr-slice-tells, row, plain, shrSliceOf, u8, onEntry, tripleOf, Contract, Triple, cited, nothing, owned, heard, says, Stays, gave-slice, stay-dropped, walkOf, ends-at, walked, goes-gave-slice, goes-dropped, id⊢}
+use Rattle.calls.proofs.Walk.{_≡_, refl, sym, _∙_, subst, ℕ, List, [], _∷_, length, lit<, URA, fullShare, named, erased, mut, tyRef, Val, SProp, ent, emp, via, fst∗, Lft, GName, Share, ftrue, fat, flft, Memory, Routine, Heap, WpFn, Tables, Atoms, fmOf, Given, Item, ‵, raw, _⊛_, ⋆, _$_, _∵_, !, qed, by, move, use1, drop, split, join, rewrite, fsplit, fjoin, feqL, suffices, frame, done, whole, sub, look-in, agg, look, init, forget, stop, hop, fld, from, load, lit, of-opd, and-then, no-more, addr, assigns, land, returns, enter, alloc1, alloc0, params1, pass1, pass0, free1, free0, Fun, givenOf, tables, tablesOf, yes, owns, pointee, Is, RefT, sliceTy, sliceVal, MutSlice, ShrSlice, Room, finally, slice-vals, mut-slice-tells, shr-slice-tells, row, plain, shrSliceOf, u8, onEntry, tripleOf, Contract, Triple, cited, nothing, owned, heard, says, Stays, gave-slice, stay-dropped, walkOf, ends-at, walked, goes-gave-slice, goes-dropped, id⊢}
 use types.Kit.{cut}
 use denote.Array.{Array, array-vals, array-tells, array-lawful}
 use denote.Builtin.{ArrayOf}
@@ -10,8 +10,8 @@ use Rattle.turns.specs.declared.entry.Ran.{Ran}
 use Rattle.turns.specs.Answer.{runAnswer}
 use Rattle.turns.proofs.entry.Ran as R
 use Rattle.turns.proofs.entry.Ran.Laws as R′
-use Rattle.chain.proofs.Dev.{D, vals, tells, made, lawful}
-use Rattle.chain.proofs.Lent.{ref, sl, lends, returned, apart, whole-again, calls-val, closes}
+use Rattle.calls.proofs.Dev.{D, vals, tells, made, lawful}
+use Rattle.calls.proofs.Lent.{ref, sl, lends, returned, apart, whole-again, calls-val, closes}
 use Rattle.chain.proofs.bb_run as callee
 use Rattle.chain.proofs.bb_run.Symbol as callee-def
 use Rattle.chain.proofs.bb_run.Symbol.{name as #callee}

@@ -1,5 +1,4 @@
 -- `capi::of_done` meets its contract. Assumes nothing.
-use borrow.Author.Needs.{needs}
 use Rattle.capi.proofs.bytes.of_done.Statement.{statement}
 use Rattle.capi.proofs.bytes.of_done.Tie as tie
 

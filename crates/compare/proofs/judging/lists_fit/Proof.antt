@@ -1,5 +1,5 @@
-use mathlib.Core.Path.{_≡_, ap, sym, _∙_}
-use Prim.Native.Nat.{ℕ, _*_, _≤_}
+use mathlib.Core.Path.{_≡_, _∙_}
+use Prim.Native.Nat.{_≤_}
 use native.Mathlib.Nat.{mul-le-mul-left}
 use native.Mathlib.Omega.{arith}
 use borrow.Author.Tests.{eq-eqb, ne-eqb}
@@ -22,16 +22,26 @@ cast-fields : tie.Need-cast-fields
 cast-fields c = search needs
 
 mul-if1 : tie.Need-mul-if1
-mul-if1 c = let b : c .before .slice-fields .result ≡ 3 = c .before .slice-fields .ensures ∙ banks-three (c .before .before .args .given .part) in rw b (omega arith)
+mul-if1 c =
+    let three : c .before .slice-fields .result ≡ 3 = c .before .slice-fields .ensures ∙ banks-three (c .before .before .args .given .part) in
+    rw three (omega arith)
 
 mul-result : tie.Need-mul-result
-mul-result c = let a = c .before .before .before .args .given in let b = c .before .slice-fields2 .ensures ∙ fields-of (a .part) (a .configuration) in let s : c .before .slice-fields2 .result ≤ 48 = omega arith in omega (arith, mul-le-mul-left (a .devices) s)
+mul-result c =
+    let a = c .before .before .before .args .given in
+    let fields = c .before .slice-fields2 .ensures ∙ fields-of (a .part) (a .configuration) in
+    let few : c .before .slice-fields2 .result ≤ 48 = omega arith in
+    omega (arith, mul-le-mul-left (a .devices) few)
 
 returns : tie.Need-returns
-returns c = let a = c .before .before .before .args .given in rw (c .before .slice-fields2 .ensures, eq-eqb _ _ (c .if1 .taken ∙ ap (λ (n : ℕ). a .devices * n) (c .before .before .slice-fields .ensures)))
+returns c =
+    let bytes = c .before .before .slice-fields .ensures in
+    rw (c .before .slice-fields2 .ensures, eq-eqb _ _ (rw bytes at (c .if1 .taken)))
 
 returns-2 : tie.Need-returns-2
-returns-2 c = let a = c .before .before .before .args .given in rw (ne-eqb _ _ (λ e. c .if1 .left (e ∙ ap (λ (n : ℕ). a .devices * n) (sym (c .before .before .slice-fields .ensures)))))
+returns-2 c =
+    let bytes = c .before .before .slice-fields .ensures in
+    rw (bytes, ne-eqb _ _ (rw bytes at (c .if1 .left)))
 
 pub lists-fit-spec : {M : Type 1} → statement M
 lists-fit-spec =

@@ -16,10 +16,15 @@ values-below-requires : tie.Need-values-below-requires
 values-below-requires c κs = search needs
 
 returns : tie.Need-returns
-returns c = rw (c .values-below .ensures, c .before .value-limit .ensures, rw (c .before .before .before .subframes-of .ensures) at (lt-ltb _ _ (c .before .before .if1 .taken)))
+returns c =
+    let test = c .before .before in
+    let subframes = test .before .subframes-of .ensures in
+    rw (c .values-below .ensures, c .before .value-limit .ensures, rw subframes at (lt-ltb _ _ (test .if1 .taken)))
 
 returns-2 : tie.Need-returns-2
-returns-2 c = rw (rw (c .before .subframes-of .ensures) at (le-ltb _ _ (c .if1 .left)))
+returns-2 c =
+    let subframes = c .before .subframes-of .ensures in
+    rw (subframes, rw subframes at (le-ltb _ _ (c .if1 .left)))
 
 pub values-fit-spec : {M : Type 1} → statement M
 values-fit-spec =

@@ -1,9 +1,12 @@
-use mathlib.Core.Path.{_≡_}
-use Prim.Native.Nat.{_+_, _≤_, _-_, _<_}
+-- Where one pass over all values finds no difference, their number is the answer. Else they are gone through from the front: after i turns they
+-- differ first at place 2 * i, or at one after it.
+use mathlib.Core.Path.{_≡_, sym, _∙_}
+use Prim.Native.Nat.{_+_, _≤_, _-_}
 use native.Mathlib.Omega.{arith}
 use lib.ListN.{length, drop}
+use borrow.Author.Tests.{eqb-true}
 use Rattle.compare.specs.Compare.{differsAt, inTurns}
-use Rattle.compare.proofs.Differs.{turnsLeft, differs-end, turns-first, turns-second, turns-next}
+use Rattle.compare.proofs.Differs.{turnsLeft, Turn, differs-end, turns-first, turns-second, turns-next}
 use borrow.Author.Needs.{needs}
 use Rattle.compare.proofs.own.turns_differ.Statement.{statement}
 use Rattle.compare.proofs.own.turns_differ.Tie as tie
@@ -14,29 +17,25 @@ Inv-loop values mux0 mux1 i₀ i = (i ≤ 24) × (differsAt values (inTurns mux0
 abbrev μ-loop : tie.MeasureT-loop
 μ-loop values mux0 mux1 i₀ i = 24 - i
 
+-- the two places of a turn stand in their lists
+within : (t : tie.In-loop Inv-loop μ-loop) → let p = t .before .before .before .before .before .args in Turn (p .values .now) (p .t2) (p .t3) (t .before .loop .i)
+within t =
+    let p = t .before .before .before .before .before .args in
+    let m : length (p .t2) ≡ 24 = search needs in
+    let n : length (p .t3) ≡ 24 = search needs in
+    record { values = omega (arith, t .loop-test .taken); mux0 = omega (arith, t .loop-test .taken, m); mux1 = omega (arith, t .loop-test .taken, n) }
+
+turns-same-requires : tie.Need-turns-same-requires Inv-loop μ-loop
+turns-same-requires c κs = search needs
+
+returns : tie.Need-returns Inv-loop μ-loop
+returns c = sym (eqb-true _ _ (sym (c .before .turns-same .ensures) ∙ c .if1 .taken))
+
 loop-holds : tie.Need-loop-holds Inv-loop μ-loop
 loop-holds c = (search needs, omega arith)
 
 add-even : tie.Need-add-even Inv-loop μ-loop
 add-even c = search needs
-
-mul-if1 : tie.Need-mul-if1 Inv-loop μ-loop
-mul-if1 c = search needs
-
-shared-slice-read-if1 : tie.Need-shared-slice-read-if1 Inv-loop μ-loop
-shared-slice-read-if1 c = search needs
-
-mul-if1-2 : tie.Need-mul-if1-2 Inv-loop μ-loop
-mul-if1-2 c = search needs
-
-array-read-if1 : tie.Need-array-read-if1 Inv-loop μ-loop
-array-read-if1 c = search needs
-
-returns : tie.Need-returns Inv-loop μ-loop
-returns c = let p = c .before .before .before .before .args in let i = c .before .before .before .loop .i in let e = c .before .before .before .loop .inv .1 in let t = c .before .before .loop-test .taken in let l : i + i + 1 < length (p .values .now) = omega arith in let m : length (p .t2) ≡ 24 = search needs in let n : length (p .t3) ≡ 24 = search needs in omega (arith, e, turns-first (p .values .now) (p .t2) (p .t3) i l (omega (arith, t, m)) (omega (arith, t, n)) (c .if1 .taken))
-
-add-if2 : tie.Need-add-if2 Inv-loop μ-loop
-add-if2 c = search needs
 
 mul-if2 : tie.Need-mul-if2 Inv-loop μ-loop
 mul-if2 c = search needs
@@ -50,11 +49,34 @@ mul-if2-2 c = search needs
 array-read-if2 : tie.Need-array-read-if2 Inv-loop μ-loop
 array-read-if2 c = search needs
 
+returns-2 : tie.Need-returns-2 Inv-loop μ-loop
+returns-2 c =
+    let t = c .before .before in
+    omega (arith, t .before .loop .inv .1, turns-first (within t) (c .if2 .taken))
+
+add-if3 : tie.Need-add-if3 Inv-loop μ-loop
+add-if3 c = search needs
+
+mul-if3 : tie.Need-mul-if3 Inv-loop μ-loop
+mul-if3 c = search needs
+
+shared-slice-read-if3 : tie.Need-shared-slice-read-if3 Inv-loop μ-loop
+shared-slice-read-if3 c = search needs
+
+mul-if3-2 : tie.Need-mul-if3-2 Inv-loop μ-loop
+mul-if3-2 c = search needs
+
+array-read-if3 : tie.Need-array-read-if3 Inv-loop μ-loop
+array-read-if3 c = search needs
+
 add-result : tie.Need-add-result Inv-loop μ-loop
 add-result c = search needs
 
-returns-2 : tie.Need-returns-2 Inv-loop μ-loop
-returns-2 c = let p = c .before .before .before .before .before .before .args in let i = c .before .before .before .before .before .loop .i in let e = c .before .before .before .before .before .loop .inv .1 in let t = c .before .before .before .before .loop-test .taken in let l : i + i + 1 < length (p .values .now) = omega arith in let m : length (p .t2) ≡ 24 = search needs in let n : length (p .t3) ≡ 24 = search needs in omega (arith, e, turns-second (p .values .now) (p .t2) (p .t3) i l (omega (arith, t, m)) (omega (arith, t, n)) (c .before .before .if1 .left) (c .if2 .taken))
+returns-3 : tie.Need-returns-3 Inv-loop μ-loop
+returns-3 c =
+    let first = c .before .before in
+    let t = first .before .before in
+    omega (arith, t .before .loop .inv .1, turns-second (within t) (first .if2 .left) (c .if3 .taken))
 
 add-i : tie.Need-add-i Inv-loop μ-loop
 add-i c = search needs
@@ -63,10 +85,16 @@ loop-less : tie.Need-loop-less Inv-loop μ-loop
 loop-less c = search needs
 
 loop-again : tie.Need-loop-again Inv-loop μ-loop
-loop-again c = let p = c .before .before .before .before .before .before .args in let i = c .before .before .before .before .before .loop .i in let e = c .before .before .before .before .before .loop .inv .1 in let t = c .before .before .before .before .loop-test .taken in let l : i + i + 1 < length (p .values .now) = omega arith in let m : length (p .t2) ≡ 24 = search needs in let n : length (p .t3) ≡ 24 = search needs in (search needs, omega (arith, e, turns-next (p .values .now) (p .t2) (p .t3) i l (omega (arith, t, m)) (omega (arith, t, n)) (c .before .before .if1 .left) (c .if2 .left)))
+loop-again c =
+    let first = c .before .before in
+    let t = first .before .before in
+    (search needs, omega (arith, t .before .loop .inv .1, turns-next (within t) (first .if2 .left) (c .if3 .left)))
 
-returns-3 : tie.Need-returns-3 Inv-loop μ-loop
-returns-3 c = let p = c .before .before .args in let i = c .before .loop .i in omega (arith, c .before .loop .inv .1, differs-end (p .values .now) (inTurns (drop i (p .t2)) (drop i (p .t3))) (i + i) (omega arith))
+returns-4 : tie.Need-returns-4 Inv-loop μ-loop
+returns-4 c =
+    let l = c .before .loop in
+    let p = c .before .before .before .before .before .args in
+    omega (arith, l .inv .1, differs-end (p .values .now) (inTurns (drop (l .i) (p .t2)) (drop (l .i) (p .t3))) (l .i + l .i) (omega arith))
 
 pub turns-differ-spec : {M : Type 1} → statement M
 turns-differ-spec =
@@ -74,21 +102,23 @@ turns-differ-spec =
     (tie.spec
     Inv-loop
     μ-loop
+    turns-same-requires
+    returns
     loop-holds
     add-even
-    mul-if1
-    shared-slice-read-if1
-    mul-if1-2
-    array-read-if1
-    returns
-    add-if2
     mul-if2
     shared-slice-read-if2
     mul-if2-2
     array-read-if2
-    add-result
     returns-2
+    add-if3
+    mul-if3
+    shared-slice-read-if3
+    mul-if3-2
+    array-read-if3
+    add-result
+    returns-3
     add-i
     loop-less
     loop-again
-    returns-3)
+    returns-4)

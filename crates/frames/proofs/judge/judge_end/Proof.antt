@@ -4,7 +4,7 @@ use Rattle.frames.proofs.judge.judge_end.Statement.{statement}
 use Rattle.frames.proofs.judge.judge_end.Tie as tie
 use Prim.Native.Nat.{_+_}
 use mathlib.Core.Path.{refl, _∙_}
-use Rattle.parts.proofs.Rows as rows
+use Rattle.tables.proofs.Rows as rows
 use Rattle.frames.proofs.Pieces as pieces
 
 cast-end : tie.Need-cast-end

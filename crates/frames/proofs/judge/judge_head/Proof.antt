@@ -1,6 +1,6 @@
 -- Row by row: what `field_at` read is the field that the row tests.
 use mathlib.Core.Path.{refl}
-use Rattle.parts.proofs.Rows as rows
+use Rattle.tables.proofs.Rows as rows
 use borrow.Author.Needs.{needs}
 use Rattle.frames.proofs.judge.judge_head.Statement.{statement}
 use Rattle.frames.proofs.judge.judge_head.Tie as tie

@@ -7,7 +7,8 @@ use lib.ListN.{length, drop, drop-of-length-le}
 use lib.Dec.{eqb}
 use mathlib.Core.Path.{_≡_, refl}
 use Prim.Native.Nat.{_≤_, _-_}
-use Rattle.parts.proofs.Tests as loops
+use Rattle.tables.proofs.Tests as loops
+use Rattle.tables.proofs.Booleans.{and-false, and-true}
 use Rattle.frames.proofs.Tests.{allSame-drop}
 use Rattle.frames.proofs.lists.bytes_same.Statement.{statement}
 use Rattle.frames.proofs.lists.bytes_same.Tie as tie
@@ -35,12 +36,12 @@ loop-again : tie.Need-loop-again Inv-loop μ-loop
 loop-again c = let t = c .before .before in (
   search needs,
   loops.by-way (c .if1 .came)
-      (λ w. rw (t .before .loop .inv .1, allSame-drop _ _ _ (t .loop-test .taken), ne-eqb _ _ (w .0 .taken), loops.and-false, w .1))
+      (λ w. rw (t .before .loop .inv .1, allSame-drop _ _ _ (t .loop-test .taken), ne-eqb _ _ (w .0 .taken), and-false, w .1))
       (λ w. rw (t .before .loop .inv .1, allSame-drop _ _ _ (t .loop-test .taken), eq-eqb _ _ (w .0 .left), w .1)),
 )
 
 returns : tie.Need-returns Inv-loop μ-loop
-returns c = rw (c .before .loop .inv .1, drop-of-length-le _ (c .loop-test .left), loops.and-true)
+returns c = rw (c .before .loop .inv .1, drop-of-length-le _ (c .loop-test .left), and-true)
 
 pub bytes-same-spec : {M : Type 1} → statement M
 bytes-same-spec =

@@ -7,7 +7,7 @@ use Rattle.bits.specs.Bits.{fields}
 use Prim.Native.Nat.{_+_}
 use native.Mathlib.Omega.{arith}
 use mathlib.Core.Path.{refl}
-use Rattle.parts.proofs.Rows as rows
+use Rattle.tables.proofs.Rows as rows
 use borrow.Author.Needs.{needs}
 use Rattle.frames.proofs.reader.judge_body.Statement.{statement}
 use Rattle.frames.proofs.reader.judge_body.Tie as tie

@@ -1,6 +1,6 @@
 -- Row by row.
 use mathlib.Core.Path.{refl, sym, _∙_}
-use Rattle.parts.proofs.Rows as rows
+use Rattle.tables.proofs.Rows as rows
 use borrow.Author.Needs.{needs}
 use Rattle.frames.proofs.reader.judge_lengths.Statement.{statement}
 use Rattle.frames.proofs.reader.judge_lengths.Tie as tie

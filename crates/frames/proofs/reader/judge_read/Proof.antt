@@ -6,7 +6,7 @@ use mathlib.Core.List.{_++_}
 use borrow.Author.Tests.{eqb-true, not-false}
 use lib.ListN.{length}
 use mathlib.Core.Path.{refl, sym, _∙_}
-use Rattle.parts.proofs.Rows as rows
+use Rattle.tables.proofs.Rows as rows
 use borrow.Author.Needs.{needs}
 use Rattle.frames.proofs.reader.judge_read.Statement.{statement}
 use Rattle.frames.proofs.reader.judge_read.Tie as tie

@@ -5,7 +5,7 @@ use Rattle.frames.proofs.reader.read.Tie as tie
 use mathlib.Core.Path.{sym, _∙_}
 use native.Mathlib.Omega.{arith}
 use lib.ListN.{length}
-use Rattle.parts.proofs.Rows as rows
+use Rattle.tables.proofs.Rows as rows
 use Rattle.frames.specs.Reading.{heldFields, found, bytesFound, valuesFound, read, readBytes, readValues}
 use Rattle.frames.specs.declared.told.Read.the-variants.{Refused}
 use Rattle.frames.proofs.Accepted as accepted

@@ -5,7 +5,7 @@ use Rattle.frames.proofs.returns.judge_back.Tie as tie
 use mathlib.Core.Path.{refl, sym, _∙_}
 use borrow.Author.Tests.{lt-ltb, le-ltb}
 use Rattle.bits.specs.Bits.{fields}
-use Rattle.parts.proofs.Rows as rows
+use Rattle.tables.proofs.Rows as rows
 use Rattle.frames.specs.Frames.{headRows}
 use Rattle.frames.specs.Returns.{countRows}
 

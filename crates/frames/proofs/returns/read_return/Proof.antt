@@ -8,7 +8,7 @@ use Rattle.bits.specs.Bits.{fields}
 use lib.ListN.{drop}
 use native.Mathlib.Omega.{arith}
 use mathlib.Core.Path.{sym, ap, _∙_}
-use Rattle.parts.proofs.Rows as rows
+use Rattle.tables.proofs.Rows as rows
 use borrow.Author.Needs.{needs}
 use Rattle.frames.proofs.returns.read_return.Statement.{statement}
 use Rattle.frames.proofs.returns.read_return.Tie as tie

@@ -1,7 +1,8 @@
 -- Row by row; the last has two tests.
 use borrow.Author.Tests.{lt-ltb, le-ltb}
 use mathlib.Core.Path.{refl, sym, _∙_}
-use Rattle.parts.proofs.Rows as rows
+use Rattle.tables.proofs.Rows as rows
+use Rattle.tables.proofs.Booleans.{or-first, or-second}
 use borrow.Author.Needs.{needs}
 use Rattle.frames.proofs.writer.judge_settings.Statement.{statement}
 use Rattle.frames.proofs.writer.judge_settings.Tie as tie
@@ -31,7 +32,7 @@ returns-3 : tie.Need-returns-3
 returns-3 c = let q = c .before .before .before .before in
     rows.no 4 (rw (q .before .before .field-count .ensures) at (sym (q .before .is-list-wrong .ensures) ∙ q .if1 .left))
     (rows.no 5 (rw (c .before .before .before .frame-length .ensures) at (le-ltb _ _ (c .before .before .if2 .left)))
-    (rows.yes 6 _ (rows.or-first _ (sym (c .before .is-value-high .ensures) ∙ c .if3 .taken))))
+    (rows.yes 6 _ (or-first _ (sym (c .before .is-value-high .ensures) ∙ c .if3 .taken))))
 
 is-tail-high-requires : tie.Need-is-tail-high-requires
 is-tail-high-requires c κs = search needs
@@ -41,14 +42,14 @@ returns-4 c = let q = c .before .before .before .before .before .before in
     let p = c .before .before in
     rows.no 4 (rw (q .before .before .field-count .ensures) at (sym (q .before .is-list-wrong .ensures) ∙ q .if1 .left))
     (rows.no 5 (rw (p .before .before .before .frame-length .ensures) at (le-ltb _ _ (p .before .before .if2 .left)))
-    (rows.yes 6 _ (rows.or-second (sym (p .before .is-value-high .ensures) ∙ p .if3 .left) (sym (c .before .is-tail-high .ensures) ∙ c .if4 .taken))))
+    (rows.yes 6 _ (or-second (sym (p .before .is-value-high .ensures) ∙ p .if3 .left) (sym (c .before .is-tail-high .ensures) ∙ c .if4 .taken))))
 
 returns-5 : tie.Need-returns-5
 returns-5 c = let q = c .before .before .before .before .before .before in
     let p = c .before .before in
     rows.no 4 (rw (q .before .before .field-count .ensures) at (sym (q .before .is-list-wrong .ensures) ∙ q .if1 .left))
     (rows.no 5 (rw (p .before .before .before .frame-length .ensures) at (le-ltb _ _ (p .before .before .if2 .left)))
-    (rows.no 6 (rows.or-second (sym (p .before .is-value-high .ensures) ∙ p .if3 .left) (sym (c .before .is-tail-high .ensures) ∙ c .if4 .left)) refl))
+    (rows.no 6 (or-second (sym (p .before .is-value-high .ensures) ∙ p .if3 .left) (sym (c .before .is-tail-high .ensures) ∙ c .if4 .left)) refl))
 
 pub judge-settings-spec : {M : Type 1} → statement M
 judge-settings-spec =

@@ -3,7 +3,7 @@ use Rattle.frames.proofs.Accepted as accepted
 use Rattle.frames.specs.Frames.{toldRows}
 use Rattle.frames.specs.Writing.{writeRows, writeRefusal}
 use mathlib.Core.Path.{refl}
-use Rattle.parts.proofs.Rows as rows
+use Rattle.tables.proofs.Rows as rows
 use borrow.Author.Needs.{needs}
 use Rattle.frames.proofs.writer.judge_write.Statement.{statement}
 use Rattle.frames.proofs.writer.judge_write.Tie as tie

@@ -5,7 +5,7 @@ use Rattle.frames.proofs.writer.write.Tie as tie
 use mathlib.Core.Path.{ap}
 use lib.ListN.{length}
 use Rattle.bits.specs.Bits.{over}
-use Rattle.parts.proofs.Rows as rows
+use Rattle.tables.proofs.Rows as rows
 use Rattle.frames.specs.Frames.{frameOf}
 use Rattle.frames.specs.Writing.{settings, written, writtenOut}
 use Rattle.frames.specs.declared.told.Written.the-variants.{Bytes, Refused}

@@ -1,4 +1,4 @@
-use Rattle.parts.proofs.Rows.{yes, no}
+use Rattle.tables.proofs.Rows.{yes, no}
 use mathlib.Core.Path.{refl, sym, ap, _∙_}
 use mathlib.Core.Bool.{not}
 use borrow.Author.Tests.{lt-ltb, le-ltb}

@@ -1,7 +1,7 @@
 use Rattle.line.specs.States.{stateRows, dataBits, packedAnswer, packedOut}
 use Rattle.line.specs.declared.states.Line.the-variants as L
 use Rattle.bits.specs.Bits.{bytesOf, bytesFor, over}
-use Rattle.parts.proofs.Rows as rows
+use Rattle.tables.proofs.Rows as rows
 use mathlib.Core.Path.{refl, sym, ap, _∙_}
 use lib.ListN.{length}
 use borrow.Author.Tests.{ltb-false}

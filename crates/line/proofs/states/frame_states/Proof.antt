@@ -1,7 +1,7 @@
 use Rattle.line.specs.States.{frameRows, frameStates, clockedAnswer, clockedOut}
 use Rattle.line.specs.declared.states.Line.the-variants as L
 use Rattle.bits.specs.Bits.{over}
-use Rattle.parts.proofs.Rows as rows
+use Rattle.tables.proofs.Rows as rows
 use mathlib.Core.Path.{refl, sym, _∙_}
 use lib.ListN.{length}
 use borrow.Author.Tests.{eqb-true, ltb-false, not-false}

@@ -1,4 +1,4 @@
-use Rattle.parts.proofs.Rows.{yes, no, differs, agrees}
+use Rattle.tables.proofs.Rows.{yes, no, differs, agrees}
 use mathlib.Core.Path.{refl}
 use borrow.Author.Tests.{lt-ltb, le-ltb}
 use borrow.Author.Needs.{needs}

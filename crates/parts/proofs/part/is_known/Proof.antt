@@ -1,4 +1,4 @@
-use Rattle.parts.proofs.Laws.{or-false}
+use Rattle.tables.proofs.Booleans.{or-false}
 use borrow.Author.Tests.{eq-eqb, ne-eqb}
 use Rattle.parts.proofs.part.is_known.Statement.{statement}
 use Rattle.parts.proofs.part.is_known.Tie as tie

@@ -1,3 +1,6 @@
+use mathlib.Core.Path.{_≡_, refl}
+use Rattle.parts.specs.Parts.{partOf, fieldLimit}
+use Rattle.parts.proofs.Cases.{byte-command}
 use borrow.Author.Needs.{needs}
 use Rattle.parts.proofs.slices.field_limit.Statement.{statement}
 use Rattle.parts.proofs.slices.field_limit.Tie as tie
@@ -8,37 +11,13 @@ enum-told c = search needs
 value-limit-requires : tie.Need-value-limit-requires
 value-limit-requires c κs = search needs
 
-enum-told-2 : tie.Need-enum-told-2
-enum-told-2 c = search needs
-
-enum-told-3 : tie.Need-enum-told-3
-enum-told-3 c = search needs
-
-enum-told-4 : tie.Need-enum-told-4
-enum-told-4 c = search needs
-
 returns : tie.Need-returns
 returns c = rw (c .before .enum-told .given .1) (c .value-limit .ensures)
 
 returns-2 : tie.Need-returns-2
-returns-2 c = rw (c .enum-told2 .given .1)
-
-returns-3 : tie.Need-returns-3
-returns-3 c = rw (c .enum-told3 .given .1)
-
-returns-4 : tie.Need-returns-4
-returns-4 c = rw (c .enum-told4 .given .1)
+returns-2 c =
+    let a = c .before .args in
+    byte-command (λ k. 256 ≡ fieldLimit (partOf (a .part)) k) refl refl refl (a .command) (c .match .keys2)
 
 pub field-limit-spec : {M : Type 1} → statement M
-field-limit-spec =
-    tie.close
-    (tie.spec
-    enum-told
-    value-limit-requires
-    enum-told-2
-    enum-told-3
-    enum-told-4
-    returns
-    returns-2
-    returns-3
-    returns-4)
+field-limit-spec = tie.close (tie.spec enum-told value-limit-requires returns returns-2)

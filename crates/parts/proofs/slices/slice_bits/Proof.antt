@@ -1,5 +1,5 @@
 use mathlib.Core.Path.{ap₂, _∙_}
-use Prim.Native.Nat.{ℕ, _+_, _*_, _%_}
+use Prim.Native.Nat.{ℕ, _+_, _*_, _%_, _<_}
 use native.Mathlib.Omega.{arith}
 use lib.ListN.{getD}
 use Rattle.parts.proofs.Laws.{code-lt, row-index-lt, table, slice-table}
@@ -19,23 +19,29 @@ mul-at c = search needs
 row-of-requires : tie.Need-row-of-requires
 row-of-requires c κs = search needs
 
+-- the number of the command and the column of the part
+within : (c : tie.After-row-of) → (c .before .number-of .result < 4) × (c .row-of .result < 2)
+within c =
+    let a = c .before .before .args in
+    (omega (arith, c .before .number-of .ensures, code-lt (a .command)), omega (arith, c .row-of .ensures, row-index-lt (a .part)))
+
 mul-at-2 : tie.Need-mul-at-2
-mul-at-2 c = omega (arith, c .before .number-of .ensures, c .row-of .ensures, code-lt (c .before .before .args .command), row-index-lt (c .before .before .args .part))
+mul-at-2 c = omega (arith, within c .0, within c .1)
 
 add-at : tie.Need-add-at
-add-at c = omega (arith, c .before .number-of .ensures, c .row-of .ensures, code-lt (c .before .before .args .command), row-index-lt (c .before .before .args .part))
+add-at c = omega (arith, within c .0, within c .1)
 
 cast-at-2 : tie.Need-cast-at-2
 cast-at-2 c = search needs
 
 add-at-2 : tie.Need-add-at-2
-add-at-2 c = omega (arith, c .before .number-of .ensures, c .row-of .ensures, code-lt (c .before .before .args .command), row-index-lt (c .before .before .args .part))
+add-at-2 c = omega (arith, within c .0, within c .1)
 
 mul-result : tie.Need-mul-result
-mul-result c = omega (arith, c .before .number-of .ensures, c .row-of .ensures, code-lt (c .before .before .args .command), row-index-lt (c .before .before .args .part))
+mul-result c = omega (arith, within c .0, within c .1)
 
 array-read-result : tie.Need-array-read-result
-array-read-result c = omega (arith, c .before .number-of .ensures, c .row-of .ensures, code-lt (c .before .before .args .command), row-index-lt (c .before .before .args .part))
+array-read-result c = omega (arith, within c .0, within c .1)
 
 returns : tie.Need-returns
 returns c = let a = c .before .before .args in

@@ -1,7 +1,9 @@
-use mathlib.Core.Path.{_≡_, ap, _∙_}
+use mathlib.Core.Path.{_≡_, refl, ap, _∙_}
+use Rattle.parts.specs.Parts.{partOf, multiplex, sliceFields}
 use Rattle.parts.specs.declared.part.Constants.{Constants}
 use native.Mathlib.Omega.{arith}
 use Rattle.parts.proofs.Laws.{banks-three}
+use Rattle.parts.proofs.Cases.{byte-command}
 use borrow.Author.Needs.{needs}
 use Rattle.parts.proofs.slices.slice_fields.Statement.{statement}
 use Rattle.parts.proofs.slices.slice_fields.Tie as tie
@@ -18,53 +20,25 @@ add-phases c = search needs
 enum-told : tie.Need-enum-told
 enum-told c = search needs
 
+three : (c : tie.After-enum-told) → c .before .before .constants-of .result .banks ≡ 3
+three c = ap (λ (k : Constants). k .banks) (c .before .before .constants-of .ensures) ∙ banks-three (c .before .before .before .args .part)
+
 mul-result : tie.Need-mul-result
-mul-result c =
-    let e = c .before .before .constants-of .ensures in
-    let b : c .before .before .constants-of .result .banks ≡ 3 = ap (λ (k : Constants). k .banks) e ∙ banks-three (c .before .before .before .args .part) in
-    omega (arith, b)
+mul-result c = omega (arith, three c)
 
 mul-result-2 : tie.Need-mul-result-2
-mul-result-2 c =
-    let e = c .before .before .constants-of .ensures in
-    let b : c .before .before .constants-of .result .banks ≡ 3 = ap (λ (k : Constants). k .banks) e ∙ banks-three (c .before .before .before .args .part) in
-    rw b (omega arith)
-
-enum-told-2 : tie.Need-enum-told-2
-enum-told-2 c = search needs
-
-enum-told-3 : tie.Need-enum-told-3
-enum-told-3 c = search needs
-
-enum-told-4 : tie.Need-enum-told-4
-enum-told-4 c = search needs
+mul-result-2 c = rw (three c) (omega arith)
 
 returns : tie.Need-returns
 returns c = rw (c .enum-told .given .1, c .before .before .constants-of .ensures)
 
 returns-2 : tie.Need-returns-2
-returns-2 c = rw (c .enum-told2 .given .1, c .before .before .constants-of .ensures)
-
-returns-3 : tie.Need-returns-3
-returns-3 c = rw (c .enum-told3 .given .1, c .before .before .constants-of .ensures)
-
-returns-4 : tie.Need-returns-4
-returns-4 c = rw (c .enum-told4 .given .1, c .before .before .constants-of .ensures)
+returns-2 c =
+    let a = c .before .before .args in
+    ap (λ (k : Constants). k .banks) (c .before .constants-of .ensures)
+    ∙ byte-command (λ k. partOf (a .part) .banks ≡ sliceFields (partOf (a .part)) k (multiplex (a .configuration))) refl refl refl (a .command) (c .match .keys2)
 
 pub slice-fields-spec : {M : Type 1} → statement M
 slice-fields-spec =
     tie.close
-    (tie.spec
-    constants-of-requires
-    cast-phases
-    add-phases
-    enum-told
-    mul-result
-    mul-result-2
-    enum-told-2
-    enum-told-3
-    enum-told-4
-    returns
-    returns-2
-    returns-3
-    returns-4)
+    (tie.spec constants-of-requires cast-phases add-phases enum-told mul-result mul-result-2 returns returns-2)

@@ -4,7 +4,7 @@ use native.Mathlib.Omega.{arith}
 use borrow.Author.Tests.{le-leb, lt-leb}
 use Rattle.parts.specs.declared.part.Constants.{Constants}
 use Rattle.parts.specs.Parts.{partOf, subframes}
-use Rattle.parts.proofs.Rows.{or-first, or-second}
+use Rattle.tables.proofs.Booleans.{or-first, or-second}
 use Rattle.schedule.specs.Answers.{positionOver}
 use borrow.Author.Needs.{needs}
 use Rattle.schedule.proofs.judge.is_position_over.Statement.{statement}

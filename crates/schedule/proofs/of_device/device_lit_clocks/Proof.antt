@@ -1,7 +1,7 @@
 use mathlib.Core.Path.{sym, ap, subst, _∙_}
 use Prim.Native.Nat.{ℕ, _<_}
 use Rattle.parts.specs.Parts.{partOf, limit}
-use Rattle.parts.proofs.Rows.{refused, accepted}
+use Rattle.tables.proofs.Rows.{refused, accepted}
 use Rattle.schedule.specs.declared.answer.Clocks.the-variants.{Refused}
 use Rattle.schedule.specs.Answers.{litRun}
 use Rattle.schedule.specs.OfDevice.{shownRun, deviceClocksAnswer}

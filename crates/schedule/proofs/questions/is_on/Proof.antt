@@ -1,7 +1,7 @@
 use mathlib.Core.Path.{refl, sym, ap, _∙_}
 use borrow.Author.Tests.{leb-false}
 use Rattle.parts.specs.Parts.{partOf}
-use Rattle.parts.proofs.Rows.{clear, refused, accepted}
+use Rattle.tables.proofs.Rows.{clear, refused, accepted}
 use Rattle.schedule.specs.declared.answer.Asked.the-variants.{Is, Refused}
 use Rattle.schedule.specs.Light.{isOn}
 use Rattle.schedule.specs.Answers.{onRows, onAnswer}

@@ -3,7 +3,7 @@ use mir.Syntax.{w32}
 use mir.Facts.{toZ-ofZ}
 use borrow.Author.Tests.{ltb-false}
 use Rattle.parts.specs.Parts.{partOf}
-use Rattle.parts.proofs.Rows.{clear, refused, accepted}
+use Rattle.tables.proofs.Rows.{clear, refused, accepted}
 use Rattle.schedule.specs.declared.answer.Lead.the-variants.{By, Refused}
 use Rattle.schedule.specs.Light.{leadOf}
 use Rattle.schedule.specs.Answers.{leadRows, leadAnswer}

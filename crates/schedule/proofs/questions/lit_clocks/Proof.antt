@@ -1,7 +1,7 @@
 use mathlib.Core.Path.{refl, sym, _∙_}
 use borrow.Author.Tests.{leb-false}
 use Rattle.parts.specs.Parts.{partOf}
-use Rattle.parts.proofs.Rows.{clear, refused, accepted}
+use Rattle.tables.proofs.Rows.{clear, refused, accepted}
 use Rattle.schedule.specs.declared.answer.Clocks.the-variants.{Refused}
 use Rattle.schedule.specs.Answers.{litRows, litRun, litClocksAnswer}
 use Rattle.schedule.proofs.Lit.{position-within}

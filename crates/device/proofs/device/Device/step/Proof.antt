@@ -4,11 +4,11 @@ use borrow.Author.Tests.{lt-ltb, le-ltb}
 use mathlib.Core.Bool.{Bool, cond}
 use lib.Dec.{ltb}
 use Rattle.device.specs.Judgement.{fits, stepRefusals, refusedWith, taken}
-use Rattle.parts.proofs.Rows.{refused, accepted}
+use Rattle.tables.proofs.Rows.{refused, accepted}
 use Rattle.parts.specs.Parts.{known}
 use Rattle.device.proofs.Judged.{first-record, first-state}
 use mathlib.Core.Path.{_≡_, refl, sym, ap, _∙_}
-use Rattle.parts.specs.Refusals.{first}
+use Rattle.tables.specs.Refusals.{first}
 use borrow.Author.Needs.{needs}
 use Rattle.device.proofs.device.Device.step.Statement.{statement}
 use Rattle.device.proofs.device.Device.step.Tie as tie

@@ -1,0 +1,23 @@
+use borrow.Author.Tests.{not-true, not-false}
+use mathlib.Core.Path.{sym, _∙_}
+use borrow.Author.Needs.{needs}
+use Rattle.calls.proofs.refusals.part_refusal.Statement.{statement}
+use Rattle.calls.proofs.refusals.part_refusal.Tie as tie
+
+returns : tie.Need-returns
+returns c = search needs
+
+is-count-requires : tie.Need-is-count-requires
+is-count-requires c κs = search needs
+
+returns-2 : tie.Need-returns-2
+returns-2 c = rw (not-false (c .before .before .before .before .args .judged .known) (c .before .before .if1 .left), sym (c .before .is-count .ensures) ∙ not-true _ (c .if2 .taken))
+
+returns-3 : tie.Need-returns-3
+returns-3 c = rw (not-false (c .before .before .before .before .before .before .args .judged .known) (c .before .before .before .before .if1 .left), sym (c .before .before .before .is-count .ensures) ∙ not-false _ (c .before .before .if2 .left), not-true (c .before .before .before .before .before .before .args .judged .same) (c .if3 .taken))
+
+returns-4 : tie.Need-returns-4
+returns-4 c = rw (not-false (c .before .before .before .before .before .before .args .judged .known) (c .before .before .before .before .if1 .left), sym (c .before .before .before .is-count .ensures) ∙ not-false _ (c .before .before .if2 .left), not-false (c .before .before .before .before .before .before .args .judged .same) (c .if3 .left))
+
+pub part-refusal-spec : {M : Type 1} → statement M
+part-refusal-spec = tie.close (tie.spec returns is-count-requires returns-2 returns-3 returns-4)

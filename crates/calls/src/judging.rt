@@ -1,0 +1,84 @@
+// The judgement of a lent chain in one pass over its records.
+ghost use mathlib.Core.Path.{_≡_};
+ghost use mathlib.Core.Bool.{Bool, _&&_, cond, true};
+ghost use lib.Dec.{eqb};
+ghost use Rattle.calls.specs.Judging.{unjudged, judgedWith, judgedFrom};
+use device::Device;
+
+// What one pass over the records finds.
+pub struct Judged {
+    // A record was seen.
+    pub some: bool,
+    // The first record's part.
+    pub part: u16,
+    pub known: bool,
+    pub same: bool,
+    pub fits: bool,
+}
+
+// All records, in their order.
+pub fn judge(chain: &[Device]) -> Judged
+    ensures { λ r. ⌜ r ≡ judgedFrom unjudged (now (chain .entry)) ⌝ }
+{
+    let mut judged = judge_none();
+    let mut i: usize = 0;
+    while i < chain.len() {
+        judged = judge_one(judged, chain[i]);
+        i += 1;
+    }
+    judged
+}
+
+// Before the first record.
+pub fn judge_none() -> Judged
+    ensures { λ r. ⌜ r ≡ unjudged ⌝ }
+{
+    Judged {
+        some: false,
+        part: 0,
+        known: true,
+        same: true,
+        fits: true,
+    }
+}
+
+// One record more.
+pub fn judge_one(judged: Judged, device: Device) -> Judged
+    ensures { λ r. ⌜ r ≡ judgedWith judged device ⌝ }
+{
+    let part = device.registers.part;
+    let known = both(judged.known, parts::is_known(part));
+    let same = both(judged.same, meets(judged, part));
+    let fits = both(judged.fits, device.fits());
+    Judged {
+        some: true,
+        part: first_part(judged, part),
+        known: known,
+        same: same,
+        fits: fits,
+    }
+}
+
+// The part is the first record's.
+fn meets(judged: Judged, part: u16) -> bool
+    ensures { λ r. ⌜ r ≡ cond (judged .some) (eqb part (judged .part)) true ⌝ }
+{
+    if judged.some {
+        part == judged.part
+    } else {
+        true
+    }
+}
+
+fn first_part(judged: Judged, part: u16) -> u16
+    ensures { λ r. ⌜ r ≡ cond (judged .some) (judged .part) part ⌝ }
+{
+    if judged.some { judged.part } else { part }
+}
+
+// Both tests pass.
+pub fn both(a: bool, b: bool) -> bool
+    ensures { λ r. ⌜ r ≡ (a && b) ⌝ }
+{
+    if a { b } else { false }
+}

@@ -1,0 +1,15 @@
+-- Tests of whole lists.
+use Prim.Native.Nat.{ℕ}
+use mathlib.Core.Bool.{Bool, true, _&&_}
+use mathlib.Core.List.{List, [], _∷_}
+use lib.Dec.{ltb}
+
+-- each passes a test
+abbrev pub every : {A : Type 0} → (A → Bool) → List A → Bool
+every f [] = true
+every f (x ∷ xs) = f x && every f xs
+
+-- each number is below m
+abbrev pub allBelow : List ℕ → ℕ → Bool
+allBelow [] m = true
+allBelow (x ∷ xs) m = ltb x m && allBelow xs m

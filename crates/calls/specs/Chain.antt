@@ -4,19 +4,16 @@ use Prim.Native.Nat.{ℕ}
 use mathlib.Core.Bool.{Bool, true, _&&_}
 use mathlib.Core.List.{List, [], _∷_}
 use lib.Dec.{eqb, leb}
+use Rattle.machine.specs.Machine.{chain}
 use Rattle.parts.specs.Parts.{known}
 use Rattle.device.specs.Step.{freshDevice}
 use Rattle.device.specs.Judgement.{fits}
-use Rattle.device.specs.Run.{run}
+use Rattle.device.specs.Run.{stepRecord}
 use Rattle.device.specs.declared.device.Device.{Device}
 
 -- the devices after line states, and what the last one sent: each device takes all that the one before it sent
-unfoldable pub through : List Device → List ℕ → List Device × List ℕ
-through [] ss = ([], ss)
-through (d ∷ ds) ss =
-    let one : Device × List ℕ = run d ss in
-    let rest : List Device × List ℕ = through ds (one .1) in
-    (one .0 ∷ rest .0, rest .1)
+abbrev pub through : List Device → List ℕ → List Device × List ℕ
+through ds ss = chain stepRecord ds ss
 
 -- each passes a test
 abbrev pub every : {A : Type 0} → (A → Bool) → List A → Bool

@@ -40,10 +40,11 @@ use Rattle.model.specs.Lists.{All, Both}
 use Rattle.model.specs.Device.{faults, stepDevice}
 use Rattle.model.specs.Device as model
 use Rattle.model.specs.Set.{Set, Own, owned}
-use Rattle.model.specs.Restore.{restoreOrder, CutFields}
-use Rattle.link.specs.View.{deviceOf, stepRecord, Arrays, registersAt, registersAll, Holds}
+use Rattle.model.specs.Restore.{restoreOrder, returnsOf, CutFields}
+use Rattle.device.specs.Run.{stepRecord}
+use Rattle.link.specs.View.{deviceOf, Arrays, registersAt, registersAll, Holds}
 use Rattle.link.specs.Called.{called}
-use Rattle.link.specs.Restore.{Writable, framePart, restorePart, restoreStates, restoreThen, gapAfter, arrival, returnsOf}
+use Rattle.link.specs.Restore.{Writable, framePart, restorePart, restoreStates, restoreThen, gapAfter, tailsOf, arrival}
 use Rattle.turns.specs.Answer.{ran, runAnswer}
 use Rattle.turns.specs.declared.entry.Ran.{Ran}
 use Rattle.schedule.specs.Light.{count, level, isOn, leadOf, isLit, litAt, inRun, litCount}
@@ -215,7 +216,7 @@ pub record Outcome (now : List Device) (during : List Call) (s : Set) (gap : Com
       (j : ℕ)
       → length (restorePart s gap tail j) ≤ k
       → k ≤ length (restorePart s gap tail j) + length (gapAfter gap last j)
-      → dataBits (answers now during) ≡ flatten (take j (returnsOf tail (registersAll now)))
+      → dataBits (answers now during) ≡ flatten (take j (returnsOf (tailsOf tail) (registersAll now)))
   -- in each device, 1 to N, each group is new exactly where its slice had fully arrived
   pub cut :
       (device : ℕ) (o : Own)

@@ -9,7 +9,8 @@ use lib.Dec.{ltb}
 use lib.ListN.{length, take, drop, length-drop}
 use Rattle.device.specs.Phases.{phaseOf, heard}
 use Rattle.device.specs.Step.{step, stepHigh, moved, sentStates}
-use Rattle.device.specs.Run.{run}
+use Rattle.device.specs.Run.{stepRecord, run}
+use Rattle.machine.specs.Machine as machine
 use Rattle.device.specs.declared.phase.Sent.{Sent}
 use Rattle.device.specs.declared.phase.Sent.the-variants.{Nothing, One, Header}
 use Rattle.device.specs.declared.device.Device.{Device}
@@ -28,11 +29,11 @@ Load b (s ∷ ss) = (ltb s 2 ≡ b) × Load b ss
 
 run-cons : (d : Device) (s : ℕ) (ss : List ℕ)
     → run d (s ∷ ss) ≡ (run (step d s .device) ss .0, sentStates (step d s .sent) ++ run (step d s .device) ss .1)
-unfolding run
+unfolding machine.run stepRecord
 run-cons d s ss = refl
 
 run-none : (d : Device) → run d [] ≡ (d, [])
-unfolding run
+unfolding machine.run stepRecord
 run-none d = refl
 
 -- t is what a device makes of the first `count` states of rest, which begins at i

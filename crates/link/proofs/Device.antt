@@ -17,7 +17,6 @@ use Rattle.device.specs.Phases.{phaseOf, windowOf, heard, rising, opened, openi
 use Rattle.device.specs.Held.{holding, took, stored, copies}
 use Rattle.device.specs.Step.{moved, sliceLength, step, stepHigh}
 use Rattle.device.specs.Judgement.{placeFits, fits}
-use Rattle.device.specs.Run as records
 use Rattle.device.specs.declared.phase.Phase.{Phase}
 use Rattle.device.specs.declared.phase.Phase.the-variants.{Hunting, Opening, Counting, Slice, Passing, Lost}
 use Rattle.device.specs.declared.phase.Sent.the-variants.{Nothing, One}
@@ -28,13 +27,13 @@ use Rattle.device.proofs.Places.{Small}
 use Rattle.tables.proofs.Booleans.{and-both, cond-both}
 use Rattle.device.proofs.Kept.{Below, below-of, Good, phase-good, kept}
 use Rattle.model.specs.Lists.{All}
-use Rattle.calls.specs.Chain.{through}
-use Rattle.model.specs.Run.{run, chain}
+use Rattle.machine.specs.Machine.{chain}
 use Rattle.model.specs.Device.{slice, stepDevice}
 use Rattle.model.specs.Device as model
-use Rattle.model.proofs.Run.{chain-view, chain-holds}
+use Rattle.machine.proofs.Machine.{chain-view, chain-holds}
 use Rattle.link.proofs.Numbers.{digit-bit}
-use Rattle.link.specs.View.{phaseIn, viewed, deviceOf, stepRecord}
+use Rattle.device.specs.Run.{stepRecord}
+use Rattle.link.specs.View.{phaseIn, viewed, deviceOf}
 use Rattle.link.proofs.View.{Sound, seen, seen-sending}
 use Rattle.link.proofs.Header.{rising-same, opening-same, counting-same}
 use Rattle.link.proofs.Slice.{slice-same}
@@ -178,17 +177,6 @@ pub step-part : (d : Device) (s : ℕ) → (stepRecord d s) .0 .registers .part 
 step-part d s = step-keeps (λ r. r .part) (λ r configuration calibration waiting waiting0 waiting1 slots. refl) d s
 
 -- ---- chains of records
-
--- a run of records is the plain chain
-run-same : (d : Device) (ss : List ℕ) → records.run d ss ≡ run stepRecord d ss
-unfolding records.run run stepRecord
-run-same d [] = refl
-run-same d (s ∷ ss) = rw (run-same (step d s .device) ss)
-
-pub through-same : (ds : List Device) (ss : List ℕ) → through ds ss ≡ chain stepRecord ds ss
-unfolding through chain
-through-same [] ss = refl
-through-same (d ∷ ds) ss = rw (run-same d ss, through-same ds ((run stepRecord d ss) .1))
 
 pub chain-agree : (ds : List Device) (ss : List ℕ) → All Sound ds
     → (map deviceOf ((chain stepRecord ds ss) .0), map lineOf ((chain stepRecord ds ss) .1)) ≡ model.runChain (map deviceOf ds) (map lineOf ss)

@@ -18,7 +18,6 @@ use Rattle.parts.specs.declared.command.Command.{Command}
 use Rattle.parts.specs.declared.command.Command.the-variants.{Individual, Calibration, Global, Configuration}
 use Rattle.device.specs.Phases.{rising, opened, opening, counting}
 use Rattle.device.specs.Step.{at, sliceLength, step}
-use Rattle.device.specs.Run as records
 use Rattle.device.specs.declared.phase.Phase.{Phase}
 use Rattle.device.specs.declared.phase.Phase.the-variants.{Hunting, Opening, Counting, Slice, Lost}
 use Rattle.device.specs.declared.registers.Registers.{Registers}

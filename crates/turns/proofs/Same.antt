@@ -9,12 +9,14 @@ use lib.Dec.{ltb, leb, eqb}
 use lib.ListN.{length, getD, set, take, drop, length-append, take-append-drop}
 use lib.Seq.{set-at, set-getD, getD-at, drop-drop, drop-append-seam, length-take-le}
 use borrow.Author.Tests.{ltb-true, ltb-false, leb-true, leb-false, eqb-true, eq-eqb}
+use Rattle.machine.specs.Machine.{chain}
+use Rattle.machine.proofs.Machine.{run-nil, run-then, chain-nil, chain-devices}
 use Rattle.parts.specs.Wire.{header, statesOf}
 use Rattle.parts.specs.declared.command.Command.{Command}
 use Rattle.device.specs.Phases.{phaseOf, placeOf}
 use Rattle.device.specs.Step.{sentStates}
 use Rattle.device.specs.Judgement.{fits, placeFits}
-use Rattle.device.specs.Run.{run}
+use Rattle.device.specs.Run.{stepRecord, run}
 use Rattle.device.specs.declared.phase.Place.{Place}
 use Rattle.device.specs.declared.phase.Phase.{Phase}
 use Rattle.device.specs.declared.phase.Phase.the-variants.{Hunting, Opening, Counting, Slice, Passing, Lost}
@@ -29,8 +31,8 @@ use Rattle.calls.specs.Chain.{through, allFit, blank}
 use Rattle.turns.specs.declared.cursor.Cursor.{Cursor}
 use Rattle.turns.specs.Front.{isPassing, passes, untilSent, frontTaken, sliceStart, deviceTaken, putAll, putEnd, highs, indexOf, cursor, facing, aimed, frontAfter, lineCursor, lineOut, deviceTurn, turnedOut, Running, turning, turns, started, enough, frontRun, Turned}
 use Rattle.turns.proofs.Lines.{put-full, length-put, put-append, highs-fit, length-header-states}
-use Rattle.turns.proofs.Header.{run-then, run-header}
-use Rattle.turns.proofs.Taking.{by-test, through-append, High, AllPass, none, also, passer, through-high, Takes, takes-none, takes, Ending, quiet, sent, endings, ending-low}
+use Rattle.turns.proofs.Header.{run-header}
+use Rattle.turns.proofs.Taking.{by-test, High, AllPass, none, also, passer, through-high, Takes, takes-none, takes, Ending, quiet, sent, endings, ending-low}
 use Rattle.turns.proofs.Turns.{no-way, owed, low-front, lineTurn, turnWithin, turned-is, turned-out-is, Good, measure, good-start, good-next, nearer-next, turns-on, turns-stop, near-start}
 use Rattle.tables.proofs.Booleans.{and-left}
 
@@ -58,23 +60,23 @@ abbrev mid : Whole → Device → List ℕ → List Device → Whole
 mid a e q qs = (a .0 ++ (run e (a .1) .0 ∷ through qs (q ++ run e (a .1) .1) .0), through qs (q ++ run e (a .1) .1) .1)
 
 here : (a : Whole) (e : Device) (qs : List Device) → joined a (e ∷ qs) [] ≡ mid a e [] qs
-unfolding through
+unfolding chain
 here a e qs = refl
 
 one-device : (e : Device) (ss : List ℕ) → through (e ∷ []) ss ≡ (run e ss .0 ∷ [], run e ss .1)
-unfolding through
+unfolding chain
 one-device e ss = refl
 
 moves-on : (ps : List Device) (e : Device) (qs : List Device) (q rest : List ℕ) → joined (through (ps ++ (e ∷ [])) rest) qs q ≡ mid (through ps rest) e q qs
 moves-on ps e qs q rest =
-    ap (λ (a : Whole). joined a qs q) (through-append ps (e ∷ []) rest)
+    ap (λ (a : Whole). joined a qs q) (chain-devices stepRecord ps (e ∷ []) rest)
     ∙ ap (λ (b : Whole). joined (through ps rest .0 ++ b .0, b .1) qs q) (one-device e (through ps rest .1))
     ∙ ap (λ (ds : List Device). (ds, through qs (q ++ run e (through ps rest .1) .1) .1)) (append-assoc (through ps rest .0) (run e (through ps rest .1) .0 ∷ []) (through qs (q ++ run e (through ps rest .1) .1) .0))
 
 -- the states that a device takes go by the devices before it, which pass: there are none, or the states are high
 goes-by : (first : Bool) (ps : List Device) (d : Device) (ss : List ℕ) (k : ℕ) (t : Taken) → AllPass ps → (first ≡ true → ps ≡ []) → (x : Takes first d ss k t)
     → through ps (x .own ++ x .rest) ≡ (through ps (x .rest) .0, x .own ++ through ps (x .rest) .1)
-unfolding through
+unfolding chain
 goes-by true ps d ss k t a h x =
     subst (λ (bs : List Device). through bs (x .own ++ x .rest) ≡ (through bs (x .rest) .0, x .own ++ through bs (x .rest) .1)) (sym (h refl)) refl
 goes-by false ps d ss k t a h x = through-high ps (x .own) (x .rest) a (x .high refl)
@@ -82,12 +84,12 @@ goes-by false ps d ss k t a h x = through-high ps (x .own) (x .rest) a (x .high 
 -- a device takes the header that is under way and then states
 takes-on : (first : Bool) (ps qs : List Device) (d d0 : Device) (ins rest : List ℕ) (k : ℕ) (t : Taken) → AllPass ps → (first ≡ true → ps ≡ []) → run d ins ≡ (d0, []) → (x : Takes first d0 rest k t)
     → joined (through ps rest) (d ∷ qs) ins ≡ mid (through ps (x .rest)) (t .device) (sentStates (t .sent)) qs
-unfolding through
+unfolding chain
 takes-on first ps qs d d0 ins rest k t a f h x =
     ap (λ (r : List ℕ). joined (through ps r) (d ∷ qs) ins) (x .whole)
     ∙ ap (λ (b : Whole). joined b (d ∷ qs) ins) (goes-by first ps d0 rest k t a f x)
     ∙ ap (λ (y : Device × List ℕ). (through ps (x .rest) .0 ++ (y .0 ∷ through qs (y .1) .0), through qs (y .1) .1))
-    (run-then d ins (x .own ++ through ps (x .rest) .1) h (run-then d0 (x .own) (through ps (x .rest) .1) (x .runs) refl))
+    (run-then stepRecord d ins (x .own ++ through ps (x .rest) .1) h (run-then stepRecord d0 (x .own) (through ps (x .rest) .1) (x .runs) refl))
 
 -- ---- what holds between turns
 -- a record that passes has the numbers of that phase alone
@@ -174,10 +176,6 @@ module _ (ss : List ℕ) (fin : List Device × (List ℕ × ℕ)) where
 
   -- ---- the turn of a device, by what comes next
 
-  nothing-in : (d : Device) → run d [] ≡ (d, [])
-  unfolding run
-  nothing-in d = refl
-
   first-none : (f : ℕ) (ps : List Device) → length ps ≡ f → eqb f 0 ≡ true → ps ≡ []
   first-none f ps l e = no-more ps (l ∙ eqb-true f 0 e)
 
@@ -190,7 +188,7 @@ module _ (ss : List ℕ) (fin : List Device × (List ℕ × ℕ)) where
       → HoldsTaken ps qs d ws f w (frontTaken (eqb f 0) d rest at)
   unfolding HoldsTaken Small
   fronts ps qs d ws f at w [] e l a ne z u v =
-      stays (eqb f 0) ps qs d d d ws f at at w [] l a (first-none f ps l) ne (nothing-in d) (takes-none (eqb f 0) d (drop at ss) at) u v
+      stays (eqb f 0) ps qs d d d ws f at at w [] l a (first-none f ps l) ne (run-nil stepRecord d) (takes-none (eqb f 0) d (drop at ss) at) u v
   fronts ps qs d ws f at w (s ∷ xs) e l a ne z u v = go (passes d) refl (ltb s 2) refl
     where
       passing : d ≡ passer (d .registers) → Holds (set (ps ++ d ∷ qs) f d) ws (f + 1) at w (One 0)
@@ -210,7 +208,7 @@ module _ (ss : List ℕ) (fin : List Device × (List ℕ × ℕ)) where
 
       taking : Ending (untilSent (eqb f 0) d (s ∷ xs) at) → HoldsTaken ps qs d ws f w (untilSent (eqb f 0) d (s ∷ xs) at)
       taking end =
-          after (eqb f 0) ps qs d d ws f at w [] (untilSent (eqb f 0) d (s ∷ xs) at) l a (first-none f ps l) (ne .1) (nothing-in d)
+          after (eqb f 0) ps qs d d ws f at w [] (untilSent (eqb f 0) d (s ∷ xs) at) l a (first-none f ps l) (ne .1) (run-nil stepRecord d)
           (subst (λ (r : List ℕ). Takes (eqb f 0) d r at (untilSent (eqb f 0) d (s ∷ xs) at)) (sym e) (takes (eqb f 0) d (s ∷ xs) at)) end u v
 
       go : (p : Bool) → passes d ≡ p → (low : Bool) → ltb s 2 ≡ low → HoldsTaken ps qs d ws f w (cond (p && not low) (stopped d at (One 0)) (untilSent (eqb f 0) d (s ∷ xs) at))
@@ -232,9 +230,9 @@ module _ (ss : List ℕ) (fin : List Device × (List ℕ × ℕ)) where
 
   -- ---- the cursor is aimed
   reset : (ys : List Device) (ws : List ℕ) (f at w : ℕ) → Holds ys ws f at w Nothing → Holds ys ws 0 at w Nothing
-  unfolding Small through
+  unfolding Small chain
   reset ys ws f at w h =
-      let m : joined (through (h .ps) (drop at ss)) (h .qs) [] ≡ through ys (drop at ss) = sym (through-append (h .ps) (h .qs) (drop at ss)) ∙ ap (λ (b : List Device). through b (drop at ss)) (sym (h .split)) in
+      let m : joined (through (h .ps) (drop at ss)) (h .qs) [] ≡ through ys (drop at ss) = sym (chain-devices stepRecord (h .ps) (h .qs) (drop at ss)) ∙ ap (λ (b : List Device). through b (drop at ss)) (sym (h .split)) in
       record {
         ps = [];
         qs = ys;
@@ -294,7 +292,7 @@ module _ (ss : List ℕ) (fin : List Device × (List ℕ × ℕ)) where
       ∙ ap (λ (n : ℕ). (putAll (putAll ws w xs) (putEnd (length ws) w k) ys, putEnd n (putEnd (length ws) w k) (length ys))) (sym (length-put ws w xs))
 
   last-out : (a : Whole) (q : List ℕ) → joined a [] q ≡ (a .0 ++ [], q ++ a .1)
-  unfolding through
+  unfolding chain
   last-out a q = refl
 
   leaves : (ys : List Device) (ws : List ℕ) (f at w : ℕ) (c : Command) (n : ℕ) → (h : Holds ys ws f at w (Header c n)) → h .qs ≡ [] → Holds ys (putAll ws w (headerStates c n)) f at (putEnd (length ws) w 24) Nothing
@@ -415,18 +413,13 @@ module _ (ss : List ℕ) (fin : List Device × (List ℕ × ℕ)) where
           (line-holds ys ws n f i at w p g h (no-more (h .qs) (omega (arith, long, h .count, ltb-false f n q))))
 
   -- ---- the end
-  through-none : (ds : List Device) → through ds [] ≡ (ds, [])
-  unfolding through run
-  through-none [] = refl
-  through-none (d ∷ ds) = ap (λ (r : Whole). (d ∷ r .0, r .1)) (through-none ds)
-
   abbrev Ended : List Device → List ℕ → ℕ → Type 0
   Ended ys ws w = (ys ≡ fin .0) × ((ws, w) ≡ fin .1)
 
   ends-empty : (ys : List Device) (ws : List ℕ) (f at w : ℕ) → Holds ys ws f at w Nothing → drop at ss ≡ [] → w ≤ length ws → Ended ys ws w
   unfolding putAll
   ends-empty ys ws f at w h e l =
-      let m : joined (through (h .ps) (drop at ss)) (h .qs) [] ≡ (h .ps ++ h .qs, []) = ap (λ (r : List ℕ). joined (through (h .ps) r) (h .qs) []) e ∙ ap (λ (a : Whole). joined a (h .qs) []) (through-none (h .ps)) ∙ ap (λ (b : Whole). (h .ps ++ b .0, b .1)) (through-none (h .qs)) in (
+      let m : joined (through (h .ps) (drop at ss)) (h .qs) [] ≡ (h .ps ++ h .qs, []) = ap (λ (r : List ℕ). joined (through (h .ps) r) (h .qs) []) e ∙ ap (λ (a : Whole). joined a (h .qs) []) (chain-nil stepRecord (h .ps)) ∙ ap (λ (b : Whole). (h .ps ++ b .0, b .1)) (chain-nil stepRecord (h .qs)) in (
         h .split ∙ sym (ap (λ (b : Whole). b .0) m) ∙ h .devices,
         ap (λ (k : ℕ). (ws, k)) (full-or-not (length ws) w 0 (λ (k : ℕ). w ≡ k) (λ g. omega arith) (λ g. absurd (omega (arith, g, l)))) ∙ sym (ap (λ (b : Whole). wrote ws w (b .1)) m) ∙ h .out,
       )
@@ -496,7 +489,7 @@ all-neat (d ∷ ds) h = (fits-neat d (both d ds h .0), all-neat ds (both d ds h 
 -- a run by its front: the devices, what is written, and where it ends are the plain chain's
 pub front-run-same : (ds : List Device) (ss os : List ℕ) → 0 < length ds → length ds < 1024 → AllNeat ds
     → (frontRun ds ss os .devices ≡ through ds ss .0) × (frontRun ds ss os .out ≡ putAll os 0 (through ds ss .1)) × (frontRun ds ss os .cursor .written ≡ putEnd (length os) 0 (length (through ds ss .1)))
-unfolding frontRun through Small
+unfolding frontRun chain Small
 front-run-same ds ss os some few ne =
     let fin : List Device × (List ℕ × ℕ) = (through ds ss .0, (putAll os 0 (through ds ss .1), putEnd (length os) 0 (length (through ds ss .1)))) in
     let all = turns-all ss fin (enough ss) (length ds) (length os) (started ds ss os) some few (good-start ds ss os some) (near-start ds ss few)

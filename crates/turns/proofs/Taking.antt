@@ -8,13 +8,16 @@ use native.Mathlib.Nat.{mod-lt}
 use native.Mathlib.Omega.{arith}
 use lib.Dec.{ltb, eqb}
 use lib.ListN.{length}
+use Rattle.machine.specs.Machine.{chain}
+use Rattle.machine.specs.Machine as machine
+use Rattle.machine.proofs.Machine.{run-nil}
 use Rattle.parts.specs.Parts.{partOf, fieldWidth, fieldLimit}
 use Rattle.parts.specs.declared.command.Command.{Command}
 use Rattle.parts.specs.declared.command.Command.the-variants.{Individual, Calibration, Global, Configuration}
 use Rattle.device.specs.Phases.{phaseOf, heard, rising, opened, opening, counting}
 use Rattle.device.specs.Held.{took, stored, fault, raised}
 use Rattle.device.specs.Step.{step, stepHigh, moved, sending, sliceLength, sentStates, at}
-use Rattle.device.specs.Run.{run}
+use Rattle.device.specs.Run.{stepRecord, run}
 use Rattle.device.specs.declared.phase.Phase.{Phase}
 use Rattle.device.specs.declared.phase.Phase.the-variants.{Hunting, Opening, Counting, Slice, Passing, Lost}
 use Rattle.device.specs.declared.phase.Sent.{Sent}
@@ -31,13 +34,6 @@ pub by-test : {A : Type 0} (t : Bool) (x y : A) (P : A → Type 0) → P x → P
 by-test true x y P a b = a
 by-test false x y P a b = b
 
--- a chain is its front part and then the rest
-pub through-append : (ps qs : List Device) (ss : List ℕ)
-    → through (ps ++ qs) ss ≡ (through ps ss .0 ++ through qs (through ps ss .1) .0, through qs (through ps ss .1) .1)
-unfolding through
-through-append [] qs ss = refl
-through-append (d ∷ ps) qs ss = ap (λ (r : List Device × List ℕ). (run d ss .0 ∷ r .0, r .1)) (through-append ps qs (run d ss .1))
-
 -- ---- high states go through passing devices
 
 pub data High : List ℕ → Type 0 where
@@ -52,7 +48,7 @@ pub data AllPass : List Device → Type 0 where
   also : {r : Registers} {ds : List Device} → AllPass ds → AllPass (passer r ∷ ds)
 
 pass-one : (r : Registers) (s : ℕ) (ss : List ℕ) → ltb s 2 ≡ false → run (passer r) (s ∷ ss) ≡ (run (passer r) ss .0, s ∷ run (passer r) ss .1)
-unfolding run
+unfolding machine.run stepRecord
 pass-one r s ss e = rw e refl
 
 pass-all : (r : Registers) (hs ss : List ℕ) → High hs → run (passer r) (hs ++ ss) ≡ (run (passer r) ss .0, hs ++ run (passer r) ss .1)
@@ -60,7 +56,7 @@ pass-all r [] ss none = refl
 pass-all r (s ∷ hs) ss (also e h) = pass-one r s (hs ++ ss) e ∙ ap (λ (x : Device × List ℕ). (x .0, s ∷ x .1)) (pass-all r hs ss h)
 
 pub through-high : (ps : List Device) (hs ss : List ℕ) → AllPass ps → High hs → through ps (hs ++ ss) ≡ (through ps ss .0, hs ++ through ps ss .1)
-unfolding through
+unfolding chain
 through-high [] hs ss none h = refl
 through-high (d ∷ ps) hs ss (also {r} a) h =
     ap (λ (x : Device × List ℕ). (x .0 ∷ through ps (x .1) .0, through ps (x .1) .1)) (pass-all r hs ss h)
@@ -78,15 +74,11 @@ pub record Takes (first : Bool) (d : Device) (ss : List ℕ) (k : ℕ) (t : Take
 
 run-step : (d : Device) (s : ℕ) (ss : List ℕ)
     → run d (s ∷ ss) ≡ (run (step d s .device) ss .0, sentStates (step d s .sent) ++ run (step d s .device) ss .1)
-unfolding run
+unfolding machine.run stepRecord
 run-step d s ss = refl
 
-run-none : (d : Device) → run d [] ≡ (d, [])
-unfolding run
-run-none d = refl
-
 pub takes-none : (first : Bool) (d : Device) (ss : List ℕ) (k : ℕ) → Takes first d ss k (stopped d k Nothing)
-takes-none first d ss k = record { own = []; rest = ss; whole = refl; high = λ _. none; far = omega arith; runs = run-none d }
+takes-none first d ss k = record { own = []; rest = ss; whole = refl; high = λ _. none; far = omega arith; runs = run-nil stepRecord d }
 
 takes-sent : (first : Bool) (d : Device) (s : ℕ) (ss : List ℕ) (k : ℕ) (x : Sent) → step d s .sent ≡ x → (first ≡ false → ltb s 2 ≡ false)
     → Takes first d (s ∷ ss) k (stopped (step d s .device) (k + 1) x)
@@ -97,7 +89,7 @@ takes-sent first d s ss k x e h =
       whole = refl;
       high = λ f. also (h f) none;
       far = omega arith;
-      runs = run-step d s [] ∙ ap (λ (y : Device × List ℕ). (y .0, sentStates (step d s .sent) ++ y .1)) (run-none (step d s .device))
+      runs = run-step d s [] ∙ ap (λ (y : Device × List ℕ). (y .0, sentStates (step d s .sent) ++ y .1)) (run-nil stepRecord (step d s .device))
           ∙ ap (λ (y : Sent). (step d s .device, sentStates y ++ [])) e ∙ ap (λ (xs : List ℕ). (step d s .device, xs)) (append-nil (sentStates x));
     }
 

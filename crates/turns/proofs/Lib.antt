@@ -2,9 +2,10 @@
 pub mod Judged
 pub mod Lines
 pub mod Header
+pub mod Cases
+pub mod Phases
 pub mod Taking
 pub mod Turns
-pub mod Resuming
 pub mod Same
 pub mod Room
 pub mod Whole

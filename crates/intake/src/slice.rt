@@ -37,9 +37,9 @@ pub fn collect(
     crate::states::one(
         registers,
         Phase::Slice {
-            command: command,
-            count: count,
-            taken: taken,
+            command,
+            count,
+            taken,
         },
         states,
         from,
@@ -83,7 +83,8 @@ fn gather(
     part_of(registers, slice, command, count, t as u16, i)
 }
 
-fn smaller(a: usize, b: usize) -> usize
+// The smaller of two numbers.
+pub fn smaller(a: usize, b: usize) -> usize
     ensures { λ r. ⌜ r ≡ least a b ⌝ }
 {
     if a <= b { a } else { b }
@@ -124,9 +125,9 @@ fn part_of(
         device: Device {
             registers: held,
             place: device::place_of(Phase::Slice {
-                command: command,
-                count: count,
-                taken: taken,
+                command,
+                count,
+                taken,
             }),
         },
         at: from,
@@ -149,7 +150,7 @@ fn whole(registers: Registers, slice: [u16; 48], command: Command, count: u16, f
         },
         at: from,
         sent: Sent::Header {
-            command: command,
+            command,
             count: raised,
         },
     }

@@ -13,7 +13,7 @@ const FRAMES: usize = 50;
 
 /// Steps, and collecting.
 pub fn races() {
-    let states = page(1)
+    let states = page(6975, 1)
         .states(Command::Individual, Tail::default())
         .expect("a page in order");
     let mut start = Device::fresh(6975);

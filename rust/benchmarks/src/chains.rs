@@ -12,16 +12,20 @@ use std::hint::black_box;
 /// States in a flood: those of an individual frame of 512 multiplexed devices.
 const FLOOD: usize = 344_088;
 
-/// Restores of N = 64, 256, 512, 1023; floods of 512 devices.
+/// Restores of N = 64, 256, 512, 1023, and of 512 of the other part; floods of 512 devices.
 pub fn races() {
-    for devices in [64, 256, 512, 1023] {
-        let chain = vec![Device::fresh(6975); devices];
-        let limit = if devices == 512 { Some(2.0) } else { None };
+    for (part, devices) in [
+        (6975, 64),
+        (6975, 256),
+        (6975, 512),
+        (6975, 1023),
+        (6974, 512),
+    ] {
         run(
-            &format!("whole restore through one run, N = {devices}"),
-            &chain,
-            &restore(devices),
-            limit,
+            &format!("whole restore of a {part} chain through one run, N = {devices}"),
+            &vec![Device::fresh(part); devices],
+            &restore(part, devices),
+            (devices == 512).then_some(2.0),
         );
     }
     floods();
@@ -40,7 +44,7 @@ fn floods() {
     }
     let mut lost = chain.clone();
     lost[0].place = Place::of(record::LOST);
-    let frame = page(512)
+    let frame = page(6975, 512)
         .states(Command::Individual, Tail::default())
         .expect("a page in order");
     let cut = |length: usize| frame[..length].repeat(FLOOD / length);
@@ -73,8 +77,8 @@ fn floods() {
 }
 
 /// The states of a page's four frames, back to back.
-fn restore(devices: usize) -> Vec<u8> {
-    let set = page(devices);
+fn restore(part: u16, devices: usize) -> Vec<u8> {
+    let set = page(part, devices);
     let states = |command| set.states(command, Tail::default());
     Command::RESTORE
         .iter()

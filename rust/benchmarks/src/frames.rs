@@ -1,6 +1,7 @@
 //! Individual frames of multiplexed MAX6975 devices, from settings to bytes and back, with all checks.
 
 use crate::race::{best, print};
+use baseline::part::width;
 use baseline::{reader, writer};
 use cases::{sets, Random};
 use model::set::Set;
@@ -11,22 +12,23 @@ const INDIVIDUAL: u8 = 0;
 /// N = 1, 64, 512, 1023.
 pub fn races() {
     for devices in [1, 64, 512, 1023] {
-        let set = page(devices);
+        let set = page(6975, devices);
         let frame = write(&set);
         read(&set, &frame);
     }
 }
 
-/// A multiplexed page of a MAX6975 sign.
-pub fn page(devices: usize) -> Set {
+/// A multiplexed page of a sign, with values of the part's width.
+pub fn page(part: u16, devices: usize) -> Set {
     let random = &mut Random::of_case(2, devices as u64);
-    let mut set = sets::set(random, 6975, devices);
+    let mut set = sets::set(random, part, devices);
     set.configuration = 0x01;
     set.global = 7;
+    let highest = (1 << width(part)) - 1;
     set.individual = random
         .words(48 * devices)
         .iter()
-        .map(|v| v & 0x3FFF)
+        .map(|v| v & highest)
         .collect();
     set
 }

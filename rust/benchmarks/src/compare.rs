@@ -10,7 +10,7 @@ const DEVICES: usize = 512;
 
 /// The comparison that looks at everything: they are the same.
 pub fn races() {
-    let set = page(DEVICES);
+    let set = page(6975, DEVICES);
     let chain: Vec<Device> = (1..=DEVICES)
         .map(|number| {
             let mut device = Device::fresh(set.part);
@@ -55,6 +55,6 @@ pub fn races() {
         unit,
         proved,
         quick,
-        None,
+        Some(2.0),
     );
 }

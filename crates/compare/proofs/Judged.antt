@@ -1,7 +1,7 @@
 -- A comparison's refusal as one pass over the records finds it is the one that Compare says. By cases of the chain: without a record number
 -- 2 or a lower one is given before the parts are compared; with one, its part stands for all.
 use mathlib.Core.Path.{_≡_, refl, ap, ap₂, _∙_}
-use mathlib.Core.Bool.{Bool, true, false, _&&_, cond, and-true, and-false}
+use mathlib.Core.Bool.{Bool, true, false, _&&_, cond}
 use mathlib.Core.List.{List, [], _∷_}
 use Prim.Native.Nat.{ℕ}
 use lib.Dec.{eqb}
@@ -9,6 +9,7 @@ use lib.ListN.{length}
 use borrow.Author.Tests.{eqb-true}
 use Rattle.parts.specs.Parts as Parts
 use Rattle.parts.specs.Refusals.{first}
+use Rattle.parts.proofs.Tests.{and-true, and-false}
 use Rattle.device.specs.declared.device.Device.{Device}
 use Rattle.calls.specs.Chain.{every, hasPart, isCount, allKnown}
 use Rattle.turns.specs.declared.judging.Judged.{Judged}

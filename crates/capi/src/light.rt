@@ -126,8 +126,8 @@ fn of_clocks(clocks: schedule::Clocks) -> Clocks
 {
     match clocks {
         schedule::Clocks::Run(first, end) => Clocks {
-            first: first,
-            end: end,
+            first,
+            end,
             refusal: 0,
         },
         schedule::Clocks::Refused(number) => Clocks {

@@ -59,11 +59,11 @@ fn numbers(device: Device, count: u16, command: u8, state: u8, sent: u8, refusal
     ensures { λ r. ⌜ r ≡ numbers device count command state sent refusal ⌝ }
 {
     Stepped {
-        device: device,
-        count: count,
-        command: command,
-        state: state,
-        sent: sent,
-        refusal: refusal,
+        device,
+        count,
+        command,
+        state,
+        sent,
+        refusal,
     }
 }

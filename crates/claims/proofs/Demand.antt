@@ -11,7 +11,7 @@ use lib.ListN.{drop, length, length-map, take, getD}
 use borrow.Author.Tests.{le-ltb}
 use Rattle.bits.specs.Bits.{bytesOf}
 use Rattle.tables.specs.Lists.{allBelow}
-use Rattle.parts.specs.Parts.{partOf}
+use Rattle.parts.specs.Parts.{partOf, restoreOrder}
 use Rattle.tables.specs.Refusals.{first}
 use Rattle.parts.specs.Wire.{Line, low, high, lows, lineOf, stateOf, dataBit, returnOf}
 use Rattle.tables.proofs.Rows.{clear, none}
@@ -33,7 +33,7 @@ use Rattle.model.specs.Lists.{Both}
 use Rattle.model.specs.Device.{Registers, stepDevice, runChain, registersIn, faults, fault}
 use Rattle.model.specs.Device as model
 use Rattle.model.specs.Set.{Set, Own, Proper, owned}
-use Rattle.model.specs.Restore.{restoreOrder, Piece, pieceStates, piecesOf, piecesStates, returnsOf, CutFields}
+use Rattle.model.specs.Restore.{Piece, pieceStates, piecesOf, piecesStates, returnsOf, CutFields}
 use Rattle.model.proofs.Lists.{take-map, getD-map, flatten-take-suc, howMany-le}
 use Rattle.machine.proofs.Machine.{chain-append, length-chain}
 use Rattle.model.proofs.Wire.{lines-states}

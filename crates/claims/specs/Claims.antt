@@ -11,7 +11,7 @@ use lib.IntN.{pos, negℤ}
 use lib.ListN.{length, take, getD}
 use lib.Signed.{_<ℤ_}
 use Rattle.bits.specs.Bits.{digit, fields, bytesOf, bytesFor, over}
-use Rattle.parts.specs.Parts.{Part, partOf, subframes}
+use Rattle.parts.specs.Parts.{Part, partOf, subframes, restoreOrder}
 use Rattle.tables.specs.Refusals.{first}
 use Rattle.parts.specs.Wire.{Line, lineOf, stateOf, lows}
 use Rattle.parts.specs.declared.command.Command.{Command}
@@ -40,7 +40,7 @@ use Rattle.model.specs.Lists.{All, Both}
 use Rattle.model.specs.Device.{faults, stepDevice}
 use Rattle.model.specs.Device as model
 use Rattle.model.specs.Set.{Set, Own, owned}
-use Rattle.model.specs.Restore.{restoreOrder, returnsOf, CutFields}
+use Rattle.model.specs.Restore.{returnsOf, CutFields}
 use Rattle.device.specs.Run.{stepRecord}
 use Rattle.link.specs.View.{deviceOf, Arrays, registersAt, registersAll, Holds}
 use Rattle.link.specs.Called.{called}

@@ -12,7 +12,7 @@ use borrow.Author.Tests.{ltb-true, eqb-true, not-false}
 use Rattle.bits.specs.Bits.{fields, bytesOf, padded}
 use Rattle.bits.proofs.Laws.{bits-of-bytes}
 use Rattle.tables.specs.Lists.{allBelow}
-use Rattle.parts.specs.Parts.{partOf, limit, subframes, fieldWidth}
+use Rattle.parts.specs.Parts.{partOf, limit, subframes, fieldWidth, restoreOrder}
 use Rattle.parts.specs.Wire.{stateOf, statesOf, lows, frame, clocked}
 use Rattle.parts.specs.declared.command.Command.{Command}
 use Rattle.parts.specs.declared.command.Command.the-variants.{Individual, Calibration, Global, Configuration}
@@ -28,7 +28,7 @@ use Rattle.device.proofs.Kept.{below-head}
 use Rattle.model.specs.Lists.{All}
 use Rattle.model.specs.Device.{frameStates}
 use Rattle.model.specs.Set.{Set, Proper, owned, sliceOf, frameFields}
-use Rattle.model.specs.Restore.{restoreOrder, Piece, pieceStates, pieceOf, piecesOf, piecesStates}
+use Rattle.model.specs.Restore.{Piece, pieceStates, pieceOf, piecesOf, piecesStates}
 use Rattle.model.proofs.Lists.{take-map}
 use Rattle.model.proofs.Set.{fields-slices}
 use Rattle.link.specs.Restore.{tailsOf, told, byteOf, written, Writable, frameSize, framePart, restorePart, restoreStates}

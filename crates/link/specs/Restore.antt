@@ -6,7 +6,7 @@ use mathlib.Core.Bool.{Bool, true}
 use mathlib.Core.List.{List, [], _∷_, _++_, map, flatten}
 use lib.ListN.{take, getD}
 use Rattle.tables.specs.Lists.{allBelow}
-use Rattle.parts.specs.Parts.{partOf}
+use Rattle.parts.specs.Parts.{partOf, restoreOrder}
 use Rattle.parts.specs.Wire.{stateOf, lows}
 use Rattle.parts.specs.declared.command.Command.{Command}
 use Rattle.parts.specs.declared.command.Command.the-variants.{Individual, Calibration, Global, Configuration}
@@ -16,7 +16,7 @@ use Rattle.frames.specs.Writing.{settings, writeRefusal}
 use Rattle.frames.specs.declared.told.Told.{Told}
 use Rattle.frames.specs.declared.told.Tail.{Tail}
 use Rattle.model.specs.Set.{Set, owned}
-use Rattle.model.specs.Restore.{restoreOrder, statesUntil}
+use Rattle.model.specs.Restore.{statesUntil}
 
 -- ---- the frames
 

@@ -3,18 +3,14 @@
 use Prim.Native.Nat.{ℕ, _+_}
 use mathlib.Core.Path.{_≡_}
 use mathlib.Core.Bool.{Bool, true, false, _&&_, cond}
-use mathlib.Core.List.{List, [], _∷_, _++_, map, flatten}
+use mathlib.Core.List.{List, _++_, map, flatten}
 use lib.ListN.{length, take}
-use Rattle.parts.specs.Parts.{Part}
+use Rattle.parts.specs.Parts.{Part, restoreOrder}
 use Rattle.parts.specs.Wire.{Line, lows, returnOf}
 use Rattle.parts.specs.declared.command.Command.{Command}
 use Rattle.parts.specs.declared.command.Command.the-variants.{Individual, Calibration, Global, Configuration}
 use Rattle.model.specs.Device.{Registers, multiplexed, evens, odds, frameStates, faults}
 use Rattle.model.specs.Set.{Own, sliceOf}
-
--- the commands in restore order
-abbrev pub restoreOrder : List Command
-restoreOrder = Configuration ∷ Calibration ∷ Global ∷ Individual ∷ []
 
 -- a frame from the host, and the clocks at low load before it
 pub record Piece : Type 0 where

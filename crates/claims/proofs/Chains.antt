@@ -11,7 +11,7 @@ use Rattle.parts.specs.Refusals.{first}
 use Rattle.parts.proofs.Rows.{clear}
 use Rattle.device.specs.Judgement.{fits}
 use Rattle.device.specs.declared.device.Device.{Device}
-use Rattle.device.proofs.Places.{and-both}
+use Rattle.phases.proofs.Places.{and-both}
 use Rattle.calls.specs.Chain.{allFit}
 use Rattle.calls.specs.Calls.{runTable, runRefusal, roomFor}
 use Rattle.calls.specs.History.{Call, fresh, refusalOf, after, afterCalls}

@@ -11,13 +11,13 @@ use lib.ListN.{length, getD, drop, drop-of-length-le}
 use lib.Seq.{drop-drop}
 use borrow.Author.Tests.{le-ltb, lt-ltb}
 use Rattle.parts.specs.declared.command.Command.{Command}
-use Rattle.device.specs.Phases.{phaseOf, pushed, windowOf, heard, inHeader, headed, opened}
+use Rattle.phases.specs.Phases.{phaseOf, pushed, windowOf, heard, inHeader, headed, opened}
 use Rattle.device.specs.Step.{step, stepHigh, at, moved, sliceLength}
-use Rattle.device.proofs.Places.{Small, phase-place, phase-small, cond-both}
-use Rattle.device.specs.declared.phase.Phase.{Phase}
-use Rattle.device.specs.declared.phase.Phase.the-variants.{Hunting, Opening, Counting, Slice, Passing, Lost}
-use Rattle.device.specs.declared.phase.Sent.the-variants.{Nothing}
-use Rattle.device.specs.declared.registers.Registers.{Registers}
+use Rattle.phases.proofs.Places.{Small, phase-place, phase-small, cond-both}
+use Rattle.phases.specs.declared.phase.Phase.{Phase}
+use Rattle.phases.specs.declared.phase.Phase.the-variants.{Hunting, Opening, Counting, Slice, Passing, Lost}
+use Rattle.phases.specs.declared.phase.Sent.the-variants.{Nothing}
+use Rattle.registers.specs.declared.registers.Registers.{Registers}
 use Rattle.device.specs.declared.device.Device.{Device}
 use Rattle.device.specs.declared.device.Stepped.{Stepped}
 use Rattle.intake.specs.Intake.{taken, takenFrom, stopped, lowTaken, highTaken, unlessSent, heardAll, headedAll, highsEnd, oneTaken}

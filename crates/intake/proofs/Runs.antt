@@ -7,11 +7,11 @@ use Prim.Native.Nat.{ℕ, suc, _+_, _-_, _<_, _≤_}
 use native.Mathlib.Omega.{arith}
 use lib.Dec.{ltb}
 use lib.ListN.{length, take, drop, length-drop}
-use Rattle.device.specs.Phases.{phaseOf, heard}
+use Rattle.phases.specs.Phases.{phaseOf, heard}
 use Rattle.device.specs.Step.{step, stepHigh, moved, sentStates}
 use Rattle.device.specs.Run.{run}
-use Rattle.device.specs.declared.phase.Sent.{Sent}
-use Rattle.device.specs.declared.phase.Sent.the-variants.{Nothing, One, Header}
+use Rattle.phases.specs.declared.phase.Sent.{Sent}
+use Rattle.phases.specs.declared.phase.Sent.the-variants.{Nothing, One, Header}
 use Rattle.device.specs.declared.device.Device.{Device}
 use Rattle.intake.specs.Intake.{stopped, lowTaken, highTaken, unlessSent, takenFrom, taken}
 use Rattle.intake.specs.declared.states.Taken.{Taken}

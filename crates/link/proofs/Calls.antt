@@ -15,15 +15,15 @@ use Rattle.parts.specs.Lists.{allBelow}
 use Rattle.parts.specs.Parts.{known}
 use Rattle.parts.specs.Refusals.{first, content}
 use Rattle.parts.proofs.Rows.{clear}
-use Rattle.device.specs.Held.{showing, activated}
-use Rattle.device.specs.Phases.{phaseOf}
+use Rattle.registers.specs.Held.{showing, activated}
+use Rattle.phases.specs.Phases.{phaseOf}
 use Rattle.device.specs.Step.{freshDevice, bounded, faulted}
 use Rattle.device.specs.Judgement.{fits}
-use Rattle.device.specs.declared.phase.Phase.{Phase}
-use Rattle.device.specs.declared.phase.Phase.the-variants.{Hunting, Opening, Counting, Slice, Passing, Lost}
-use Rattle.device.specs.declared.registers.Registers.{Registers}
+use Rattle.phases.specs.declared.phase.Phase.{Phase}
+use Rattle.phases.specs.declared.phase.Phase.the-variants.{Hunting, Opening, Counting, Slice, Passing, Lost}
+use Rattle.registers.specs.declared.registers.Registers.{Registers}
 use Rattle.device.specs.declared.device.Device.{Device}
-use Rattle.device.proofs.Places.{and-both, cond-both}
+use Rattle.phases.proofs.Places.{and-both, cond-both}
 use Rattle.device.proofs.Kept.{kept-bounded, kept-faulted, kept-fresh}
 use Rattle.calls.specs.Chain.{every, hasPart, allKnown, sameParts, allFit, isCount, blank}
 use Rattle.calls.specs.Calls.{freshTable, freshRefusal, freshDevices, runRefusal, runDevices, returned, boundaryRefusal, boundaryDevices, faultRefusal, faultDevices}

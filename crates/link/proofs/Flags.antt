@@ -11,10 +11,10 @@ use lib.Seq.{getD-set-same, getD-set-other}
 use borrow.Author.Tests.{eqb-true, eqb-false, eq-eqb, leb-true, ltb-true, not-false}
 use Rattle.bits.specs.Bits.{digit}
 use Rattle.parts.proofs.Rows.{clear}
-use Rattle.device.specs.Held.{flagged}
+use Rattle.registers.specs.Held.{flagged}
 use Rattle.device.specs.Step.{freshDevice, faulted}
 use Rattle.device.specs.declared.device.Device.{Device}
-use Rattle.device.proofs.Places.{and-both, cond-both}
+use Rattle.phases.proofs.Places.{and-both, cond-both}
 use Rattle.calls.specs.Chain.{allFit, blank}
 use Rattle.calls.specs.Calls.{freshDevices, runDevices, boundaryDevices, faultTable, faultRefusal, faultDevices}
 use Rattle.calls.specs.History.{Call, fresh, run, boundary, fault, refusalOf, after, afterCalls}

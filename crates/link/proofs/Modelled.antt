@@ -13,14 +13,14 @@ use Rattle.parts.specs.Lists.{allBelow}
 use Rattle.parts.specs.Wire.{Line, lineOf}
 use Rattle.parts.proofs.Laws.{banks-three}
 use Rattle.parts.proofs.Rows.{clear}
-use Rattle.device.specs.Held.{flagged, showing}
-use Rattle.device.specs.Phases.{phaseOf}
+use Rattle.registers.specs.Held.{flagged, showing}
+use Rattle.phases.specs.Phases.{phaseOf}
 use Rattle.device.specs.Step.{freshDevice, faulted}
 use Rattle.device.specs.Judgement.{fits}
-use Rattle.device.specs.declared.phase.Phase.{Phase}
-use Rattle.device.specs.declared.registers.Registers.{Registers}
+use Rattle.phases.specs.declared.phase.Phase.{Phase}
+use Rattle.registers.specs.declared.registers.Registers.{Registers}
 use Rattle.device.specs.declared.device.Device.{Device}
-use Rattle.device.proofs.Places.{and-both, cond-both}
+use Rattle.phases.proofs.Places.{and-both, cond-both}
 use Rattle.calls.specs.Chain.{allFit, blank}
 use Rattle.calls.specs.Calls.{runTable, runRefusal}
 use Rattle.calls.specs.History.{Call, fresh, run, boundary, fault, refusalOf, effect, after, given, answered}

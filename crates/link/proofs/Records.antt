@@ -16,8 +16,8 @@ use Rattle.parts.specs.Wire.{Line, lows, lineOf, dataBit}
 use Rattle.line.specs.States.{dataBits}
 use Rattle.device.specs.Step.{faulted}
 use Rattle.device.specs.declared.device.Device.{Device}
-use Rattle.device.proofs.Places.{cond-both}
-use Rattle.device.proofs.Kept.{below-head}
+use Rattle.phases.proofs.Places.{cond-both}
+use Rattle.registers.proofs.Below.{below-head}
 use Rattle.calls.specs.Chain.{blank}
 use Rattle.calls.specs.Calls.{runRefusal, faultRefusal, boundaryDevices}
 use Rattle.calls.specs.History.{Call, fresh, run, boundary, fault, refusalOf, after, afterCalls, given, FaultOrLow, Settles}

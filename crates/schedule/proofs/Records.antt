@@ -13,10 +13,11 @@ use Rattle.parts.specs.Parts.{partOf, subframes, limit}
 use Rattle.parts.proofs.Laws.{banks-three}
 use Rattle.parts.proofs.Rows.{clear, none, accepted, lowest}
 use Rattle.device.specs.declared.device.Device.{Device}
-use Rattle.device.specs.Judgement.{placeFits, flagsFit, valuesFit, fits}
-use Rattle.device.proofs.Fields.{limit-pos}
-use Rattle.device.proofs.Kept.{below-at, below-of}
-use Rattle.device.proofs.Places.{and-both}
+use Rattle.device.specs.Judgement.{placeFits, fits}
+use Rattle.registers.specs.Widths.{flagsFit, valuesFit}
+use Rattle.registers.proofs.Fields.{limit-pos}
+use Rattle.registers.proofs.Below.{below-at, below-of}
+use Rattle.phases.proofs.Places.{and-both}
 use Rattle.schedule.specs.declared.answer.Asked.the-variants.{Refused}
 use Rattle.schedule.specs.Answers.{positionOver, litRows, litAnswer}
 use Rattle.schedule.specs.OfDevice.{activeValue, deviceRows, deviceAnswer}

@@ -8,7 +8,7 @@ use lib.ListN.{getD}
 use Rattle.parts.specs.Refusals.{Row, _when_, first, answer}
 use Rattle.parts.specs.Parts.{known, partOf}
 use Rattle.device.specs.declared.device.Device.{Device}
-use Rattle.device.specs.declared.registers.Registers.{Registers}
+use Rattle.registers.specs.declared.registers.Registers.{Registers}
 use Rattle.device.specs.Judgement.{fits}
 use Rattle.schedule.specs.Light.{isLit}
 use Rattle.schedule.specs.Answers.{positionOver, litRun}

@@ -9,8 +9,8 @@ use crate::clocks::is_output_lit;
 use crate::judge::is_position_over;
 use crate::run::lit_run;
 use device::Device;
-use device::Registers;
 use device::judge;
+use registers::Registers;
 
 // Is an output of the device lit at a clock of a subframe, in a phase?
 pub fn is_device_lit(device: Device, output: u32, subframe: u32, clock: u32, phase: u32) -> Asked

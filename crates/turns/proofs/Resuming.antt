@@ -11,16 +11,16 @@ use lib.ListN.{length, getD, drop, length-drop, length-append, drop-of-length-le
 use lib.Seq.{drop-drop, drop-append-seam}
 use borrow.Author.Tests.{eqb-true, lt-ltb, le-ltb, eq-eqb, ne-eqb}
 use Rattle.parts.specs.declared.command.Command.the-variants.{Individual, Calibration, Global, Configuration}
-use Rattle.device.specs.Phases.{phaseOf, placeOf, windowOf, heard, opened, inHeader, headed}
-use Rattle.device.proofs.Places.{Small, phase-small, phase-place}
+use Rattle.phases.specs.Phases.{phaseOf, placeOf, windowOf, heard, opened, inHeader, headed}
+use Rattle.phases.proofs.Places.{Small, phase-small, phase-place}
 use Rattle.device.specs.Step.{step, stepHigh, moved, at}
-use Rattle.device.specs.declared.registers.Registers.{Registers}
-use Rattle.device.specs.declared.phase.Phase.the-variants.{Hunting, Opening, Counting, Slice, Passing, Lost}
-use Rattle.device.specs.declared.phase.Sent.{Sent}
-use Rattle.device.specs.declared.phase.Sent.the-variants.{Nothing, One, Header}
+use Rattle.registers.specs.declared.registers.Registers.{Registers}
+use Rattle.phases.specs.declared.phase.Phase.the-variants.{Hunting, Opening, Counting, Slice, Passing, Lost}
+use Rattle.phases.specs.declared.phase.Sent.{Sent}
+use Rattle.phases.specs.declared.phase.Sent.the-variants.{Nothing, One, Header}
 use Rattle.device.specs.declared.device.Device.{Device}
 use Rattle.parts.specs.Parts.{commandAt}
-use Rattle.device.specs.declared.phase.Phase.{Phase}
+use Rattle.phases.specs.declared.phase.Phase.{Phase}
 use Rattle.device.specs.declared.device.Stepped.{Stepped}
 use Rattle.intake.specs.Intake.{stopped, unlessSent, lowTaken, highTaken, takenFrom, taken}
 use Rattle.intake.specs.declared.states.Taken.{Taken}

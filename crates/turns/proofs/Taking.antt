@@ -11,15 +11,15 @@ use lib.ListN.{length}
 use Rattle.parts.specs.Parts.{partOf, fieldWidth, fieldLimit}
 use Rattle.parts.specs.declared.command.Command.{Command}
 use Rattle.parts.specs.declared.command.Command.the-variants.{Individual, Calibration, Global, Configuration}
-use Rattle.device.specs.Phases.{phaseOf, heard, rising, opened, opening, counting}
-use Rattle.device.specs.Held.{took, stored, fault, raised}
+use Rattle.phases.specs.Phases.{phaseOf, heard, rising, opened, opening, counting}
+use Rattle.registers.specs.Held.{took, stored, fault, raised}
 use Rattle.device.specs.Step.{step, stepHigh, moved, sending, sliceLength, sentStates, at}
 use Rattle.device.specs.Run.{run}
-use Rattle.device.specs.declared.phase.Phase.{Phase}
-use Rattle.device.specs.declared.phase.Phase.the-variants.{Hunting, Opening, Counting, Slice, Passing, Lost}
-use Rattle.device.specs.declared.phase.Sent.{Sent}
-use Rattle.device.specs.declared.phase.Sent.the-variants.{Nothing, One, Header}
-use Rattle.device.specs.declared.registers.Registers.{Registers}
+use Rattle.phases.specs.declared.phase.Phase.{Phase}
+use Rattle.phases.specs.declared.phase.Phase.the-variants.{Hunting, Opening, Counting, Slice, Passing, Lost}
+use Rattle.phases.specs.declared.phase.Sent.{Sent}
+use Rattle.phases.specs.declared.phase.Sent.the-variants.{Nothing, One, Header}
+use Rattle.registers.specs.declared.registers.Registers.{Registers}
 use Rattle.device.specs.declared.device.Device.{Device}
 use Rattle.device.specs.declared.device.Stepped.{Stepped}
 use Rattle.intake.specs.Intake.{stopped, unlessSent}

@@ -9,8 +9,8 @@ use lib.Dec.{eqb, ltb, leb}
 use lib.ListN.{length, getD, drop, length-set, length-drop}
 use borrow.Author.Tests.{ltb-true, ltb-false, leb-true, le-leb, eq-eqb}
 use Rattle.device.specs.Step.{step}
-use Rattle.device.specs.declared.phase.Sent.{Sent}
-use Rattle.device.specs.declared.phase.Sent.the-variants.{Nothing, One, Header}
+use Rattle.phases.specs.declared.phase.Sent.{Sent}
+use Rattle.phases.specs.declared.phase.Sent.the-variants.{Nothing, One, Header}
 use Rattle.device.specs.declared.device.Device.{Device}
 use Rattle.intake.specs.Intake.{stopped, unlessSent}
 use Rattle.intake.specs.declared.states.Taken.{Taken}

@@ -6,10 +6,10 @@ ghost use lib.ListN.{drop};
 ghost use Rattle.turns.specs.Front.{isLost, passes, untilSent, frontTaken, sliceStart, deviceTaken};
 ghost use Rattle.turns.specs.Front.{roams, roamStep, roamed, batchTaken};
 use device::Device;
-use device::Phase;
-use device::Sent;
 use intake::Taken;
 use parts::Command;
+use phases::Phase;
+use phases::Sent;
 
 // A phase, and the place of the next state.
 pub struct Roamed {
@@ -120,10 +120,10 @@ fn batch(device: Device, states: &[u8], at: usize) -> Taken
     if at < states.len() {
         if states[at] < 2 {
             let place = device.place;
-            let roamed = roam(device::phase_of(place), states, at);
+            let roamed = roam(phases::phase_of(place), states, at);
             let phase = roamed.phase;
             let mut next = device;
-            let reached = device::place_of(phase);
+            let reached = phases::place_of(phase);
             next.place = reached;
             return Taken {
                 device: next,
@@ -163,7 +163,7 @@ fn roams_at(phase: Phase, state: u8) -> bool
     if state < 2 {
         return true;
     }
-    if device::in_header(phase) {
+    if phases::in_header(phase) {
         return true;
     }
     is_lost(phase)
@@ -173,9 +173,9 @@ fn roam_step(phase: Phase, state: u8) -> Phase
     ensures { λ r. ⌜ r ≡ roamStep phase state ⌝ }
 {
     if state < 2 {
-        device::hear(phase, state)
+        phases::hear(phase, state)
     } else {
-        device::header_bit(phase, state % 2)
+        phases::header_bit(phase, state % 2)
     }
 }
 
@@ -214,7 +214,7 @@ fn slice_start(device: Device, command: Command, count: u16) -> Device
     ensures { λ r. ⌜ r ≡ sliceStart device command count ⌝ }
 {
     let mut next = device;
-    let place = device::place_of(Phase::Slice {
+    let place = phases::place_of(Phase::Slice {
         command: command,
         count: count,
         taken: 0,

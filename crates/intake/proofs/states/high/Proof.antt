@@ -1,10 +1,10 @@
 use mathlib.Core.Path.{_≡_, sym, ap, _∙_}
 use lib.ListN.{drop}
-use Rattle.device.specs.Phases.{phaseOf, inHeader}
-use Rattle.device.specs.declared.phase.Phase.{Phase}
+use Rattle.phases.specs.Phases.{phaseOf, inHeader}
+use Rattle.phases.specs.declared.phase.Phase.{Phase}
 use Rattle.device.specs.Step.{at}
 use Rattle.intake.specs.Intake.{highTaken, headedAll, stopped}
-use Rattle.device.specs.declared.phase.Sent.the-variants.{Nothing}
+use Rattle.phases.specs.declared.phase.Sent.the-variants.{Nothing}
 use Prim.Native.Nat.{ℕ}
 use Rattle.intake.proofs.Phases.{high-by, onward-header, onward-passing, onward-lost}
 use borrow.Author.Needs.{needs}

@@ -1,7 +1,7 @@
 use mathlib.Core.Path.{_≡_, sym, ap, _∙_}
 use lib.ListN.{drop}
 use Prim.Native.Nat.{ℕ}
-use Rattle.device.specs.Phases.{phaseOf, windowOf}
+use Rattle.phases.specs.Phases.{phaseOf, windowOf}
 use Rattle.intake.specs.Intake.{heardAll}
 use Rattle.intake.proofs.Phases.{taken-low, taken-high, taken-end, hunting}
 use borrow.Author.Needs.{needs}

@@ -20,8 +20,8 @@ use Rattle.frames.specs.declared.told.Returned.{Returned}
 use Rattle.frames.specs.declared.told.Returned.the-variants as B
 use Rattle.device.specs.declared.device.Device.{Device}
 use Rattle.device.specs.declared.device.Answer.{Answer as Judged}
-use Rattle.device.specs.declared.phase.Sent.{Sent}
-use Rattle.device.specs.declared.phase.Sent.the-variants as S
+use Rattle.phases.specs.declared.phase.Sent.{Sent}
+use Rattle.phases.specs.declared.phase.Sent.the-variants as S
 use Rattle.schedule.specs.declared.answer.Asked.{Asked}
 use Rattle.schedule.specs.declared.answer.Asked.the-variants as Q
 use Rattle.schedule.specs.declared.answer.Clocks.{Clocks as LitClocks}

@@ -32,7 +32,7 @@ use Rattle.link.proofs.Calls.{after-effect}
 use Rattle.turns.specs.Answer.{ran}
 use Rattle.turns.specs.declared.entry.Ran.{Ran}
 use Rattle.schedule.specs.Answers.{onRows, leadRows, litRows, onAnswer, leadAnswer, litAnswer, litClocksAnswer}
-use Rattle.schedule.specs.OfDevice.{deviceRows, deviceAnswer, deviceClocksAnswer}
+use Rattle.device_light.specs.OfDevice.{deviceRows, deviceAnswer, deviceClocksAnswer}
 use Rattle.schedule.specs.declared.answer.Asked.the-variants as A
 use Rattle.schedule.specs.declared.answer.Lead.the-variants as D
 use Rattle.schedule.specs.declared.answer.Clocks.the-variants as K

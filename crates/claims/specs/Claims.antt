@@ -49,7 +49,7 @@ use Rattle.turns.specs.Answer.{ran, runAnswer}
 use Rattle.turns.specs.declared.entry.Ran.{Ran}
 use Rattle.schedule.specs.Light.{count, level, isOn, leadOf, isLit, litAt, inRun, litCount}
 use Rattle.schedule.specs.Answers.{onRows, leadRows, litRows, litRun, onAnswer, leadAnswer, litAnswer, litClocksAnswer}
-use Rattle.schedule.specs.OfDevice.{isShown, shownRun, deviceRows, deviceAnswer, deviceClocksAnswer}
+use Rattle.device_light.specs.OfDevice.{isShown, shownRun, deviceRows, deviceAnswer, deviceClocksAnswer}
 use Rattle.schedule.specs.declared.answer.Asked.the-variants as A
 use Rattle.schedule.specs.declared.answer.Lead.the-variants as D
 use Rattle.schedule.specs.declared.answer.Clocks.the-variants as K

@@ -11,17 +11,17 @@ use lib.ListN.{length, getD, drop}
 use lib.Seq.{drop-drop}
 use types.Run.{OneOf}
 use denote.Enum.Declared.{tagOf}
-use Rattle.device.proofs.phase.Phase.{the-type}
+use Rattle.phases.proofs.phase.Phase.{the-type}
 use borrow.Author.Tests.{le-ltb, lt-ltb}
 use Rattle.parts.specs.declared.command.Command.{Command}
-use Rattle.device.specs.Phases.{phaseOf, heard, inHeader, headed, opened}
+use Rattle.phases.specs.Phases.{phaseOf, heard, inHeader, headed, opened}
 use Rattle.device.specs.Step.{step, stepHigh, at, moved, sliceLength}
-use Rattle.device.proofs.Places.{Small, phase-place, phase-small}
+use Rattle.phases.proofs.Places.{Small, phase-place, phase-small}
 use Rattle.tables.proofs.Booleans.{cond-both}
-use Rattle.device.specs.declared.phase.Phase.{Phase}
-use Rattle.device.specs.declared.phase.Phase.the-variants.{Hunting, Opening, Counting, Slice, Passing, Lost}
-use Rattle.device.specs.declared.phase.Sent.the-variants.{Nothing}
-use Rattle.device.specs.declared.registers.Registers.{Registers}
+use Rattle.phases.specs.declared.phase.Phase.{Phase}
+use Rattle.phases.specs.declared.phase.Phase.the-variants.{Hunting, Opening, Counting, Slice, Passing, Lost}
+use Rattle.phases.specs.declared.phase.Sent.the-variants.{Nothing}
+use Rattle.registers.specs.declared.registers.Registers.{Registers}
 use Rattle.device.specs.declared.device.Device.{Device}
 use Rattle.device.specs.declared.device.Stepped.{Stepped}
 use Rattle.intake.specs.Intake.{stopped, highTaken, unlessSent, headedAll, highsEnd, oneTaken}

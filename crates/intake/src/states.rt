@@ -3,12 +3,12 @@ ghost use mathlib.Core.Path.{_≡_};
 ghost use Prim.Native.Nat.{_<_, _≤_};
 ghost use lib.ListN.{length, getD, drop};
 ghost use Rattle.device.specs.Step.{at};
-ghost use Rattle.device.specs.declared.phase.Sent.the-variants.{Nothing};
+ghost use Rattle.phases.specs.declared.phase.Sent.the-variants.{Nothing};
 ghost use Rattle.intake.specs.Intake.{stopped, highTaken, oneTaken, headedAll, highsEnd};
 use device::Device;
-use device::Phase;
-use device::Registers;
-use device::Sent;
+use phases::Phase;
+use phases::Sent;
+use registers::Registers;
 
 // The device, the place of the next state, and what was sent.
 pub struct Taken {
@@ -44,7 +44,7 @@ fn quiet(registers: Registers, phase: Phase, from: usize) -> Taken
     Taken {
         device: Device {
             registers,
-            place: device::place_of(phase),
+            place: phases::place_of(phase),
         },
         at: from,
         sent: Sent::Nothing,
@@ -58,7 +58,7 @@ fn high(device: Device, states: &[u8], from: usize) -> Taken
 {
     let registers = device.registers;
     let place = device.place;
-    let headed = head_all(device::phase_of(place), states, from);
+    let headed = head_all(phases::phase_of(place), states, from);
     let phase = headed.phase;
     let next = headed.at;
     match phase {
@@ -81,13 +81,13 @@ fn head_all(phase: Phase, states: &[u8], from: usize) -> Headed
     let mut i = from;
     while i < states.len() {
         let s = states[i];
-        if !device::in_header(p) {
+        if !phases::in_header(p) {
             return Headed { phase: p, at: i };
         }
         if s < 2 {
             return Headed { phase: p, at: i };
         }
-        p = device::header_bit(p, s % 2);
+        p = phases::header_bit(p, s % 2);
         i += 1;
     }
     Headed { phase: p, at: i }
@@ -113,7 +113,7 @@ pub fn one(registers: Registers, phase: Phase, states: &[u8], from: usize) -> Ta
 {
     let device = Device {
         registers,
-        place: device::place_of(phase),
+        place: phases::place_of(phase),
     };
     if from < states.len() {
         let s = states[from];

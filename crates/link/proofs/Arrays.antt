@@ -10,15 +10,15 @@ use Rattle.bits.specs.Bits.{digit}
 use Rattle.parts.specs.Parts.{partOf, multiplex, fieldWidth, fieldLimit}
 use Rattle.parts.specs.declared.command.Command.{Command}
 use Rattle.parts.specs.declared.command.Command.the-variants.{Individual, Calibration, Global, Configuration}
-use Rattle.device.specs.Phases.{phaseOf}
-use Rattle.device.specs.Held.{took, stored, copies}
+use Rattle.phases.specs.Phases.{phaseOf}
+use Rattle.registers.specs.Held.{took, stored, copies}
 use Rattle.device.specs.Step.{freshDevice, bounded, faulted, sliceLength, stepHigh}
-use Rattle.device.specs.declared.phase.Phase.{Phase}
-use Rattle.device.specs.declared.phase.Phase.the-variants.{Hunting, Opening, Counting, Slice, Passing, Lost}
-use Rattle.device.specs.declared.registers.Registers.{Registers}
+use Rattle.phases.specs.declared.phase.Phase.{Phase}
+use Rattle.phases.specs.declared.phase.Phase.the-variants.{Hunting, Opening, Counting, Slice, Passing, Lost}
+use Rattle.registers.specs.declared.registers.Registers.{Registers}
 use Rattle.device.specs.declared.device.Device.{Device}
 use Rattle.device.specs.declared.device.Stepped.{Stepped}
-use Rattle.device.proofs.Lists.{length-strided}
+use Rattle.registers.proofs.Lists.{length-strided}
 use Rattle.tables.proofs.Booleans.{cond-both}
 use Rattle.calls.specs.History.{Call, fresh, boundary, fault, refusalOf, afterCalls}
 use Rattle.model.specs.Lists.{All}

@@ -15,13 +15,13 @@ use Rattle.tables.specs.Lists.{allBelow, every}
 use Rattle.parts.specs.Parts.{known, isCount}
 use Rattle.tables.specs.Refusals.{first, content}
 use Rattle.tables.proofs.Rows.{clear}
-use Rattle.device.specs.Held.{showing, activated}
-use Rattle.device.specs.Phases.{phaseOf}
+use Rattle.registers.specs.Held.{showing, activated}
+use Rattle.phases.specs.Phases.{phaseOf}
 use Rattle.device.specs.Step.{freshDevice, bounded, faulted}
 use Rattle.device.specs.Judgement.{fits}
-use Rattle.device.specs.declared.phase.Phase.{Phase}
-use Rattle.device.specs.declared.phase.Phase.the-variants.{Hunting, Opening, Counting, Slice, Passing, Lost}
-use Rattle.device.specs.declared.registers.Registers.{Registers}
+use Rattle.phases.specs.declared.phase.Phase.{Phase}
+use Rattle.phases.specs.declared.phase.Phase.the-variants.{Hunting, Opening, Counting, Slice, Passing, Lost}
+use Rattle.registers.specs.declared.registers.Registers.{Registers}
 use Rattle.device.specs.declared.device.Device.{Device}
 use Rattle.tables.proofs.Booleans.{and-both, cond-both}
 use Rattle.device.proofs.Kept.{kept-bounded, kept-faulted, kept-fresh}

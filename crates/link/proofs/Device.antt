@@ -13,19 +13,20 @@ use Rattle.parts.specs.Parts.{partOf, multiplex, fieldWidth, fieldLimit}
 use Rattle.parts.specs.Wire.{low, high, lineOf, header}
 use Rattle.parts.specs.declared.command.Command.{Command}
 use Rattle.parts.specs.declared.command.Command.the-variants.{Individual, Calibration, Global, Configuration}
-use Rattle.device.specs.Phases.{phaseOf, windowOf, heard, rising, opened, opening, counting}
-use Rattle.device.specs.Held.{holding, took, stored, copies}
+use Rattle.phases.specs.Phases.{phaseOf, windowOf, heard, rising, opened, opening, counting}
+use Rattle.registers.specs.Held.{holding, took, stored, copies}
 use Rattle.device.specs.Step.{moved, sliceLength, step, stepHigh}
 use Rattle.device.specs.Judgement.{placeFits, fits}
-use Rattle.device.specs.declared.phase.Phase.{Phase}
-use Rattle.device.specs.declared.phase.Phase.the-variants.{Hunting, Opening, Counting, Slice, Passing, Lost}
-use Rattle.device.specs.declared.phase.Sent.the-variants.{Nothing, One}
-use Rattle.device.specs.declared.registers.Registers.{Registers}
+use Rattle.phases.specs.declared.phase.Phase.{Phase}
+use Rattle.phases.specs.declared.phase.Phase.the-variants.{Hunting, Opening, Counting, Slice, Passing, Lost}
+use Rattle.phases.specs.declared.phase.Sent.the-variants.{Nothing, One}
+use Rattle.registers.specs.declared.registers.Registers.{Registers}
 use Rattle.device.specs.declared.device.Device.{Device}
 use Rattle.device.specs.declared.device.Stepped.{Stepped}
-use Rattle.device.proofs.Places.{Small}
+use Rattle.phases.proofs.Places.{Small}
 use Rattle.tables.proofs.Booleans.{and-both, cond-both}
-use Rattle.device.proofs.Kept.{Below, below-of, Good, phase-good, kept}
+use Rattle.device.proofs.Kept.{Good, phase-good, kept}
+use Rattle.registers.proofs.Below.{Below, below-of}
 use Rattle.model.specs.Lists.{All}
 use Rattle.machine.specs.Machine.{chain}
 use Rattle.model.specs.Device.{slice, stepDevice}

@@ -11,7 +11,7 @@ use lib.Seq.{getD-set-same, getD-set-other}
 use borrow.Author.Tests.{eqb-true, eqb-false, eq-eqb, leb-true, ltb-true, not-false}
 use Rattle.bits.specs.Bits.{digit}
 use Rattle.tables.proofs.Rows.{clear}
-use Rattle.device.specs.Held.{flagged}
+use Rattle.registers.specs.Held.{flagged}
 use Rattle.device.specs.Step.{freshDevice, faulted}
 use Rattle.device.specs.declared.device.Device.{Device}
 use Rattle.tables.proofs.Booleans.{and-both, cond-both}

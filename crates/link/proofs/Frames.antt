@@ -24,7 +24,7 @@ use Rattle.frames.proofs.Lengths.{subframes-small}
 use Rattle.frames.proofs.Accepted.{length-given}
 use Rattle.frames.proofs.Accepted as accepted
 use Rattle.frames.proofs.Pieces.{length-frameBits}
-use Rattle.device.proofs.Kept.{below-head}
+use Rattle.registers.proofs.Below.{below-head}
 use Rattle.model.specs.Lists.{All}
 use Rattle.model.specs.Device.{frameStates}
 use Rattle.model.specs.Set.{Set, Proper, owned, sliceOf, frameFields}

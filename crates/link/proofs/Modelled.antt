@@ -11,12 +11,12 @@ use Rattle.bits.specs.Bits.{isOne, digit}
 use Rattle.parts.specs.Parts.{partOf}
 use Rattle.parts.specs.Wire.{Line, lineOf}
 use Rattle.parts.proofs.Laws.{banks-three}
-use Rattle.device.specs.Held.{flagged, showing}
-use Rattle.device.specs.Phases.{phaseOf}
+use Rattle.registers.specs.Held.{flagged, showing}
+use Rattle.phases.specs.Phases.{phaseOf}
 use Rattle.device.specs.Step.{freshDevice, faulted}
 use Rattle.device.specs.Judgement.{fits}
-use Rattle.device.specs.declared.phase.Phase.{Phase}
-use Rattle.device.specs.declared.registers.Registers.{Registers}
+use Rattle.phases.specs.declared.phase.Phase.{Phase}
+use Rattle.registers.specs.declared.registers.Registers.{Registers}
 use Rattle.device.specs.declared.device.Device.{Device}
 use Rattle.tables.proofs.Booleans.{and-both, cond-both}
 use Rattle.calls.specs.Chain.{allFit, blank}

@@ -7,14 +7,14 @@ use Prim.Native.Nat.{ℕ, _+_}
 use native.Mathlib.Omega.{arith}
 use types.Run.{OneOf}
 use denote.Enum.Declared.{tagOf}
-use Rattle.device.specs.declared.phase.Phase.{Phase}
-use Rattle.device.specs.declared.phase.Phase.the-variants.{Hunting, Opening, Counting, Slice, Passing, Lost}
-use Rattle.device.specs.declared.phase.Sent.{Sent}
-use Rattle.device.specs.declared.phase.Sent.the-variants.{Nothing, One, Header}
+use Rattle.phases.specs.declared.phase.Phase.{Phase}
+use Rattle.phases.specs.declared.phase.Phase.the-variants.{Hunting, Opening, Counting, Slice, Passing, Lost}
+use Rattle.phases.specs.declared.phase.Sent.{Sent}
+use Rattle.phases.specs.declared.phase.Sent.the-variants.{Nothing, One, Header}
 use Rattle.device.specs.declared.device.Device.{Device}
-use Rattle.device.specs.Phases.{phaseOf}
-use Rattle.device.proofs.phase.Phase as P
-use Rattle.device.proofs.phase.Sent as S
+use Rattle.phases.specs.Phases.{phaseOf}
+use Rattle.phases.proofs.phase.Phase as P
+use Rattle.phases.proofs.phase.Sent as S
 use Rattle.turns.specs.Front.{isLost, roamed, roamTaken, afterHeader, lowTaken, facing, aimed, frontAfter, lineCursor, leaving, passedTo}
 use Rattle.turns.specs.declared.states.Roamed.{Roamed}
 use Rattle.turns.specs.declared.cursor.Cursor.{Cursor}

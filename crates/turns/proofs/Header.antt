@@ -16,12 +16,12 @@ use Rattle.parts.proofs.Laws.{command-code}
 use Rattle.parts.specs.Wire.{header, statesOf}
 use Rattle.parts.specs.declared.command.Command.{Command}
 use Rattle.parts.specs.declared.command.Command.the-variants.{Individual, Calibration, Global, Configuration}
-use Rattle.device.specs.Phases.{phaseOf, placeOf, windowOf, pushed}
+use Rattle.phases.specs.Phases.{phaseOf, placeOf, windowOf, pushed}
 use Rattle.device.specs.Step.{step, stepHigh, at}
 use Rattle.device.specs.Run.{stepRecord, run}
-use Rattle.device.specs.declared.phase.Phase.{Phase}
-use Rattle.device.specs.declared.phase.Phase.the-variants.{Hunting, Counting, Slice}
-use Rattle.device.specs.declared.registers.Registers.{Registers}
+use Rattle.phases.specs.declared.phase.Phase.{Phase}
+use Rattle.phases.specs.declared.phase.Phase.the-variants.{Hunting, Counting, Slice}
+use Rattle.registers.specs.declared.registers.Registers.{Registers}
 use Rattle.device.specs.declared.device.Device.{Device}
 use Rattle.turns.specs.Front.{sliceStart}
 use Rattle.turns.proofs.Lines.{bitStates, header-parts}

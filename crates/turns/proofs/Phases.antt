@@ -10,13 +10,13 @@ use lib.Dec.{eqb, ltb, lit<}
 use lib.ListN.{length, getD, drop, drop-of-length-le}
 use borrow.Author.Tests.{eqb-true, ne-eqb}
 use Rattle.parts.specs.Parts.{commandAt}
-use Rattle.device.specs.Phases.{phaseOf, windowOf, heard, opened, inHeader, headed}
+use Rattle.phases.specs.Phases.{phaseOf, windowOf, heard, opened, inHeader, headed}
 use Rattle.device.specs.Step.{step, stepHigh, moved, at}
-use Rattle.device.specs.declared.phase.Phase.{Phase}
-use Rattle.device.specs.declared.phase.Phase.the-variants.{Hunting, Opening, Counting, Slice, Passing, Lost}
-use Rattle.device.specs.declared.registers.Registers.{Registers}
+use Rattle.phases.specs.declared.phase.Phase.{Phase}
+use Rattle.phases.specs.declared.phase.Phase.the-variants.{Hunting, Opening, Counting, Slice, Passing, Lost}
+use Rattle.registers.specs.declared.registers.Registers.{Registers}
 use Rattle.device.specs.declared.device.Device.{Device}
-use Rattle.device.proofs.Places.{Small, phase-place}
+use Rattle.phases.proofs.Places.{Small, phase-place}
 use Rattle.tables.proofs.Booleans.{cond-both}
 use Rattle.intake.proofs.Lines.{drop-on}
 use Rattle.intake.proofs.Phases.{step-high, headed-small}

@@ -18,17 +18,18 @@ use Rattle.parts.specs.Wire.{header, statesOf}
 use Rattle.parts.specs.declared.command.Command.{Command}
 use Rattle.parts.specs.declared.command.Command.the-variants.{Individual, Calibration, Global, Configuration}
 use Rattle.parts.proofs.Laws.{each-row, banks-three, command-code}
-use Rattle.device.specs.Phases.{phaseOf, placeOf, heard, rising, opened, opening, counting}
-use Rattle.device.specs.Held.{took, fault, raised}
+use Rattle.phases.specs.Phases.{phaseOf, placeOf, heard, rising, opened, opening, counting, samePlace}
+use Rattle.registers.specs.Held.{took, fault, raised}
 use Rattle.device.specs.Step.{step, stepHigh, moved, sliceLength, sentStates, at}
-use Rattle.device.specs.Judgement.{phaseFits, samePlace, placeFits, flagsFit, valuesFit, fits}
+use Rattle.device.specs.Judgement.{phaseFits, placeFits, fits}
+use Rattle.registers.specs.Widths.{flagsFit, valuesFit}
 use Rattle.device.specs.Run.{stepRecord, run}
-use Rattle.device.specs.declared.phase.Phase.{Phase}
-use Rattle.device.specs.declared.phase.Phase.the-variants.{Hunting, Opening, Counting, Slice, Passing, Lost}
-use Rattle.device.specs.declared.registers.Registers.{Registers}
+use Rattle.phases.specs.declared.phase.Phase.{Phase}
+use Rattle.phases.specs.declared.phase.Phase.the-variants.{Hunting, Opening, Counting, Slice, Passing, Lost}
+use Rattle.registers.specs.declared.registers.Registers.{Registers}
 use Rattle.device.specs.declared.device.Device.{Device}
 use Rattle.device.specs.declared.device.Stepped.{Stepped}
-use Rattle.device.proofs.Fields.{field-width-pos}
+use Rattle.registers.proofs.Fields.{field-width-pos}
 use Rattle.tables.proofs.Booleans.{and-both, cond-both}
 use Rattle.calls.specs.Chain.{through, allFit}
 use Rattle.calls.proofs.Accepted.{Accepted}

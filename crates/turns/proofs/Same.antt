@@ -13,16 +13,16 @@ use Rattle.machine.specs.Machine.{chain}
 use Rattle.machine.proofs.Machine.{run-nil, run-then, chain-nil, chain-devices}
 use Rattle.parts.specs.Wire.{header, statesOf}
 use Rattle.parts.specs.declared.command.Command.{Command}
-use Rattle.device.specs.Phases.{phaseOf, placeOf}
+use Rattle.phases.specs.Phases.{phaseOf, placeOf}
 use Rattle.device.specs.Step.{sentStates}
 use Rattle.device.specs.Judgement.{fits, placeFits}
 use Rattle.device.specs.Run.{stepRecord, run}
-use Rattle.device.specs.declared.phase.Place.{Place}
-use Rattle.device.specs.declared.phase.Phase.{Phase}
-use Rattle.device.specs.declared.phase.Phase.the-variants.{Hunting, Opening, Counting, Slice, Passing, Lost}
-use Rattle.device.specs.declared.phase.Sent.{Sent}
-use Rattle.device.specs.declared.phase.Sent.the-variants.{Nothing, One, Header}
-use Rattle.device.specs.declared.registers.Registers.{Registers}
+use Rattle.phases.specs.declared.phase.Place.{Place}
+use Rattle.phases.specs.declared.phase.Phase.{Phase}
+use Rattle.phases.specs.declared.phase.Phase.the-variants.{Hunting, Opening, Counting, Slice, Passing, Lost}
+use Rattle.phases.specs.declared.phase.Sent.{Sent}
+use Rattle.phases.specs.declared.phase.Sent.the-variants.{Nothing, One, Header}
+use Rattle.registers.specs.declared.registers.Registers.{Registers}
 use Rattle.device.specs.declared.device.Device.{Device}
 use Rattle.device.proofs.Places.{place-phase}
 use Rattle.intake.specs.Intake.{stopped, highTaken}

@@ -14,18 +14,18 @@ use Rattle.machine.specs.Machine as machine
 use Rattle.machine.proofs.Machine.{run-nil}
 use Rattle.parts.specs.Parts.{partOf, fieldWidth, fieldLimit}
 use Rattle.parts.specs.declared.command.Command.{Command}
-use Rattle.device.specs.Phases.{phaseOf, heard, headed}
-use Rattle.device.specs.Held.{took, stored, fault, raised}
+use Rattle.phases.specs.Phases.{phaseOf, heard, headed}
+use Rattle.registers.specs.Held.{took, stored, fault, raised}
 use Rattle.device.specs.Step.{step, stepHigh, moved, sending, sliceLength, sentStates, at}
 use Rattle.device.specs.Run.{stepRecord, run}
-use Rattle.device.specs.declared.phase.Phase.{Phase}
-use Rattle.device.specs.declared.phase.Phase.the-variants.{Hunting, Opening, Counting, Slice, Passing, Lost}
-use Rattle.device.specs.declared.phase.Sent.{Sent}
-use Rattle.device.specs.declared.phase.Sent.the-variants.{Nothing, One, Header}
-use Rattle.device.specs.declared.registers.Registers.{Registers}
+use Rattle.phases.specs.declared.phase.Phase.{Phase}
+use Rattle.phases.specs.declared.phase.Phase.the-variants.{Hunting, Opening, Counting, Slice, Passing, Lost}
+use Rattle.phases.specs.declared.phase.Sent.{Sent}
+use Rattle.phases.specs.declared.phase.Sent.the-variants.{Nothing, One, Header}
+use Rattle.registers.specs.declared.registers.Registers.{Registers}
 use Rattle.device.specs.declared.device.Device.{Device}
 use Rattle.device.specs.declared.device.Stepped.{Stepped}
-use Rattle.device.proofs.Places.{Small}
+use Rattle.phases.proofs.Places.{Small}
 use Rattle.intake.specs.Intake.{stopped, unlessSent, highTaken}
 use Rattle.intake.specs.declared.states.Taken.{Taken}
 use Rattle.intake.proofs.Lines.{drop-on, high-end}

@@ -8,12 +8,12 @@ use lib.Dec.{ltb, leb}
 use lib.ListN.{length, getD, set, take, drop}
 use Rattle.parts.specs.Wire.{header, statesOf}
 use Rattle.parts.specs.declared.command.Command.{Command}
-use Rattle.device.specs.Phases.{phaseOf, heard, inHeader, headed}
+use Rattle.phases.specs.Phases.{phaseOf, heard, inHeader, headed}
 use Rattle.device.specs.Step.{at}
-use Rattle.device.specs.declared.phase.Phase.{Phase}
-use Rattle.device.specs.declared.phase.Phase.the-variants.{Hunting, Opening, Counting, Slice, Passing, Lost}
-use Rattle.device.specs.declared.phase.Sent.{Sent}
-use Rattle.device.specs.declared.phase.Sent.the-variants.{Nothing, One, Header}
+use Rattle.phases.specs.declared.phase.Phase.{Phase}
+use Rattle.phases.specs.declared.phase.Phase.the-variants.{Hunting, Opening, Counting, Slice, Passing, Lost}
+use Rattle.phases.specs.declared.phase.Sent.{Sent}
+use Rattle.phases.specs.declared.phase.Sent.the-variants.{Nothing, One, Header}
 use Rattle.device.specs.declared.device.Device.{Device}
 use Rattle.intake.specs.Intake.{stopped, highTaken}
 use Rattle.intake.specs.declared.states.Taken.{Taken}

@@ -3,7 +3,7 @@ ghost use mathlib.Core.Path.{_≡_};
 ghost use lib.ListN.{drop};
 ghost use Prim.Native.Nat.{_<_, _+_, _^_};
 ghost use Rattle.turns.specs.Front.{indexOf, facing, aimed, frontAfter, halted};
-use device::Sent;
+use phases::Sent;
 
 pub struct Cursor {
     // The number of devices.

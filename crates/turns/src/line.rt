@@ -3,11 +3,11 @@ ghost use mathlib.Core.Path.{_≡_};
 ghost use Prim.Native.Nat.{_<_, _≤_, _+_, _/_, _%_};
 ghost use lib.ListN.{length, drop, take};
 ghost use Rattle.parts.specs.Wire.{header, statesOf};
-ghost use Rattle.device.specs.declared.phase.Sent.the-variants.{Nothing};
+ghost use Rattle.phases.specs.declared.phase.Sent.the-variants.{Nothing};
 ghost use Rattle.turns.specs.Front.{putAll, putEnd, highs, aimed, passedTo, lineCursor, lineOut};
 use crate::cursor::Cursor;
-use device::Sent;
 use parts::Command;
+use phases::Sent;
 
 // A header that the last device sent, or the high states.
 pub fn line(cursor: Cursor, states: &[u8], returned: &mut [u8]) -> Cursor

@@ -4,9 +4,9 @@ ghost use lib.ListN.{drop};
 ghost use Rattle.turns.specs.Front.{isLost, afterHeader, lowTaken, deviceTaken};
 ghost use Rattle.turns.specs.Front.{roams, roamStep, roamed};
 use device::Device;
-use device::Phase;
-use device::Sent;
 use intake::Taken;
+use phases::Phase;
+use phases::Sent;
 
 // A phase, and the place of the next state.
 pub struct Roamed {
@@ -40,7 +40,7 @@ fn after_header(device: Device, pending: Sent) -> Device
     ensures { λ r. ⌜ r ≡ afterHeader device pending ⌝ }
 {
     if let Sent::Header { command, count } = pending {
-        let place = device::place_of(Phase::Slice {
+        let place = phases::place_of(Phase::Slice {
             command,
             count,
             taken: 0,
@@ -64,9 +64,9 @@ fn low_take(device: Device, pending: Sent, states: &[u8], at: usize) -> Taken
         };
     }
     let place = device.place;
-    let roamed = roam(device::phase_of(place), states, at);
+    let roamed = roam(phases::phase_of(place), states, at);
     let phase = roamed.phase;
-    let reached = device::place_of(phase);
+    let reached = phases::place_of(phase);
     let mut next = device;
     next.place = reached;
     Taken {
@@ -99,7 +99,7 @@ fn roams_at(phase: Phase, state: u8) -> bool
     if state < 2 {
         return true;
     }
-    if device::in_header(phase) {
+    if phases::in_header(phase) {
         return true;
     }
     is_lost(phase)
@@ -109,9 +109,9 @@ fn roam_step(phase: Phase, state: u8) -> Phase
     ensures { λ r. ⌜ r ≡ roamStep phase state ⌝ }
 {
     if state < 2 {
-        device::hear(phase, state)
+        phases::hear(phase, state)
     } else {
-        device::header_bit(phase, state % 2)
+        phases::header_bit(phase, state % 2)
     }
 }
 

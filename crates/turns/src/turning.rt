@@ -5,8 +5,8 @@ ghost use lib.ListN.{length};
 ghost use Rattle.turns.specs.Front.{turnTaken, cursorAfter, turnedOut};
 use crate::cursor::Cursor;
 use device::Device;
-use device::Sent;
 use intake::Taken;
+use phases::Sent;
 
 // What the device of the turn takes.
 pub fn take_turn(device: Device, cursor: Cursor, states: &[u8]) -> Taken

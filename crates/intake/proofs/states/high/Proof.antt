@@ -2,10 +2,10 @@
 use mathlib.Core.Path.{_≡_, sym, ap, _∙_}
 use lib.ListN.{drop}
 use Prim.Native.Nat.{ℕ}
-use Rattle.device.specs.Phases.{phaseOf}
+use Rattle.phases.specs.Phases.{phaseOf}
 use Rattle.device.specs.Step.{at}
-use Rattle.device.specs.declared.phase.Phase.{Phase}
-use Rattle.device.specs.declared.phase.Sent.the-variants.{Nothing}
+use Rattle.phases.specs.declared.phase.Phase.{Phase}
+use Rattle.phases.specs.declared.phase.Sent.the-variants.{Nothing}
 use Rattle.intake.specs.Intake.{highTaken, headedAll, stopped}
 use Rattle.intake.proofs.Phases.{onward, high-by, inHeader-tag, onward-header, onward-passing, onward-lost}
 use borrow.Author.Needs.{needs}

@@ -5,7 +5,7 @@ use mathlib.Core.Logic.{⊎-elim}
 use lib.ListN.{drop}
 use borrow.Author.Tests.{eq-eqb, ne-eqb}
 use Rattle.device.specs.declared.device.Device.{Device}
-use Rattle.device.specs.declared.phase.Sent.the-variants.{One}
+use Rattle.phases.specs.declared.phase.Sent.the-variants.{One}
 use Rattle.intake.specs.Intake.{stopped, highTaken}
 use Rattle.turns.specs.Front.{passes, afterHeader, lowTaken}
 use Rattle.turns.proofs.Phases.{passes-number}

@@ -4,20 +4,17 @@ use Prim.Native.Nat.{ℕ}
 use mathlib.Core.Bool.{Bool, true}
 use mathlib.Core.List.{List, [], _∷_}
 use lib.Dec.{eqb}
+use Rattle.machine.specs.Machine.{chain}
 use Rattle.parts.specs.Parts.{known}
 use Rattle.device.specs.Step.{freshDevice}
 use Rattle.device.specs.Judgement.{fits}
-use Rattle.device.specs.Run.{run}
+use Rattle.device.specs.Run.{stepRecord}
 use Rattle.device.specs.declared.device.Device.{Device}
 use Rattle.tables.specs.Lists.{every}
 
 -- the devices after line states, and what the last one sent: each device takes all that the one before it sent
-unfoldable pub through : List Device → List ℕ → List Device × List ℕ
-through [] ss = ([], ss)
-through (d ∷ ds) ss =
-    let one : Device × List ℕ = run d ss in
-    let rest : List Device × List ℕ = through ds (one .1) in
-    (one .0 ∷ rest .0, rest .1)
+abbrev pub through : List Device → List ℕ → List Device × List ℕ
+through ds ss = chain stepRecord ds ss
 
 -- a record is of a part
 abbrev pub hasPart : ℕ → Device → Bool

@@ -8,7 +8,7 @@ use lib.Dec.{eqb, leb, ltb}
 use lib.ListN.{length}
 use Rattle.tables.specs.Lists.{allBelow}
 use Rattle.tables.specs.Refusals.{Row, _when_}
-use Rattle.device.specs.declared.registers.Registers.{Registers}
+use Rattle.registers.specs.declared.registers.Registers.{Registers}
 use Rattle.device.specs.declared.device.Device.{Device}
 use Rattle.calls.specs.Calls.{freshTable, roomFor}
 use Rattle.calls.specs.History.{Call, fresh, run, boundary, fault, refusalOf, after}

@@ -10,8 +10,8 @@ use Rattle.bits.specs.declared.packing.Packed.{Packed}
 use Rattle.bits.specs.declared.packing.Packed.the-variants as P
 use Rattle.line.specs.declared.states.Line.{Line}
 use Rattle.line.specs.declared.states.Line.the-variants as L
+use Rattle.frames.specs.Frames.{toldOf}
 use Rattle.frames.specs.declared.told.Told.{Told}
-use Rattle.frames.specs.declared.told.Tail.{Tail}
 use Rattle.frames.specs.declared.told.Written.{Written}
 use Rattle.frames.specs.declared.told.Written.the-variants as F
 use Rattle.frames.specs.declared.told.Read.{Read}
@@ -20,8 +20,8 @@ use Rattle.frames.specs.declared.told.Returned.{Returned}
 use Rattle.frames.specs.declared.told.Returned.the-variants as B
 use Rattle.device.specs.declared.device.Device.{Device}
 use Rattle.device.specs.declared.device.Answer.{Answer as Judged}
-use Rattle.device.specs.declared.phase.Sent.{Sent}
-use Rattle.device.specs.declared.phase.Sent.the-variants as S
+use Rattle.phases.specs.declared.phase.Sent.{Sent}
+use Rattle.phases.specs.declared.phase.Sent.the-variants as S
 use Rattle.schedule.specs.declared.answer.Asked.{Asked}
 use Rattle.schedule.specs.declared.answer.Asked.the-variants as Q
 use Rattle.schedule.specs.declared.answer.Clocks.{Clocks as LitClocks}
@@ -64,12 +64,7 @@ ofPart part number = answer (first (partRows part)) refused (accepted number)
 
 -- what is told of a frame: a command by its bits C1 C0
 abbrev pub toldBy : ℕ → ℕ → ℕ → ℕ → Told
-toldBy part devices command configuration =
-    record { part = part; devices = devices; command = commandAt command; configuration = configuration }
-
--- a tail of a number and a length
-abbrev pub tailOf : ℕ → ℕ → Tail
-tailOf number long = record { number = number; length = long }
+toldBy part devices command configuration = toldOf part devices (commandAt command) configuration
 
 -- a frame written: its bytes
 abbrev pub ofWritten : Written → Answer

@@ -21,10 +21,7 @@ pub fn accept(value: usize) -> Answer
 pub fn refuse(refusal: u8) -> Answer
     ensures { λ r. ⌜ r ≡ refused refusal ⌝ }
 {
-    Answer {
-        value: 0,
-        refusal: refusal,
-    }
+    Answer { value: 0, refusal }
 }
 
 // What packing gives: no number of document 01's table. Where nothing was done both are 0.

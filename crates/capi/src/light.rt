@@ -1,7 +1,7 @@
 // The questions about light.
 ghost use mathlib.Core.Path.{_≡_};
 ghost use Rattle.schedule.specs.Answers.{onAnswer, leadAnswer, litAnswer, litClocksAnswer};
-ghost use Rattle.schedule.specs.OfDevice.{deviceAnswer, deviceClocksAnswer};
+ghost use Rattle.device_light.specs.OfDevice.{deviceAnswer, deviceClocksAnswer};
 ghost use Rattle.capi.specs.Answers.{ofAsked, ofLead, ofClocks};
 use crate::answer::Answer;
 use crate::answer::Clocks;
@@ -65,7 +65,7 @@ pub extern "C" fn bb_device_lit(
 ) -> Answer
     ensures { λ r. ⌜ r ≡ ofAsked (deviceAnswer device output subframe clock phase) ⌝ }
 {
-    of_asked(schedule::is_device_lit(device, output, subframe, clock, phase))
+    of_asked(device_light::is_device_lit(device, output, subframe, clock, phase))
 }
 
 // At which clocks of a subframe is an output with a value lit, in a phase?
@@ -94,7 +94,7 @@ pub extern "C" fn bb_device_lit_clocks(
 ) -> Clocks
     ensures { λ r. ⌜ r ≡ ofClocks (deviceClocksAnswer device output subframe phase) ⌝ }
 {
-    of_clocks(schedule::device_lit_clocks(device, output, subframe, phase))
+    of_clocks(device_light::device_lit_clocks(device, output, subframe, phase))
 }
 
 fn of_asked(asked: Asked) -> Answer
@@ -126,8 +126,8 @@ fn of_clocks(clocks: schedule::Clocks) -> Clocks
 {
     match clocks {
         schedule::Clocks::Run(first, end) => Clocks {
-            first: first,
-            end: end,
+            first,
+            end,
             refusal: 0,
         },
         schedule::Clocks::Refused(number) => Clocks {

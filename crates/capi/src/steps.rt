@@ -4,8 +4,8 @@ ghost use Rattle.tables.specs.Refusals.{first};
 ghost use Rattle.device.specs.Judgement.{judgement, stepAnswer};
 ghost use Rattle.capi.specs.Answers.{numbers, ofSent, ofStep};
 use device::Device;
-use device::Sent;
 use device::judge;
+use phases::Sent;
 
 // The next device, and what it sends on: nothing, one state, or the 24 states of a header, of which the command and the count say all.
 // Numbers that are not sent are 0, and so is the refusal where accepted.
@@ -59,11 +59,11 @@ fn numbers(device: Device, count: u16, command: u8, state: u8, sent: u8, refusal
     ensures { λ r. ⌜ r ≡ numbers device count command state sent refusal ⌝ }
 {
     Stepped {
-        device: device,
-        count: count,
-        command: command,
-        state: state,
-        sent: sent,
-        refusal: refusal,
+        device,
+        count,
+        command,
+        state,
+        sent,
+        refusal,
     }
 }

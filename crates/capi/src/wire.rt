@@ -2,10 +2,11 @@
 ghost use mathlib.Core.Path.{_≡_};
 ghost use lib.ListN.{length};
 ghost use Rattle.parts.specs.Parts.{commandAt};
+ghost use Rattle.frames.specs.Frames.{tailOf};
 ghost use Rattle.frames.specs.Writing.{written, writtenOut};
 ghost use Rattle.frames.specs.Reading.{read, readBytes, readValues};
 ghost use Rattle.frames.specs.Returns.{returned};
-ghost use Rattle.capi.specs.Answers.{toldBy, tailOf, ofWritten, given, listed, ofRead, returnRefusal, ofReturned};
+ghost use Rattle.capi.specs.Answers.{toldBy, ofWritten, given, listed, ofRead, returnRefusal, ofReturned};
 use crate::answer::Answer;
 use crate::answer::accept;
 use crate::answer::refuse;
@@ -44,7 +45,10 @@ pub extern "C" fn bb_write(
         ⌝ }
 {
     let told = told_by(part, devices, command, configuration);
-    let behind = tail_of(tail, long);
+    let behind = Tail {
+        number: tail,
+        length: long,
+    };
     let written = frames::write(told, behind, byte, bytes, values, out);
     of_written(written)
 }
@@ -83,7 +87,10 @@ pub extern "C" fn bb_read(
         ⌝ }
 {
     let told = told_by(part, devices, command, configuration);
-    let behind = tail_of(tail, long);
+    let behind = Tail {
+        number: tail,
+        length: long,
+    };
     let read = frames::read(told, behind, frame, bytes, values);
     of_read(read)
 }
@@ -101,7 +108,10 @@ pub extern "C" fn bb_read_return(
     ensures { λ r. ⌜ r ≡ ofReturned (returned part devices (commandAt command) (tailOf tail long) (now (frame .entry))) ⌝ }
 {
     let named = parts::command_of(command);
-    let behind = tail_of(tail, long);
+    let behind = Tail {
+        number: tail,
+        length: long,
+    };
     let returned = frames::read_return(part, devices, named, behind, frame);
     of_returned(returned)
 }
@@ -110,19 +120,10 @@ fn told_by(part: u16, devices: usize, command: u8, configuration: u8) -> Told
     ensures { λ r. ⌜ r ≡ toldBy part devices command configuration ⌝ }
 {
     Told {
-        part: part,
-        devices: devices,
+        part,
+        devices,
         command: parts::command_of(command),
-        configuration: configuration,
-    }
-}
-
-fn tail_of(number: u64, long: u32) -> Tail
-    ensures { λ r. ⌜ r ≡ tailOf number long ⌝ }
-{
-    Tail {
-        number: number,
-        length: long,
+        configuration,
     }
 }
 

@@ -3,12 +3,12 @@
 use mathlib.Core.Path.{_≡_, refl, ap, sym, _∙_}
 use mathlib.Core.Bool.{Bool, true, false, not, _&&_, cond, true≢false}
 use mathlib.Core.List.{List, [], _∷_, _++_, map}
-use Prim.Native.Nat.{ℕ, zero, suc, _+_, _-_, _<_, _≤_}
+use Prim.Native.Nat.{ℕ, zero, suc, _+_, _-_, _≤_}
 use native.Mathlib.Omega.{arith}
 use lib.Dec.{eqb, ltb, leb}
 use lib.ListN.{length, getD, set, replicate, length-set, length-map}
 use lib.Seq.{set-at, getD-at}
-use borrow.Author.Tests.{lt-ltb, le-ltb, leb-true, eqb-true}
+use borrow.Author.Tests.{leb-true, eqb-true}
 use Rattle.bits.specs.Bits.{digit}
 use Rattle.tables.specs.Refusals.{first, content}
 use Rattle.tables.proofs.Rows.{clear}
@@ -174,12 +174,3 @@ at-next from k = omega arith
 
 pub at-first : (from : ℕ) → from ≡ from + 0
 at-first from = omega arith
-
-pub test-yes : (i n : ℕ) → i < n → ltb i n ≡ true
-test-yes i n l = lt-ltb i n l
-
-pub test-no : (i n : ℕ) → n ≤ i → ltb i n ≡ false
-test-no i n l = le-ltb i n l
-
-pub one-more : (i : ℕ) → i + 1 ≡ suc i
-one-more i = omega arith

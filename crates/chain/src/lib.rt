@@ -15,10 +15,9 @@ pub extern "C" fn bb_fresh(chain: &mut [Device], part: u16) -> u8
     ensures { λ r. ⌜ (r ≡ freshRefusal part (length (now (chain .entry)))) × (now (chain .exit) ≡ freshAfter part (now (chain .entry))) ⌝ }
 {
     let span = calls::fresh_span(part, chain.len());
-    let device = Device::fresh(part);
     let mut i = span.from;
     while i < span.to {
-        chain[i] = device;
+        chain[i] = Device::fresh(part);
         i += 1;
     }
     span.refusal

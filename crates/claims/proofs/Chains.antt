@@ -1,21 +1,18 @@
 -- The claims about the calls on a chain, and about one step: the model's devices, room, what calls keep, flags. Each is a law of link or turns
 -- said of the claim's own terms. Assumes nothing.
-use mathlib.Core.Path.{_≡_, refl, ap, _∙_}
-use mathlib.Core.Bool.{true, false, _&&_}
+use mathlib.Core.Path.{_≡_, ap, _∙_}
+use mathlib.Core.Bool.{true, false}
 use mathlib.Core.List.{List, [], _∷_}
 use Prim.Native.Nat.{ℕ}
 use lib.ListN.{length}
-use borrow.Author.Tests.{not-false, ltb-false}
-use Rattle.tables.specs.Lists.{allBelow}
+use borrow.Author.Tests.{eq-eqb}
 use Rattle.tables.specs.Refusals.{first}
-use Rattle.tables.proofs.Rows.{clear}
 use Rattle.device.specs.Judgement.{fits}
 use Rattle.device.specs.declared.device.Device.{Device}
-use Rattle.tables.proofs.Booleans.{and-both}
-use Rattle.calls.specs.Chain.{allFit}
-use Rattle.calls.specs.Calls.{runTable, runRefusal, roomFor}
+use Rattle.calls.specs.Calls.{runRefusal}
 use Rattle.calls.specs.History.{Call, fresh, refusalOf, after, afterCalls}
 use Rattle.calls.specs.Told.{ownTable}
+use Rattle.calls.proofs.Accepted.{accepted-run}
 use Rattle.model.specs.Lists.{All}
 use Rattle.link.proofs.View.{Sound}
 use Rattle.link.proofs.Device.{agree, keep}
@@ -35,11 +32,10 @@ pub call-modelled : CallModelled
 call-modelled = call-same
 
 pub room : Room
-unfolding refusalOf runRefusal
+unfolding refusalOf
 room ds ss out e =
-    let t = clear (runTable ds ss (length out)) refl e in
-    let f = and-both (allBelow ss 4) (allFit ds) (not-false (allBelow ss 4 && allFit ds) (t .1 .1 .1 .1 .0)) in
-    (surplus ds ss (f .1), ltb-false (length out) (roomFor (length ss)) (t .1 .1 .1 .0))
+    let a = accepted-run ds ss (length out) (eq-eqb (runRefusal ds ss (length out)) 0 e) in
+    (surplus ds ss (a .fit), a .enoughRoom)
 
 -- a chain that was made fresh, and what was called since
 pub whole-begun : (p : ℕ) (records : List Device) (earlier : List Call) → refusalOf records (fresh p) ≡ 0 → Whole (startPart p records earlier) (start p records earlier)

@@ -1,6 +1,8 @@
 -- Each claim of specs/Claims, under its name, from the theorem that proves it. Assumes nothing.
 use Rattle.frame_laws.proofs.RoundTrip.{written-read, read-written}
 use Rattle.schedule.proofs.Claims as light
+use Rattle.schedule.proofs.Lit.{count-lit}
+use Rattle.device_light.proofs.Claims as device-light
 use Rattle.claims.specs.Claims as claim
 use Rattle.claims.proofs.Tables.{accepted-exactly}
 use Rattle.claims.proofs.Chains as chains
@@ -64,12 +66,12 @@ pub litClocks : claim.LitClocks
 litClocks = record {
   numbers = light.lit-clocks;
   numbersAnswered = light.lit-clocks-accepted;
-  device = light.device-clocks;
-  deviceAnswered = light.device-clocks-accepted;
+  device = device-light.device-clocks;
+  deviceAnswered = device-light.device-clocks-accepted;
 }
 
 pub litCount : claim.LitCount
-litCount = light.lit-count
+litCount = count-lit
 
 pub examplesHold : claim.ExamplesHold
 examplesHold = examples-hold

@@ -11,7 +11,7 @@ use lib.ListN.{drop, length, length-map, take, getD}
 use borrow.Author.Tests.{le-ltb}
 use Rattle.bits.specs.Bits.{bytesOf}
 use Rattle.tables.specs.Lists.{allBelow}
-use Rattle.parts.specs.Parts.{partOf}
+use Rattle.parts.specs.Parts.{partOf, restoreOrder}
 use Rattle.tables.specs.Refusals.{first}
 use Rattle.parts.specs.Wire.{Line, low, high, lows, lineOf, stateOf, dataBit, returnOf}
 use Rattle.tables.proofs.Rows.{clear, none}
@@ -33,18 +33,17 @@ use Rattle.model.specs.Lists.{Both}
 use Rattle.model.specs.Device.{Registers, stepDevice, runChain, registersIn, faults, fault}
 use Rattle.model.specs.Device as model
 use Rattle.model.specs.Set.{Set, Own, Proper, owned}
-use Rattle.model.specs.Restore.{restoreOrder, Piece, pieceStates, piecesOf, CutFields}
-use Rattle.model.specs.Restore as restore
+use Rattle.model.specs.Restore.{Piece, pieceStates, piecesOf, piecesStates, returnsOf, CutFields}
 use Rattle.model.proofs.Lists.{take-map, getD-map, flatten-take-suc, howMany-le}
-use Rattle.model.proofs.Run.{chain-append}
+use Rattle.machine.proofs.Machine.{chain-append, length-chain}
 use Rattle.model.proofs.Wire.{lines-states}
 use Rattle.model.proofs.Frame.{quiet-sends}
 use Rattle.model.proofs.Set.{owned-proper, length-owned}
-use Rattle.model.proofs.Restore.{sendPieces, pieces-run, pieces-sent, sent-four, length-run, registers-boundary, Ready}
+use Rattle.model.proofs.Restore.{sendPieces, pieces-run, pieces-sent, sent-four, registers-boundary, Ready}
 use Rattle.model.proofs.Restore as model-restore
 use Rattle.model.proofs.CutSet.{cut-sent}
 use Rattle.link.specs.View.{registersOf, deviceOf, registersAt, registersAll, Holds}
-use Rattle.link.specs.Restore.{told, byteOf, written, frameSize, framePart, restorePart, restoreStates, restoreThen, gapAfter, arrival, returnsOf}
+use Rattle.link.specs.Restore.{told, byteOf, written, frameSize, framePart, restorePart, restoreStates, restoreThen, gapAfter, tailsOf, arrival}
 use Rattle.link.proofs.Device.{chain-agree}
 use Rattle.link.proofs.Calls.{Whole, own-refusal, whole-runs, whole-settles, ran, calls-append}
 use Rattle.link.proofs.Frames.{taken, writable-proper, restore-states, restore-part}
@@ -82,14 +81,11 @@ module _ (p : ℕ) (records : List Device) (earlier during : List Call) (s : Set
   then-lows ls last ss e = rw e (sym (map-append stateOf ls (lows last)))
 
   module _ (gap : Command → List Bool) where
-    abbrev bits : Command → List Bool
-    bits c = tailBits (tail c)
-
     abbrev pieces : List Piece
-    pieces = piecesOf (partOf (s .part)) (owned s) gap bits
+    pieces = piecesOf (partOf (s .part)) (owned s) gap (tailsOf tail)
 
     abbrev lines : List Line
-    lines = restore.restoreStates (partOf (s .part)) (owned s) gap bits
+    lines = piecesStates (partOf (s .part)) (owned s) gap (tailsOf tail)
 
     waits : (last : List Bool) → fed now during ≡ restoreStates s gap tail ++ quietStates last → Waits (owned s) (afterCalls now during)
     waits last e =
@@ -97,7 +93,7 @@ module _ (p : ℕ) (records : List Device) (earlier during : List Call) (s : Set
         let f = e ∙ then-lows lines last (restoreStates s gap tail) (restore-states s tail (b .writable) gap) in
         let k : map deviceOf (afterCalls now during) ≡ (runChain ((sendPieces ds pieces) .0) (lows last)) .0 =
         ap (λ (x : List model.Device × List Line). x .0) (seen (lines ++ lows last) f) ∙ rw (chain-append stepDevice ds lines (lows last), pieces-run ds pieces) in
-        let h = model-restore.restored (partOf (s .part)) (owned s) gap bits ds last few ready in
+        let h = model-restore.restored (partOf (s .part)) (owned s) gap (tailsOf tail) ds last few ready in
         rw (← k, registers-boundary (map deviceOf (afterCalls now during)), registers-all (afterCalls now during)) at h
 
     -- Restored
@@ -112,7 +108,7 @@ module _ (p : ℕ) (records : List Device) (earlier during : List Call) (s : Set
 
     -- Returned
     returned-all : (last : List Bool) (j : ℕ) → fed now during ≡ restorePart s gap tail j ++ quietStates last
-        → dataBits (answers now during) ≡ flatten (take j (returnsOf tail (registersAll now)))
+        → dataBits (answers now during) ≡ flatten (take j (returnsOf (tailsOf tail) (registersAll now)))
     returned-all last j e =
         let ds : List model.Device = map deviceOf now in
         let h : 0 < length ds = rw length-map (whole .someDevice) in
@@ -120,12 +116,13 @@ module _ (p : ℕ) (records : List Device) (earlier during : List Call) (s : Set
         let f = e ∙ then-lows ls last (restorePart s gap tail j) (restore-part s tail (b .writable) gap j) in
         let x : map lineOf (answers now during) ≡ (runChain ds (ls ++ lows last)) .1 = ap (λ (x : List model.Device × List Line). x .1) (seen (ls ++ lows last) f) in
         let q : (runChain ds (ls ++ lows last)) .1 ≡ (runChain ds ls) .1 =
-        rw (chain-append stepDevice ds ls (lows last), quiet-sends last ((runChain ds ls) .0) (rw length-run h), append-nil) in
+        rw (chain-append stepDevice ds ls (lows last), quiet-sends last ((runChain ds ls) .0) (rw length-chain h), append-nil) in
         data-lines (answers now during)
         ∙ ap (λ (l : List Line). map dataBit l) (x ∙ q)
         ∙ pieces-sent ds (take j pieces) h
-        ∙ ap (λ (l : List (List Bool)). flatten l) (take-sent ds pieces j ∙ ap (λ (x : List model.Device × List (List Bool)). take j (x .1)) (sent-four (partOf (s .part)) (owned s) gap bits ds few ready))
-        ∙ ap (λ (rs : List Registers). flatten (take j (restore.returnsOf bits rs))) (registers-all now)
+        ∙ ap (λ (l : List (List Bool)). flatten l) (take-sent ds pieces j
+        ∙ ap (λ (x : List model.Device × List (List Bool)). take j (x .1)) (sent-four (partOf (s .part)) (owned s) gap (tailsOf tail) ds few ready))
+        ∙ ap (λ (rs : List Registers). flatten (take j (returnsOf (tailsOf tail) rs))) (registers-all now)
 
     -- Cut, in the device at place i, from 0
     cut-at : (last : List Bool) (k i : ℕ) (o : Own) → fed now during ≡ take k (restoreThen s gap tail last) → i < s .devices
@@ -137,7 +134,7 @@ module _ (p : ℕ) (records : List Device) (earlier during : List Call) (s : Set
         e ∙ ap (λ (l : List ℕ). take k l) (then-lows lines last (restoreStates s gap tail) (restore-states s tail (b .writable) gap)) ∙ take-map stateOf k (lines ++ lows last) in
         let x : map deviceOf (afterCalls now during) ≡ (runChain ds (take k (lines ++ lows last))) .0 =
         ap (λ (x : List model.Device × List Line). x .0) (seen (take k (lines ++ lows last)) f) in
-        let g = cut-sent (partOf (s .part)) (owned s) gap bits ds ready last k i o (registersOf (blank .registers)) (rw (length-owned s) h) in
+        let g = cut-sent (partOf (s .part)) (owned s) gap (tailsOf tail) ds ready last k i o (registersOf (blank .registers)) (rw (length-owned s) h) in
         rw (← x, registers-at (afterCalls now during) i, registers-at now i) at g
 
 -- ---- the claim
@@ -192,7 +189,7 @@ counted p records earlier former during s gap tail last j b l e f =
     let ds : List Device = start p records earlier in
     let now : List Device = afterCalls ds former in
     let c : Command = getD restoreOrder j Individual in
-    let rs : List (List Bool) = returnsOf tail (registersAll ds) in
+    let rs : List (List Bool) = returnsOf (tailsOf tail) (registersAll ds) in
     let flags : Command → ℕ = λ k. faults k (registersAll ds) in
     let b′ : Begun p records earlier former s tail = record { accepted = b .accepted; writable = b .writable; devices = b .devices; part = b .part; runs = runs-front ds former during (b .runs) } in
     let x = returned-all p records earlier former s tail b′ gap [] j (e ∙ sym (append-nil (restorePart s gap tail j))) in
@@ -236,7 +233,7 @@ restorable p records earlier s gap tail out fresh writable devices part l =
     let now : List Device = start p records earlier in
     let during : List Call = run ss out ∷ [] in
     let b : Begun p records earlier during s tail = record { accepted = fresh; writable = writable; devices = devices; part = part; runs = (tt, tt) } in
-    let a : allBelow ss 4 ≡ true = rw (restore-states s tail writable gap) (states-below (restore.restoreStates (partOf (s .part)) (owned s) gap (λ c. tailBits (tail c)))) in
+    let a : allBelow ss 4 ≡ true = rw (restore-states s tail writable gap) (states-below (piecesStates (partOf (s .part)) (owned s) gap (tailsOf tail))) in
     let r = run-accepted _ now ss out (whole p records earlier during s tail b) a l in
     let e = fed-one now ss out r in
     (r, b, e, held p records earlier during s tail b gap [] e [] tt)

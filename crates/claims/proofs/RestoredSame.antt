@@ -1,6 +1,6 @@
 -- After a restore and a boundary a comparison says same: the chain then holds the set, and nothing refuses the comparison. The records are of
 -- the set's part, since no call of a restore, nor what settles after it, changes it.
-use mathlib.Core.Path.{_≡_, refl, ap, ap₂, sym, subst, _∙_}
+use mathlib.Core.Path.{_≡_, ap, ap₂, sym, subst, _∙_}
 use mathlib.Core.Bool.{Bool, true, not, _&&_}
 use mathlib.Core.List.{List, [], _∷_, _++_}
 use Prim.Native.Nat.{_≤_}
@@ -18,11 +18,10 @@ use Rattle.device.specs.Judgement.{fits}
 use Rattle.device.specs.declared.device.Device.{Device}
 use Rattle.calls.specs.Chain.{hasPart}
 use Rattle.calls.specs.History.{Call, boundary, afterCalls}
-use Rattle.model.specs.Lists.{All}
 use Rattle.model.specs.Set.{Set}
 use Rattle.link.specs.Restore.{Writable}
 use Rattle.link.proofs.View.{Sound}
-use Rattle.link.proofs.Calls.{Whole, whole-runs, whole-settles, whole-boundary, length-afterCalls, calls-append}
+use Rattle.link.proofs.Calls.{Whole, every-all, whole-runs, whole-settles, whole-boundary, length-afterCalls, calls-append}
 use Rattle.link.proofs.Frames.{taken, writable-proper}
 use Rattle.claims.proofs.Demand.{whole, devices, held}
 use Rattle.compare.specs.Compare.{compareTable, compareRefusal}
@@ -34,10 +33,6 @@ use Rattle.claims.proofs.Compared.{holds-same}
 both : {a b : Bool} → a ≡ true → b ≡ true → (a && b) ≡ true
 both e f = ap₂ _&&_ e f
 
-each : (P : Device → Type 0) (f : Device → Bool) → ((d : Device) → P d → f d ≡ true) → (ds : List Device) → All P ds → every f ds ≡ true
-each P f k [] h = refl
-each P f k (d ∷ ds) h = both (k d (h .0)) (each P f k ds (h .1))
-
 accepts : (s : Set) (tail : Command → Tail) (ds : List Device) → Writable s tail → Whole (s .part) ds → s .devices ≡ length ds → compareRefusal s ds ≡ 0
 unfolding compareRefusal
 accepts s tail ds w h l =
@@ -46,16 +41,17 @@ accepts s tail ds w h l =
     let few : s .devices ≤ 1023 = omega (arith, l, h .fewDevices) in
     let global : ltb (s .global) (subframes (partOf (s .part)) (s .configuration)) ≡ true = not-false _ (taken s tail w Global .value) in
     let individual : allBelow (s .individual) (limit (partOf (s .part))) ≡ true = not-false _ (taken s tail w Individual .value) in
+    let parts : every (hasPart (s .part)) ds ≡ true = every-all (λ d. d .registers .part ≡ s .part) (hasPart (s .part)) (λ d e. eq-eqb (d .registers .part) (s .part) e) ds (h .onePart) in
     none (compareTable s ds) (
-      ap not (both (h .knownPart) (each (λ d. d .registers .part ≡ s .part) (λ d. known (d .registers .part)) (λ d e. ap known e ∙ h .knownPart) ds (h .onePart))),
+      ap not (both (h .knownPart) (every-all (λ d. d .registers .part ≡ s .part) (λ d. known (d .registers .part)) (λ d e. ap known e ∙ h .knownPart) ds (h .onePart))),
       (
         ap not (both (both (le-leb 1 (s .devices) some) (le-leb (s .devices) 1023 few)) (both (le-leb 1 (length ds) (h .someDevice)) (le-leb (length ds) 1023 (h .fewDevices)))),
         (
           ap not (both (both (eq-eqb _ _ (proper .calibrationLength)) (eq-eqb _ _ (proper .individualLength)))
-              (both (eq-eqb (length ds) (s .devices) (sym l)) (each (λ d. d .registers .part ≡ s .part) (hasPart (s .part)) (λ d e. eq-eqb (d .registers .part) (s .part) e) ds (h .onePart)))),
+              (both (eq-eqb (length ds) (s .devices) (sym l)) parts)),
           (
             ap not (both global individual),
-            (ap not (each Sound fits (λ d o. o .fit) ds (h .sound)), tt),
+            (ap not (every-all Sound fits (λ d o. o .fit) ds (h .sound)), tt),
           ),
         ),
       ),

@@ -32,7 +32,7 @@ use Rattle.link.proofs.Calls.{after-effect}
 use Rattle.turns.specs.Answer.{ran}
 use Rattle.turns.specs.declared.entry.Ran.{Ran}
 use Rattle.schedule.specs.Answers.{onRows, leadRows, litRows, onAnswer, leadAnswer, litAnswer, litClocksAnswer}
-use Rattle.schedule.specs.OfDevice.{deviceRows, deviceAnswer, deviceClocksAnswer}
+use Rattle.device_light.specs.OfDevice.{deviceRows, deviceAnswer, deviceClocksAnswer}
 use Rattle.schedule.specs.declared.answer.Asked.the-variants as A
 use Rattle.schedule.specs.declared.answer.Lead.the-variants as D
 use Rattle.schedule.specs.declared.answer.Clocks.the-variants as K
@@ -98,7 +98,7 @@ itself n = refl
 
 -- ---- frames and line states
 
-pub writes : (t : Told) (tail : Tail) (byte : ℕ) (bytes values out : List ℕ) → claim.Writes t tail byte bytes values out
+writes : (t : Told) (tail : Tail) (byte : ℕ) (bytes values out : List ℕ) → claim.Writes t tail byte bytes values out
 unfolding written writtenOut writeRefusal
 writes t tail byte bytes values out =
     let table = writeTable t tail byte bytes values (length out) in
@@ -110,7 +110,7 @@ found-zero t Calibration vs = refl
 found-zero t Global vs = refl
 found-zero t Configuration vs = refl
 
-pub reads : (t : Told) (tail : Tail) (frame bytes values : List ℕ) → claim.Reads t tail frame bytes values
+reads : (t : Told) (tail : Tail) (frame bytes values : List ℕ) → claim.Reads t tail frame bytes values
 unfolding read readBytes readValues readRefusal
 reads t tail frame bytes values =
     let table = readTable t tail frame (length bytes) (length values) in
@@ -120,17 +120,17 @@ reads t tail frame bytes values =
       leaves table refl refl readNumber Q.Refused _ z itself values _,
     )
 
-pub reads-return : (part devices : ℕ) (c : Command) (tail : Tail) (frame : List ℕ) → claim.ReadsReturn part devices c tail frame
+reads-return : (part devices : ℕ) (c : Command) (tail : Tail) (frame : List ℕ) → claim.ReadsReturn part devices c tail frame
 unfolding returned returnRefusal
 reads-return part devices c tail frame = answers (returnTable part devices c tail frame) refl refl returnedNumber R.Refused _ refl itself
 
-pub gives-states : (frame : List ℕ) (n : ℕ) (out : List ℕ) → claim.GivesStates frame n out
+gives-states : (frame : List ℕ) (n : ℕ) (out : List ℕ) → claim.GivesStates frame n out
 unfolding clockedAnswer clockedOut
 gives-states frame n out =
     let table = frameRows (length frame) n (length out) in
     (answers table refl refl lineNumber L.Refused _ refl itself, leaves table refl refl lineNumber L.Refused _ refl itself out _)
 
-pub packs-states : (states out : List ℕ) → claim.PacksStates states out
+packs-states : (states out : List ℕ) → claim.PacksStates states out
 unfolding packedAnswer packedOut
 packs-states states out =
     let table = stateRows states (length out) in
@@ -158,7 +158,7 @@ table-numbered ds (run ss out) = refl
 table-numbered ds boundary = refl
 table-numbered ds (fault device kind flag) = refl
 
-pub calls : (ds : List Device) (c : Call) → claim.Calls ds c
+calls : (ds : List Device) (c : Call) → claim.Calls ds c
 calls ds c = (
   subst (Exactly (tableOf ds c)) (sym (table-refusal ds c)) (exactly (tableOf ds c) (table-rises ds c) (table-numbered ds c)),
   record {
@@ -177,7 +177,7 @@ ran-answer n count = at (eqb n 0) refl where
       ∙ ap (λ (b : Bool). record { returned = cond b 0 0; refusal = n }) (sym e)
       ∙ sym (ap (λ (b : Bool). cond b (ran 0 count) (ran n 0)) e)
 
-pub runs : (ds : List Device) (ss out : List ℕ) → claim.RunAnswers ds ss out
+runs : (ds : List Device) (ss out : List ℕ) → claim.RunAnswers ds ss out
 unfolding runRefusal
 runs ds ss out =
     let table = runTable ds ss (length out) in
@@ -202,7 +202,7 @@ difference-zero n [] ds = refl
 difference-zero n (o ∷ os) [] = refl
 difference-zero n (o ∷ os) (d ∷ ds) = groups-zero n 1 (groups o d) (difference (suc n) os ds) (difference-zero (suc n) os ds)
 
-pub compares : (s : Set) (ds : List Device)
+compares : (s : Set) (ds : List Device)
     → Answers (λ (r : Compared). r .refusal) (compareTable s ds) (λ n. compared n 0 0 0) (difference 1 (owned s) ds) (comparison s ds)
 unfolding comparison compareRefusal
 compares s ds = answers (compareTable s ds) refl refl (λ (r : Compared). r .refusal) (λ n. compared n 0 0 0) (difference 1 (owned s) ds) (difference-zero 1 (owned s) ds) itself

@@ -11,7 +11,7 @@ use lib.IntN.{pos, negℤ}
 use lib.ListN.{length, take, getD}
 use lib.Signed.{_<ℤ_}
 use Rattle.bits.specs.Bits.{digit, fields, bytesOf, bytesFor, over}
-use Rattle.parts.specs.Parts.{Part, partOf, subframes}
+use Rattle.parts.specs.Parts.{Part, partOf, subframes, restoreOrder}
 use Rattle.tables.specs.Refusals.{first}
 use Rattle.parts.specs.Wire.{Line, lineOf, stateOf, lows}
 use Rattle.parts.specs.declared.command.Command.{Command}
@@ -40,15 +40,16 @@ use Rattle.model.specs.Lists.{All, Both}
 use Rattle.model.specs.Device.{faults, stepDevice}
 use Rattle.model.specs.Device as model
 use Rattle.model.specs.Set.{Set, Own, owned}
-use Rattle.model.specs.Restore.{restoreOrder, CutFields}
-use Rattle.link.specs.View.{deviceOf, stepRecord, Arrays, registersAt, registersAll, Holds}
+use Rattle.model.specs.Restore.{returnsOf, CutFields}
+use Rattle.device.specs.Run.{stepRecord}
+use Rattle.link.specs.View.{deviceOf, Arrays, registersAt, registersAll, Holds}
 use Rattle.link.specs.Called.{called}
-use Rattle.link.specs.Restore.{Writable, framePart, restorePart, restoreStates, restoreThen, gapAfter, arrival, returnsOf}
+use Rattle.link.specs.Restore.{Writable, framePart, restorePart, restoreStates, restoreThen, gapAfter, tailsOf, arrival}
 use Rattle.turns.specs.Answer.{ran, runAnswer}
 use Rattle.turns.specs.declared.entry.Ran.{Ran}
 use Rattle.schedule.specs.Light.{count, level, isOn, leadOf, isLit, litAt, inRun, litCount}
 use Rattle.schedule.specs.Answers.{onRows, leadRows, litRows, litRun, onAnswer, leadAnswer, litAnswer, litClocksAnswer}
-use Rattle.schedule.specs.OfDevice.{isShown, shownRun, deviceRows, deviceAnswer, deviceClocksAnswer}
+use Rattle.device_light.specs.OfDevice.{isShown, shownRun, deviceRows, deviceAnswer, deviceClocksAnswer}
 use Rattle.schedule.specs.declared.answer.Asked.the-variants as A
 use Rattle.schedule.specs.declared.answer.Lead.the-variants as D
 use Rattle.schedule.specs.declared.answer.Clocks.the-variants as K
@@ -215,7 +216,7 @@ pub record Outcome (now : List Device) (during : List Call) (s : Set) (gap : Com
       (j : ℕ)
       → length (restorePart s gap tail j) ≤ k
       → k ≤ length (restorePart s gap tail j) + length (gapAfter gap last j)
-      → dataBits (answers now during) ≡ flatten (take j (returnsOf tail (registersAll now)))
+      → dataBits (answers now during) ≡ flatten (take j (returnsOf (tailsOf tail) (registersAll now)))
   -- in each device, 1 to N, each group is new exactly where its slice had fully arrived
   pub cut :
       (device : ℕ) (o : Own)

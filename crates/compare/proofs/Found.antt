@@ -5,7 +5,7 @@ use mathlib.Core.Bool.{Bool, true, false, _&&_, cond, true≢false}
 use mathlib.Core.List.{List, [], _∷_}
 use Prim.Native.Nat.{ℕ, suc, _+_, _*_, _-_, _%_, _<_, _≤_}
 use native.Mathlib.Numerals.{add-one}
-use native.Mathlib.Nat.{suc-mul}
+use native.Mathlib.Nat.{suc-mul, zero-add}
 use native.Mathlib.Omega.{arith}
 use lib.Dec.{eqb, ltb}
 use lib.ListN.{length, getD, take, drop}
@@ -38,10 +38,13 @@ unfolding inGroups
 inGroups-none n g [] none = refl
 inGroups-none n g ((xs against ys) ∷ ps) none = go (ltb (differsAt xs ys) (length xs)) (inGroups-none n (suc g) ps none)
   where
+    found : Bool → Compared
+    found b = cond b (compared 0 n (suc g) (differsAt xs ys)) (inGroups n (suc (suc g)) ps same)
+
     go : (b : Bool)
         → inGroups n (suc (suc g)) ps none ≡ cond (eqb (inGroups n (suc (suc g)) ps same .group) 0) none (inGroups n (suc (suc g)) ps same)
         → cond b (compared 0 n (suc g) (differsAt xs ys)) (inGroups n (suc (suc g)) ps none)
-        ≡ cond (eqb (cond b (compared 0 n (suc g) (differsAt xs ys)) (inGroups n (suc (suc g)) ps same) .group) 0) none (cond b (compared 0 n (suc g) (differsAt xs ys)) (inGroups n (suc (suc g)) ps same))
+        ≡ cond (eqb (found b .group) 0) none (found b)
     go true e = ap (λ (b : Bool). cond b none (compared 0 n (suc g) (differsAt xs ys))) (sym (ne-eqb (suc g) 0 (λ z. omega (arith, z))))
     go false e = e
 
@@ -51,17 +54,8 @@ inGroups-same n g ps z = inGroups-none n g ps same ∙ ap (λ (b : Bool). cond b
 
 -- ---- where the search stands
 
-zero-plus : (n : ℕ) → 0 + n ≡ n
-zero-plus n = omega arith
-
 sum-next : (a t k : ℕ) → a + k + t * k ≡ a + suc t * k
-sum-next a t k = regroup a (t * k) k ∙ ap (λ (n : ℕ). a + n) (sym (suc-mul t k))
-  where
-    regroup : (x y z : ℕ) → x + z + y ≡ x + (y + z)
-    regroup x y z = omega arith
-
-within : (a k x n : ℕ) → a + k + x ≡ n → a + k ≤ n
-within a k x n e = omega arith
+sum-next a t k = omega (arith, suc-mul t k)
 
 module _ (p : Part) (bytes values : List ℕ) (ds : List Device) where
   -- the devices' own from a place on, and the answer of those
@@ -108,8 +102,8 @@ module _ (p : Part) (bytes values : List ℕ) (ds : List Device) where
           index = omega (arith, here .left);
           banks = here .few;
           fields = here .wide;
-          bytesIn = within (s .bytes) (s .banks) (t * s .banks) (length bytes) (sum-next (s .bytes) t (s .banks) ∙ here .bytesIn);
-          valuesIn = within (s .values) (s .fields) (t * s .fields) (length values) (sum-next (s .values) t (s .fields) ∙ here .valuesIn);
+          bytesIn = omega (arith, sum-next (s .bytes) t (s .banks), here .bytesIn);
+          valuesIn = omega (arith, sum-next (s .values) t (s .fields), here .valuesIn);
         }
 
     abbrev d : Device
@@ -206,24 +200,34 @@ module _ (g : Given) (bytes values : List ℕ) (ds : List Device) where
   abbrev p₀ : Part
   p₀ = partOf (g .part)
 
+  -- how many bytes and values the rules say, and that there are so many
+  abbrev allBytes : ℕ
+  allBytes = g .devices * p₀ .banks
+
+  abbrev allValues : ℕ
+  allValues = g .devices * sliceFields p₀ Individual (multiplex (g .configuration))
+
+  abbrev fits : Bool
+  fits = lengthsFit (g .part) (g .devices) (g .configuration) (length bytes) (length values)
+
   pub begin-live : compareRefusal set ds ≡ 0 → (0 < g .devices) × Live p₀ bytes values ds (g .devices) (begunUnder (compareRefusal set ds) g)
   unfolding compareRefusal
   begin-live e =
       let c = clear (compareTable set ds) refl e in
       let counts : (isCount (g .devices) && isCount (length ds)) ≡ true = not-false _ (c .1 .0) in
-      let lists : (lengthsFit (g .part) (g .devices) (g .configuration) (length bytes) (length values) && sameChain set ds) ≡ true = not-false _ (c .1 .1 .0) in
-      let fit : lengthsFit (g .part) (g .devices) (g .configuration) (length bytes) (length values) ≡ true = and-left _ _ lists in
-      let sizes : sameChain set ds ≡ true = and-right (lengthsFit (g .part) (g .devices) (g .configuration) (length bytes) (length values)) (sameChain set ds) lists in (
+      let lists : (fits && sameChain set ds) ≡ true = not-false _ (c .1 .1 .0) in
+      let fit : fits ≡ true = and-left _ _ lists in
+      let sizes : sameChain set ds ≡ true = and-right fits (sameChain set ds) lists in (
         leb-true 1 (g .devices) (and-left _ _ (and-left _ _ counts)),
         record {
-          left = zero-plus (g .devices);
+          left = zero-add (g .devices);
           devices = sym (eqb-true (length ds) (g .devices) (and-left _ _ sizes));
           banks = refl;
           few = omega (arith, banks-three (g .part));
           fields = refl;
           wide = fields-of (g .part) (g .configuration);
-          bytesIn = zero-plus (g .devices * p₀ .banks) ∙ sym (eqb-true (length bytes) (g .devices * p₀ .banks) (and-left _ _ fit));
-          valuesIn = zero-plus (g .devices * sliceFields p₀ Individual (multiplex (g .configuration))) ∙ sym (eqb-true (length values) (g .devices * sliceFields p₀ Individual (multiplex (g .configuration))) (and-right (eqb (length bytes) (g .devices * p₀ .banks)) (eqb (length values) (g .devices * sliceFields p₀ Individual (multiplex (g .configuration)))) fit));
+          bytesIn = zero-add allBytes ∙ sym (eqb-true (length bytes) allBytes (and-left _ _ fit));
+          valuesIn = zero-add allValues ∙ sym (eqb-true (length values) allValues (and-right (eqb (length bytes) allBytes) (eqb (length values) allValues) fit));
         },
       )
 

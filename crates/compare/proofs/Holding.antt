@@ -3,7 +3,7 @@
 use mathlib.Core.Path.{_≡_, refl, ap, sym, subst, _∙_}
 use mathlib.Core.Bool.{Bool, true, false, cond, true≢false}
 use mathlib.Core.List.{List, [], _∷_}
-use Prim.Native.Nat.{ℕ, zero, suc, _+_, _*_, _-_, _%_, _<_, _≤_}
+use Prim.Native.Nat.{ℕ, zero, suc, _+_, _*_, _%_, _<_, _≤_}
 use native.Mathlib.Nat.{suc-mul}
 use native.Mathlib.Omega.{arith}
 use lib.Dec.{eqb, ltb}
@@ -42,29 +42,20 @@ dealt-sized p e (suc n) configuration global bytes values b v =
     let b′ : length bytes ≡ n * p .banks + p .banks = b ∙ suc-mul n (p .banks) in
     let v′ : length values ≡ n * fields + fields = v ∙ suc-mul n fields in (
       record {
-        calibration = length-take-le (p .banks) bytes (at-least (length bytes) (n * p .banks) (p .banks) b′) ∙ e;
-        individual = length-take-le fields values (at-least (length values) (n * fields) fields v′) ∙ ap (λ (k : ℕ). 8 * k * (1 + configuration % 2)) e;
+        calibration = length-take-le (p .banks) bytes (omega (arith, b′)) ∙ e;
+        individual = length-take-le fields values (omega (arith, v′)) ∙ ap (λ (k : ℕ). 8 * k * (1 + configuration % 2)) e;
       },
       dealt-sized p e n configuration global (drop (p .banks) bytes) (drop fields values)
-          (length-drop (p .banks) bytes ∙ less (length bytes) (n * p .banks) (p .banks) b′)
-          (length-drop fields values ∙ less (length values) (n * fields) fields v′),
+          (length-drop (p .banks) bytes ∙ omega (arith, b′))
+          (length-drop fields values ∙ omega (arith, v′)),
     )
-  where
-    at-least : (l a k : ℕ) → l ≡ a + k → k ≤ l
-    at-least l a k f = omega arith
-
-    less : (l a k : ℕ) → l ≡ a + k → l - k ≡ a
-    less l a k f = omega arith
 
 mux-cases : {A : Type 0} (c : ℕ) → (c % 2 ≡ 0 → A) → (c % 2 ≡ 1 → A) → A
 mux-cases {A} c f g = go (eqb (c % 2) 0) refl
   where
     go : (b : Bool) → eqb (c % 2) 0 ≡ b → A
     go true e = f (eqb-true (c % 2) 0 e)
-    go false e = let n = eqb-false (c % 2) 0 e in g (one n)
-      where
-        one : (c % 2 ≡ 0 → ⊥) → c % 2 ≡ 1
-        one n = omega (arith, n)
+    go false e = g (omega (arith, eqb-false (c % 2) 0 e))
 
 module _ (o : Own) (d : Device) where
   abbrev values0 : List ℕ

@@ -8,8 +8,8 @@ ghost use Rattle.tables.specs.Refusals.{first};
 ghost use Rattle.compare.specs.Compare.{lengthsFit, valuesFit};
 ghost use Rattle.compare.specs.Search.{chainFits, rowsBy};
 use crate::compared::Given;
-use parts::Command;
 use calls::Judged;
+use parts::Command;
 
 // The number under which a comparison is refused, or 0, by the set and by what was found in the records.
 pub fn refusal_of(

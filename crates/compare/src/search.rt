@@ -78,24 +78,16 @@ pub fn look(device: Device, search: Search, calibration: &[u8], individual: &[u1
     ensures { λ r. ⌜ r ≡ lookedAt search (now (calibration .entry)) (now (individual .entry)) device ⌝ }
 {
     let answer = crate::own::device_differs(device, search, calibration, individual);
+    let mut next = search;
+    next.answer = answer;
     if answer.group == 0 {
-        let next = search.index + 1;
-        Search {
-            configuration: search.configuration,
-            global: search.global,
-            devices: search.devices,
-            banks: search.banks,
-            fields: search.fields,
-            index: next,
-            bytes: search.bytes + search.banks,
-            values: search.values + search.fields,
-            going: next < search.devices,
-            answer,
-        }
+        next.index = search.index + 1;
+        next.bytes = search.bytes + search.banks;
+        next.values = search.values + search.fields;
+        next.going = search.index + 1 < search.devices;
+        next
     } else {
-        let mut last = search;
-        last.going = false;
-        last.answer = answer;
-        last
+        next.going = false;
+        next
     }
 }

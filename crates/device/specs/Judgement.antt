@@ -2,17 +2,17 @@
 use Prim.Native.Nat.{ℕ}
 use mathlib.Core.Bool.{Bool, true, _&&_, not}
 use mathlib.Core.List.{List, [], _∷_}
-use lib.Dec.{eqb, ltb, leb}
-use Rattle.parts.specs.Parts.{partOf, known, limit}
-use Rattle.tables.specs.Lists.{allBelow}
+use lib.Dec.{ltb, leb}
+use Rattle.parts.specs.Parts.{known}
 use Rattle.tables.specs.Refusals.{Row, _when_, first, answer}
-use Rattle.device.specs.Phases.{placeOf, phaseOf}
+use Rattle.phases.specs.Phases.{placeOf, phaseOf, samePlace}
+use Rattle.registers.specs.Widths.{flagsFit, valuesFit}
 use Rattle.device.specs.Step.{step, sliceLength}
-use Rattle.device.specs.declared.phase.Place.{Place}
-use Rattle.device.specs.declared.phase.Phase.{Phase}
-use Rattle.device.specs.declared.phase.Phase.the-variants.{Hunting, Opening, Counting, Slice, Passing, Lost}
-use Rattle.device.specs.declared.phase.Sent.the-variants.{Nothing}
-use Rattle.device.specs.declared.registers.Registers.{Registers}
+use Rattle.phases.specs.declared.phase.Place.{Place}
+use Rattle.phases.specs.declared.phase.Phase.{Phase}
+use Rattle.phases.specs.declared.phase.Phase.the-variants.{Hunting, Opening, Counting, Slice, Passing, Lost}
+use Rattle.phases.specs.declared.phase.Sent.the-variants.{Nothing}
+use Rattle.registers.specs.declared.registers.Registers.{Registers}
 use Rattle.device.specs.declared.device.Device.{Device}
 use Rattle.device.specs.declared.device.Stepped.{Stepped}
 use Rattle.device.specs.declared.device.Answer.{Answer}
@@ -26,28 +26,9 @@ phaseFits (Slice c count taken) r = ltb count 1024 && ltb taken (sliceLength r c
 phaseFits Passing r = true
 phaseFits Lost r = true
 
--- the same four numbers
-abbrev pub samePlace : Place → Place → Bool
-samePlace p q =
-    eqb (p .phase) (q .phase) && (eqb (p .command) (q .command) && (eqb (p .count) (q .count) && eqb (p .read) (q .read)))
-
 -- the numbers are those of a phase, and of one that a device can come to
 abbrev pub placeFits : Place → Registers → Bool
 placeFits q r = samePlace (placeOf (phaseOf q)) q && phaseFits (phaseOf q) r
-
--- a fault flag is 0 or 1
-abbrev pub flagsFit : Registers → Bool
-flagsFit r = ltb (r .overtemperature) 2 && ltb (r .openled) 2
-
--- each value of two lists is below m
-abbrev pub pairBelow : List ℕ → List ℕ → ℕ → Bool
-pairBelow xs ys m = allBelow xs m && allBelow ys m
-
--- each value is within the part's width, also those of the slice that is coming in
-abbrev pub valuesFit : Registers → Bool
-valuesFit r =
-    pairBelow (r .waiting0) (r .waiting1) (limit (partOf (r .part)))
-    && (pairBelow (r .active0) (r .active1) (limit (partOf (r .part))) && allBelow (r .slice) (limit (partOf (r .part))))
 
 -- number 13 does not apply to the record
 abbrev pub fits : Device → Bool

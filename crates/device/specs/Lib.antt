@@ -1,6 +1,4 @@
--- What a device holds, its phases, the step, the judgement of a record, and runs of states.
-pub mod Phases
-pub mod Held
+-- The step of a device, the judgement of a record, and runs of states.
 pub mod Step
 pub mod Judgement
 pub mod Run

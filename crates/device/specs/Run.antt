@@ -1,14 +1,14 @@
--- What a device is told and sends, as lists of line states.
+-- A record as a machine: its step with the states that it sends on, and a run over a list of states.
 use Prim.Native.Nat.{ℕ}
-use mathlib.Core.List.{List, [], _∷_, _++_}
+use mathlib.Core.List.{List}
+use Rattle.machine.specs.Machine as machine
 use Rattle.device.specs.Step.{step, sentStates}
 use Rattle.device.specs.declared.device.Device.{Device}
-use Rattle.device.specs.declared.device.Stepped.{Stepped}
+
+-- one line state: the next device, and the states that it sends on
+unfoldable pub stepRecord : Device → ℕ → Device × List ℕ
+stepRecord d s = (step d s .device, sentStates (step d s .sent))
 
 -- the device after a list of states, and all that it sent
-unfoldable pub run : Device → List ℕ → Device × List ℕ
-run d [] = (d, [])
-run d (s ∷ ss) =
-    let now : Stepped = step d s in
-    let rest : Device × List ℕ = run (now .device) ss in
-    (rest .0, sentStates (now .sent) ++ rest .1)
+abbrev pub run : Device → List ℕ → Device × List ℕ
+run d ss = machine.run stepRecord d ss

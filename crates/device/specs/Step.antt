@@ -7,13 +7,13 @@ use lib.Dec.{ltb}
 use Rattle.parts.specs.Parts.{partOf, multiplex, fieldWidth, fieldLimit, sliceBits}
 use Rattle.parts.specs.Wire.{header, statesOf}
 use Rattle.parts.specs.declared.command.Command.{Command}
-use Rattle.device.specs.Phases.{placeOf, phaseOf, heard, rising, opening, counting}
-use Rattle.device.specs.Held.{took, stored, fault, raised, activated, flagged, zeros}
-use Rattle.device.specs.declared.phase.Phase.{Phase}
-use Rattle.device.specs.declared.phase.Phase.the-variants.{Hunting, Opening, Counting, Slice, Passing, Lost}
-use Rattle.device.specs.declared.phase.Sent.{Sent}
-use Rattle.device.specs.declared.phase.Sent.the-variants.{Nothing, One, Header}
-use Rattle.device.specs.declared.registers.Registers.{Registers}
+use Rattle.phases.specs.Phases.{placeOf, phaseOf, heard, rising, opening, counting}
+use Rattle.registers.specs.Held.{took, stored, fault, raised, activated, flagged, zeros}
+use Rattle.phases.specs.declared.phase.Phase.{Phase}
+use Rattle.phases.specs.declared.phase.Phase.the-variants.{Hunting, Opening, Counting, Slice, Passing, Lost}
+use Rattle.phases.specs.declared.phase.Sent.{Sent}
+use Rattle.phases.specs.declared.phase.Sent.the-variants.{Nothing, One, Header}
+use Rattle.registers.specs.declared.registers.Registers.{Registers}
 use Rattle.device.specs.declared.device.Device.{Device}
 use Rattle.device.specs.declared.device.Stepped.{Stepped}
 

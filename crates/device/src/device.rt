@@ -1,13 +1,12 @@
 // The single step of a device, by value, and the events that are no clock.
 ghost use mathlib.Core.Path.{_≡_};
-ghost use Prim.Native.Nat.{_<_, _≤_};
-ghost use Rattle.device.specs.Step.{moved, collected, stepHigh, step, bounded, faulted, freshDevice};
-ghost use Rattle.device.specs.Judgement.{stepAnswer};
-use crate::phase::Phase;
-use crate::phase::Place;
-use crate::phase::Sent;
-use crate::registers::Registers;
+ghost use Rattle.device.specs.Step.{sending, collected, stepHigh, step, bounded, faulted, freshDevice};
+ghost use Rattle.device.specs.Judgement.{refusedWith, stepAnswer};
 use parts::Command;
+use phases::Phase;
+use phases::Place;
+use phases::Sent;
+use registers::Registers;
 
 #[repr(C)]
 pub struct Device {
@@ -35,26 +34,18 @@ impl Device {
     {
         let judged = crate::judgement::judge(self);
         if judged != 0 {
-            return Answer {
-                refusal: judged,
-                device: self,
-                sent: Sent::Nothing,
-            };
+            return refused_with(self, judged);
         }
         if state >= 4 {
-            return Answer {
-                refusal: 13,
-                device: self,
-                sent: Sent::Nothing,
-            };
+            return refused_with(self, 13);
         }
         let next = self.advance(state);
         let device = next.device;
         let sent = next.sent;
         Answer {
             refusal: 0,
-            device: device,
-            sent: sent,
+            device,
+            sent,
         }
     }
 
@@ -64,9 +55,9 @@ impl Device {
     {
         let registers = self.registers;
         let place = self.place;
-        let phase = crate::phase::phase_of(place);
+        let phase = phases::phase_of(place);
         if state < 2 {
-            stepped_to(registers, crate::phase::hear(phase, state))
+            sending(registers, phases::hear(phase, state), Sent::Nothing)
         } else {
             high(registers, phase, state)
         }
@@ -80,7 +71,7 @@ impl Device {
         let place = self.place;
         Device {
             registers: registers.activate(),
-            place: place,
+            place,
         }
     }
 
@@ -92,7 +83,7 @@ impl Device {
         let place = self.place;
         Device {
             registers: registers.flag(kind, flag),
-            place: place,
+            place,
         }
     }
 
@@ -102,8 +93,19 @@ impl Device {
     {
         Device {
             registers: Registers::zero(part),
-            place: crate::phase::place_of(Phase::Hunting { window: 0 }),
+            place: phases::place_of(Phase::Hunting { window: 0 }),
         }
+    }
+}
+
+// A refused device comes back as it came in.
+fn refused_with(device: Device, refusal: u8) -> Answer
+    ensures { λ r. ⌜ r ≡ refusedWith device refusal ⌝ }
+{
+    Answer {
+        refusal,
+        device,
+        sent: Sent::Nothing,
     }
 }
 
@@ -111,27 +113,18 @@ impl Device {
 fn high(registers: Registers, phase: Phase, state: u8) -> Stepped
     ensures { λ r. ⌜ r ≡ stepHigh registers phase state ⌝ }
 {
-    let bit = state % 2;
     match phase {
-        Phase::Hunting { window: _ } => stepped_to(registers, crate::phase::header_bit(phase, bit)),
-        Phase::Opening { read: _ } => stepped_to(registers, crate::phase::header_bit(phase, bit)),
-        Phase::Counting {
-            command: _,
-            read: _,
-        } => stepped_to(registers, crate::phase::header_bit(phase, bit)),
         Phase::Slice {
             command,
             count,
             taken,
-        } => collect(registers, command, count, taken, bit),
-        Phase::Passing => Stepped {
-            device: Device {
-                registers: registers,
-                place: crate::phase::place_of(Phase::Passing),
-            },
-            sent: Sent::One(state),
-        },
-        Phase::Lost => stepped_to(registers, Phase::Lost),
+        } => collect(registers, command, count, taken, state % 2),
+        Phase::Passing => sending(registers, Phase::Passing, Sent::One(state)),
+        _ => sending(
+            registers,
+            phases::header_bit(phase, state % 2),
+            Sent::Nothing,
+        ),
     }
 }
 
@@ -139,44 +132,30 @@ fn high(registers: Registers, phase: Phase, state: u8) -> Stepped
 fn collect(registers: Registers, command: Command, count: u16, taken: u16, bit: u8) -> Stepped
     ensures { λ r. ⌜ r ≡ collected registers command count taken bit ⌝ }
 {
-    let part = registers.part;
-    let width = parts::field_width(command, part) as u16;
-    let length = parts::slice_bits(command, part, registers.configuration);
-    let below = parts::field_limit(command, part);
-    let next = crate::registers::take_bit(registers, (taken / width) as usize, bit, below);
+    let length = parts::slice_bits(command, registers.part, registers.configuration);
+    let next = registers.take_bit(command, taken, bit);
     if (taken as u32) + 1 < (length as u32) {
-        return stepped_to(
-            next,
-            Phase::Slice {
-                command: command,
-                count: count,
-                taken: taken + 1,
-            },
-        );
+        let more = Phase::Slice {
+            command,
+            count,
+            taken: taken + 1,
+        };
+        return sending(next, more, Sent::Nothing);
     }
-    let count = crate::registers::raise(count, next.fault_of(command));
+    let count = registers::raise(count, next.fault_of(command));
     let stored = next.store(command);
-    Stepped {
-        device: Device {
-            registers: stored,
-            place: crate::phase::place_of(Phase::Passing),
-        },
-        sent: Sent::Header {
-            command: command,
-            count: count,
-        },
-    }
+    sending(stored, Phase::Passing, Sent::Header { command, count })
 }
 
-// The phase changes, and nothing is sent.
-fn stepped_to(registers: Registers, phase: Phase) -> Stepped
-    ensures { λ r. ⌜ r ≡ moved registers phase ⌝ }
+// The next device, by its registers and its phase, and what it sends on.
+fn sending(registers: Registers, phase: Phase, sent: Sent) -> Stepped
+    ensures { λ r. ⌜ r ≡ sending registers phase sent ⌝ }
 {
     Stepped {
         device: Device {
-            registers: registers,
-            place: crate::phase::place_of(phase),
+            registers,
+            place: phases::place_of(phase),
         },
-        sent: Sent::Nothing,
+        sent,
     }
 }

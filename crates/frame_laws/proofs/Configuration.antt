@@ -11,7 +11,7 @@ use Rattle.frames.specs.declared.told.Told.{Told}
 use Rattle.frames.specs.declared.told.Tail.{Tail}
 
 -- a configuration frame that is told a configuration
-abbrev pub configured : ℕ → ℕ → ℕ → Told
+abbrev configured : ℕ → ℕ → ℕ → Told
 configured part devices g = record { part = part; devices = devices; command = Configuration; configuration = g }
 
 module _ (part devices g k : ℕ) (tail : Tail) where

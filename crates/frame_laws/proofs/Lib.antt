@@ -3,5 +3,4 @@ pub mod Packed
 pub mod Frame
 pub mod Configuration
 pub mod RoundTrip
-pub mod Slices
 pub mod Returns

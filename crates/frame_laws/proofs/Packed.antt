@@ -1,6 +1,6 @@
 -- Header, slices and tail packed into bytes, taken apart again: what the readers' tests find in them. The header computes; behind it the
 -- bits are cut at known lengths. For any count and any slices, so for frames and for returns. Assumes nothing.
-use mathlib.Core.Path.{_≡_, refl, ap, ap₂, sym, _∙_}
+use mathlib.Core.Path.{_≡_, refl, ap, sym, _∙_}
 use mathlib.Core.Bool.{Bool, false}
 use mathlib.Core.List.{List, _++_, append-assoc}
 use Prim.Native.Nat.{ℕ, _+_, _-_, _*_, _%_, _^_, _<_, _≤_}
@@ -65,29 +65,25 @@ number-zeros n = ap number (sym (bit.bits-zero n)) ∙ bit.number-bits n 0 ∙ m
 -- ---- a frame or a return
 
 module _ (c : Command) (n : ℕ) (slices : List Bool) (tail : Tail) (m : ℕ) (len : length slices ≡ m) where
-  abbrev pub sent : List Bool
+  abbrev sent : List Bool
   sent = frame c n slices (tailBits tail)
 
-  abbrev pub pad : ℕ
+  abbrev pad : ℕ
   pad = (8 - length sent % 8) % 8
 
   abbrev pub rest : List Bool
   rest = tailBits tail ++ replicate pad false
 
   -- the bits of its bytes
-  abbrev pub said : List Bool
+  abbrev said : List Bool
   said = fields 8 (bytesOf sent)
 
   pub packed-long : length (bytesOf sent) ≡ bytesFor (24 + m + tail .length)
   unfolding frame
   packed-long =
-      bit.length-bytesOf sent
-      ∙ ap bytesFor (length-append (header c n) (slices ++ tailBits tail)
-      ∙ ap₂ (λ (x y : ℕ). x + y) (length-header c n) (length-append slices (tailBits tail) ∙ ap₂ (λ (x y : ℕ). x + y) len (bit.length-bits (tail .length) (tail .number)))
-      ∙ regroup m (tail .length))
-    where
-      regroup : (a b : ℕ) → 24 + (a + b) ≡ 24 + a + b
-      regroup a b = omega arith
+      let e : length sent ≡ 24 + m + tail .length =
+      omega (arith, length-append (header c n) (slices ++ tailBits tail), length-header c n, length-append slices (tailBits tail), len, bit.length-bits (tail .length) (tail .number)) in
+      bit.length-bytesOf sent ∙ ap bytesFor e
 
   packed-said : said ≡ header c n ++ (slices ++ rest)
   unfolding frame padded

@@ -1,3 +1,2 @@
 -- What the theorems on frames are stated with.
 pub mod RoundTrip
-pub mod Slices

@@ -14,6 +14,21 @@ use Rattle.parts.specs.declared.command.Command.{Command}
 use Rattle.frames.specs.declared.told.Told.{Told}
 use Rattle.frames.specs.declared.told.Tail.{Tail}
 
+-- ---- what is told
+
+-- of a frame
+abbrev pub toldOf : ℕ → ℕ → Command → ℕ → Told
+toldOf part devices c configuration =
+    record { part = part; devices = devices; command = c; configuration = configuration }
+
+-- a tail of a number and a length
+abbrev pub tailOf : ℕ → ℕ → Tail
+tailOf number long = record { number = number; length = long }
+
+-- no tail
+abbrev pub noTail : Tail
+noTail = tailOf 0 0
+
 -- ---- the frame
 
 -- the fields of all slices, device 1 first

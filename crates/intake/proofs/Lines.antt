@@ -8,29 +8,14 @@ use native.Mathlib.Numerals.{add-one}
 use lib.ListN.{length, getD, drop, drop-of-length-le}
 use lib.Seq.{drop-cons}
 use borrow.Author.Tests.{lt-ltb, le-ltb}
-use Rattle.device.specs.Phases.{pushed, inHeader, headed}
-use Rattle.device.specs.declared.phase.Phase.{Phase}
-use Rattle.device.specs.declared.phase.Sent.the-variants.{Nothing}
+use Rattle.phases.specs.Phases.{pushed, inHeader, headed}
+use Rattle.phases.specs.declared.phase.Phase.{Phase}
+use Rattle.phases.specs.declared.phase.Sent.the-variants.{Nothing}
 use Rattle.device.specs.declared.device.Device.{Device}
-use Rattle.intake.specs.Intake.{stopped, highTaken, heardAll, headedAll, highsEnd, filled}
+use Rattle.intake.specs.Intake.{stopped, highTaken, headedAll, highsEnd, filled}
 
 pub drop-on : (ss : List ℕ) (i : ℕ) → i < length ss → drop i ss ≡ getD ss i 0 ∷ drop (i + 1) ss
 drop-on ss i h = rw (add-one, drop-cons ss i 0) refl
-
--- ---- a window
-
-pub heard-end : (w : ℕ) (ss : List ℕ) (i k : ℕ) → length ss ≤ i → heardAll w (drop i ss) k ≡ record { window = w; at = k }
-unfolding heardAll
-heard-end w ss i k h = rw (drop-of-length-le ss h) refl
-
-pub heard-high : (w : ℕ) (ss : List ℕ) (i k : ℕ) → i < length ss → 2 ≤ getD ss i 0 → heardAll w (drop i ss) k ≡ record { window = w; at = k }
-unfolding heardAll
-heard-high w ss i k h l = rw (drop-on ss i h, le-ltb (getD ss i 0) 2 l) refl
-
-pub heard-on : (w : ℕ) (ss : List ℕ) (i k : ℕ) → i < length ss → getD ss i 0 < 2
-    → heardAll w (drop i ss) k ≡ heardAll (pushed w (getD ss i 0) 256) (drop (i + 1) ss) (k + 1)
-unfolding heardAll
-heard-on w ss i k h l = rw (drop-on ss i h, lt-ltb (getD ss i 0) 2 l) refl
 
 -- ---- a phase
 

@@ -1,29 +1,31 @@
--- What each phase does with the states at hand. Low states change the window alone; high states of a header change the phase alone; a lost
--- device ignores them; a passing device, and one whose slice is full, stops after one. By induction on the states at hand. Assumes nothing.
+-- What each phase does with the high states at hand. Those of a header change the phase alone; a lost device ignores them; a passing device,
+-- and one whose slice is full, stops after one. By induction on the states at hand. Assumes nothing.
 use mathlib.Core.Path.{_≡_, refl, sym, ap, _∙_, subst}
 use mathlib.Core.Bool.{Bool, true, false, cond, true≢false}
 use mathlib.Core.List.{List, [], _∷_}
+use mathlib.Core.Logic.{⊎-elim}
 use Prim.Native.Nat.{ℕ, _+_, _-_, _%_, _*_, _<_, _≤_}
-use native.Mathlib.Nat.{mod-lt}
 use native.Mathlib.Omega.{arith}
 use lib.Dec.{ltb, eqb, lit<}
-use lib.ListN.{length, getD, drop, drop-of-length-le}
+use lib.ListN.{length, getD, drop}
 use lib.Seq.{drop-drop}
+use types.Run.{OneOf}
+use denote.Enum.Declared.{tagOf}
+use Rattle.phases.proofs.phase.Phase.{the-type}
 use borrow.Author.Tests.{le-ltb, lt-ltb}
 use Rattle.parts.specs.declared.command.Command.{Command}
-use Rattle.device.specs.Phases.{phaseOf, pushed, windowOf, heard, inHeader, headed, opened}
+use Rattle.phases.specs.Phases.{phaseOf, heard, inHeader, headed, opened}
 use Rattle.device.specs.Step.{step, stepHigh, at, moved, sliceLength}
-use Rattle.device.proofs.Places.{Small, phase-place, phase-small}
+use Rattle.phases.proofs.Places.{Small, phase-place, phase-small}
 use Rattle.tables.proofs.Booleans.{cond-both}
-use Rattle.device.specs.declared.phase.Phase.{Phase}
-use Rattle.device.specs.declared.phase.Phase.the-variants.{Hunting, Opening, Counting, Slice, Passing, Lost}
-use Rattle.device.specs.declared.phase.Sent.the-variants.{Nothing}
-use Rattle.device.specs.declared.registers.Registers.{Registers}
+use Rattle.phases.specs.declared.phase.Phase.{Phase}
+use Rattle.phases.specs.declared.phase.Phase.the-variants.{Hunting, Opening, Counting, Slice, Passing, Lost}
+use Rattle.phases.specs.declared.phase.Sent.the-variants.{Nothing}
+use Rattle.registers.specs.declared.registers.Registers.{Registers}
 use Rattle.device.specs.declared.device.Device.{Device}
 use Rattle.device.specs.declared.device.Stepped.{Stepped}
-use Rattle.intake.specs.Intake.{taken, takenFrom, stopped, lowTaken, highTaken, unlessSent, heardAll, headedAll, highsEnd, oneTaken}
+use Rattle.intake.specs.Intake.{stopped, highTaken, unlessSent, headedAll, highsEnd, oneTaken}
 use Rattle.intake.specs.declared.states.Taken.{Taken}
-use Rattle.intake.specs.declared.states.Heard.{Heard}
 use Rattle.intake.specs.declared.states.Headed.{Headed}
 use Rattle.intake.proofs.Lines.{drop-on}
 
@@ -40,14 +42,6 @@ pub step-high : (r : Registers) (p : Phase) (s : ℕ) → Small p → ltb s 2 �
 step-high r p s h e = ap (by r s) (phase-place p h) ∙ ap (λ (t : Bool). cond t (moved r (heard p s)) (stepHigh r p s)) e
 
 -- ---- one state
-
-pub low-cons : (d : Device) (s : ℕ) (rest : List ℕ) (i : ℕ) → ltb s 2 ≡ true → lowTaken d (s ∷ rest) i ≡ lowTaken (step d s .device) rest (i + 1)
-unfolding lowTaken
-low-cons d s rest i e = ap (λ (t : Bool). cond t (lowTaken (step d s .device) rest (i + 1)) (stopped d i Nothing)) e
-
-pub low-high : (d : Device) (s : ℕ) (rest : List ℕ) (i : ℕ) → ltb s 2 ≡ false → lowTaken d (s ∷ rest) i ≡ stopped d i Nothing
-unfolding lowTaken
-low-high d s rest i e = ap (λ (t : Bool). cond t (lowTaken (step d s .device) rest (i + 1)) (stopped d i Nothing)) e
 
 -- after a step at high load
 abbrev pub after : Stepped → List ℕ → ℕ → Taken
@@ -80,52 +74,6 @@ high-normal d s rest i e =
     high-cons d s rest i e ∙ ap (λ (x : Stepped). after x rest i) (step-normal d s)
     ∙ sym (high-cons (at (d .registers) (phaseOf (d .place))) s rest i e)
 
--- ---- low states
-
-heard-cons : (w s : ℕ) (rest : List ℕ) (i : ℕ) → ltb s 2 ≡ true → heardAll w (s ∷ rest) i ≡ heardAll (pushed w s 256) rest (i + 1)
-unfolding heardAll
-heard-cons w s rest i e = rw e refl
-
-heard-none : (w s : ℕ) (rest : List ℕ) (i : ℕ) → ltb s 2 ≡ false → heardAll w (s ∷ rest) i ≡ record { window = w; at = i }
-unfolding heardAll
-heard-none w s rest i e = rw e refl
-
--- what a device is that heard low states
-abbrev pub hunting : Registers → Heard → Taken
-hunting r h = stopped (at r (Hunting (h .window))) (h .at) Nothing
-
-pushed-lt : (w s : ℕ) → pushed w s 256 < 256
-pushed-lt w s = mod-lt (w * 2 + s) (lit< tt)
-
-step-low : (r : Registers) (w s : ℕ) → w < 256 → ltb s 2 ≡ true → step (at r (Hunting w)) s .device ≡ at r (Hunting (pushed w s 256))
-step-low r w s h e =
-    ap (λ (p : Phase). by r s p .device) (phase-place (Hunting w) h)
-    ∙ ap (λ (t : Bool). cond t (moved r (heard (Hunting w) s)) (stepHigh r (Hunting w) s) .device) e
-
--- a device that hunts takes low states into its window
-pub low-heard : (r : Registers) (rest : List ℕ) (w i : ℕ) → w < 256 → lowTaken (at r (Hunting w)) rest i ≡ hunting r (heardAll w rest i)
-unfolding lowTaken heardAll
-low-heard r [] w i h = refl
-low-heard r (s ∷ rest) w i h = go (ltb s 2) refl (low-heard r rest (pushed w s 256) (i + 1) (pushed-lt w s)) where
-  go : (t : Bool) → ltb s 2 ≡ t → lowTaken (at r (Hunting (pushed w s 256))) rest (i + 1) ≡ hunting r (heardAll (pushed w s 256) rest (i + 1))
-      → lowTaken (at r (Hunting w)) (s ∷ rest) i ≡ hunting r (heardAll w (s ∷ rest) i)
-  go true e ih =
-      low-cons (at r (Hunting w)) s rest i e
-      ∙ ap (λ (d : Device). lowTaken d rest (i + 1)) (step-low r w s h e)
-      ∙ ih
-      ∙ ap (hunting r) (sym (heard-cons w s rest i e))
-  go false e ih = low-high (at r (Hunting w)) s rest i e ∙ ap (hunting r) (sym (heard-none w s rest i e))
-
--- and so does any device, from the first of them on
-pub low-taken : (d : Device) (s : ℕ) (rest : List ℕ) (i : ℕ) → ltb s 2 ≡ true
-    → lowTaken d (s ∷ rest) i ≡ hunting (d .registers) (heardAll (windowOf (phaseOf (d .place))) (s ∷ rest) i)
-low-taken d s rest i e =
-    let w = windowOf (phaseOf (d .place)) in
-    low-cons d s rest i e
-    ∙ ap (λ (t : Bool). lowTaken (cond t (moved (d .registers) (heard (phaseOf (d .place)) s)) (stepHigh (d .registers) (phaseOf (d .place)) s) .device) rest (i + 1)) e
-    ∙ low-heard (d .registers) rest (pushed w s 256) (i + 1) (pushed-lt w s)
-    ∙ ap (hunting (d .registers)) (sym (heard-cons w s rest i e))
-
 -- ---- the states of a header
 
 -- a bit of a header moves the phase, and nothing is sent
@@ -144,7 +92,7 @@ opened-small n =
     (λ _. cond-both Small (eqb n 42) _ _ (λ _. lit< tt)
     (λ _. cond-both Small (eqb n 63) _ _ (λ _. lit< tt) (λ _. lit< tt))))
 
-headed-small : (p : Phase) (b : ℕ) → Small p → Small (headed p b)
+pub headed-small : (p : Phase) (b : ℕ) → Small p → Small (headed p b)
 headed-small (Hunting w) b h = cond-both Small (eqb w 0xE8) _ _ (λ _. lit< tt) (λ _. lit< tt)
 headed-small (Opening n) b h = cond-both Small (ltb (n * 2 + b) 64) _ _ (λ _. lit< tt) (λ _. opened-small (n * 2 + b - 64))
 headed-small (Counting c n) b h = cond-both Small (ltb (n * 2 + b) 1024) _ _ (λ _. lit< tt) (λ _. lit< tt)
@@ -254,6 +202,15 @@ high-over r c n t rest i h = high-sends r (Slice c n t) rest i (lit< tt) (λ s. 
 
 -- ---- by what the header's states left
 
+-- the tags of the three phases that look for a header or read one
+pub inHeader-tag : (p : Phase) → OneOf (0 ∷ 1 ∷ 2 ∷ []) (tagOf the-type p) → inHeader p ≡ true
+inHeader-tag (Hunting w) h = refl
+inHeader-tag (Opening n) h = refl
+inHeader-tag (Counting c n) h = refl
+inHeader-tag (Slice c n t) h = absurd (⊎-elim (λ e. omega arith) (λ i. ⊎-elim (λ e. omega arith) (λ e. omega arith) i) h)
+inHeader-tag Passing h = absurd (⊎-elim (λ e. omega arith) (λ i. ⊎-elim (λ e. omega arith) (λ e. omega arith) i) h)
+inHeader-tag Lost h = absurd (⊎-elim (λ e. omega arith) (λ i. ⊎-elim (λ e. omega arith) (λ e. omega arith) i) h)
+
 pub high-by : (d : Device) (ss : List ℕ) (i : ℕ) (h : Headed) → i < length ss → 2 ≤ getD ss i 0
     → h ≡ headedAll (phaseOf (d .place)) (drop i ss) i
     → highTaken d (drop i ss) i ≡ onward (d .registers) ss h
@@ -281,29 +238,3 @@ onward-lost r ss h e =
     ap (λ (p : Phase). highTaken (at r p) (drop (h .at) ss) (h .at)) e
     ∙ high-lost r (drop (h .at) ss) (h .at)
     ∙ ap (λ (p : Phase). stopped (at r p) (highsEnd (drop (h .at) ss) (h .at)) Nothing) (sym e)
-
--- ---- from any place on
-
-taken-cons : (d : Device) (ss : List ℕ) (i : ℕ) → i < length ss → taken d ss i ≡ takenFrom d (getD ss i 0 ∷ drop (i + 1) ss) i
-taken-cons d ss i l = ap (λ (rest : List ℕ). takenFrom d rest i) (drop-on ss i l)
-
-abbrev either : Device → ℕ → List ℕ → ℕ → Bool → Taken
-either d s rest i t = cond t (lowTaken d (s ∷ rest) i) (highTaken d (s ∷ rest) i)
-
-pub taken-low : (d : Device) (ss : List ℕ) (i : ℕ) → i < length ss → getD ss i 0 < 2
-    → taken d ss i ≡ hunting (d .registers) (heardAll (windowOf (phaseOf (d .place))) (drop i ss) i)
-taken-low d ss i l g =
-    let e = lt-ltb (getD ss i 0) 2 g in
-    taken-cons d ss i l
-    ∙ ap (either d (getD ss i 0) (drop (i + 1) ss) i) e
-    ∙ low-taken d (getD ss i 0) (drop (i + 1) ss) i e
-    ∙ ap (λ (rest : List ℕ). hunting (d .registers) (heardAll (windowOf (phaseOf (d .place))) rest i)) (sym (drop-on ss i l))
-
-pub taken-high : (d : Device) (ss : List ℕ) (i : ℕ) → i < length ss → 2 ≤ getD ss i 0 → taken d ss i ≡ highTaken d (drop i ss) i
-taken-high d ss i l g =
-    taken-cons d ss i l
-    ∙ ap (either d (getD ss i 0) (drop (i + 1) ss) i) (le-ltb (getD ss i 0) 2 g)
-    ∙ ap (λ (rest : List ℕ). highTaken d rest i) (sym (drop-on ss i l))
-
-pub taken-end : (d : Device) (ss : List ℕ) (i : ℕ) → length ss ≤ i → taken d ss i ≡ stopped d i Nothing
-taken-end d ss i h = ap (λ (rest : List ℕ). takenFrom d rest i) (drop-of-length-le ss h)

@@ -14,14 +14,14 @@ use Rattle.parts.specs.Parts.{partOf, multiplex, limit, fieldWidth, fieldLimit,
 use Rattle.parts.proofs.Laws.{each-row}
 use Rattle.parts.specs.declared.command.Command.{Command}
 use Rattle.parts.specs.declared.command.Command.the-variants.{Individual, Calibration, Global, Configuration}
-use Rattle.device.specs.Phases.{pushed}
-use Rattle.device.specs.Held.{withSlice, stored, fault, raised}
+use Rattle.phases.specs.Phases.{pushed}
+use Rattle.registers.specs.Held.{withSlice, stored, fault, raised}
 use Rattle.device.specs.Step.{at, moved, sending, sliceLength}
 use Rattle.tables.proofs.Booleans.{cond-both}
-use Rattle.device.proofs.Fields.{field-width-pos, field-width-le}
-use Rattle.device.specs.declared.phase.Phase.the-variants.{Slice, Passing}
-use Rattle.device.specs.declared.phase.Sent.the-variants.{Header}
-use Rattle.device.specs.declared.registers.Registers.{Registers}
+use Rattle.registers.proofs.Fields.{field-width-pos, field-width-le}
+use Rattle.phases.specs.declared.phase.Phase.the-variants.{Slice, Passing}
+use Rattle.phases.specs.declared.phase.Sent.the-variants.{Header}
+use Rattle.registers.specs.declared.registers.Registers.{Registers}
 use Rattle.intake.specs.Intake.{highTaken, filled, least, collecting, full}
 use Rattle.intake.specs.declared.states.Taken.{Taken}
 use Rattle.intake.specs.declared.slice.Filled.{Filled}

@@ -1,34 +1,26 @@
--- Inside: one device takes as many of the states at hand as it can at once: all low ones, or high ones until it sends, a low state or the
--- end. That this is the run of the step over those states is in proofs/Runs. Below it, what the loops do: they keep the phase, the window
--- or one field of the slice, and no record.
+-- Inside: one device takes as many of the high states at hand as it can at once: until it sends, a low state or the end. Below it, what the
+-- loops do: they keep the phase or one field of the slice, and no record.
 use Prim.Native.Nat.{ℕ, zero, suc, _+_, _%_}
 use mathlib.Core.Bool.{cond}
 use mathlib.Core.List.{List, [], _∷_}
 use lib.Dec.{ltb, leb}
-use lib.ListN.{drop}
 use Rattle.parts.specs.declared.command.Command.{Command}
-use Rattle.device.specs.Phases.{pushed, inHeader, headed}
-use Rattle.device.specs.Held.{withSlice, stored, fault, raised}
+use Rattle.phases.specs.Phases.{pushed, inHeader, headed}
+use Rattle.registers.specs.Held.{withSlice, stored, fault, raised}
 use Rattle.device.specs.Step.{step, at}
-use Rattle.device.specs.declared.phase.Phase.{Phase}
-use Rattle.device.specs.declared.phase.Phase.the-variants.{Slice, Passing}
-use Rattle.device.specs.declared.phase.Sent.{Sent}
-use Rattle.device.specs.declared.phase.Sent.the-variants.{Nothing, One, Header}
-use Rattle.device.specs.declared.registers.Registers.{Registers}
+use Rattle.phases.specs.declared.phase.Phase.{Phase}
+use Rattle.phases.specs.declared.phase.Phase.the-variants.{Slice, Passing}
+use Rattle.phases.specs.declared.phase.Sent.{Sent}
+use Rattle.phases.specs.declared.phase.Sent.the-variants.{Nothing, One, Header}
+use Rattle.registers.specs.declared.registers.Registers.{Registers}
 use Rattle.device.specs.declared.device.Device.{Device}
 use Rattle.intake.specs.declared.states.Taken.{Taken}
-use Rattle.intake.specs.declared.states.Heard.{Heard}
 use Rattle.intake.specs.declared.states.Headed.{Headed}
 use Rattle.intake.specs.declared.slice.Filled.{Filled}
 
 -- the device, the place of the next state, and what was sent
 abbrev pub stopped : Device → ℕ → Sent → Taken
 stopped d i s = record { device = d; at = i; sent = s }
-
--- low states as long as they last; i counts along
-unfoldable pub lowTaken : Device → List ℕ → ℕ → Taken
-lowTaken d [] i = stopped d i Nothing
-lowTaken d (s ∷ ss) i = cond (ltb s 2) (lowTaken (step d s .device) ss (i + 1)) (stopped d i Nothing)
 
 -- on where nothing was sent, else stop
 abbrev pub unlessSent : Sent → Taken → Taken → Taken
@@ -43,21 +35,7 @@ highTaken d (s ∷ ss) i =
     cond (ltb s 2) (stopped d i Nothing)
     (unlessSent (step d s .sent) (highTaken (step d s .device) ss (i + 1)) (stopped (step d s .device) (i + 1) (step d s .sent)))
 
--- from the front of a list of states
-abbrev pub takenFrom : Device → List ℕ → ℕ → Taken
-takenFrom d [] i = stopped d i Nothing
-takenFrom d (s ∷ ss) i = cond (ltb s 2) (lowTaken d (s ∷ ss) i) (highTaken d (s ∷ ss) i)
-
--- from the state at i on
-abbrev pub taken : Device → List ℕ → ℕ → Taken
-taken d ss i = takenFrom d (drop i ss) i
-
 -- ---- the loops inside
-
--- a window takes low states
-unfoldable pub heardAll : ℕ → List ℕ → ℕ → Heard
-heardAll w [] i = record { window = w; at = i }
-heardAll w (s ∷ ss) i = cond (ltb s 2) (heardAll (pushed w s 256) ss (i + 1)) (record { window = w; at = i })
 
 -- a phase takes the high states of a header
 unfoldable pub headedAll : Phase → List ℕ → ℕ → Headed

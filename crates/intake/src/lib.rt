@@ -1,8 +1,9 @@
-// One device takes as many of the states at hand as it can at once, so that a record is moved once a slice or flood and not once a clock.
+// One device takes as many high states at hand as it can at once, so that a record is moved once a slice or flood and not once a clock.
 // Where high states end is asked by a chain that passes them too.
 mod slice;
 mod states;
 
+pub use slice::smaller;
 pub use states::Taken;
 pub use states::highs_end;
 pub use states::take;

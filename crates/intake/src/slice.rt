@@ -2,17 +2,17 @@
 ghost use mathlib.Core.Path.{_≡_};
 ghost use Prim.Native.Nat.{_-_, _<_, _≤_};
 ghost use lib.ListN.{length, drop};
-ghost use Rattle.device.specs.Held.{withSlice};
+ghost use Rattle.registers.specs.Held.{withSlice};
 ghost use Rattle.device.specs.Step.{at, sliceLength};
-ghost use Rattle.device.specs.declared.phase.Phase.the-variants.{Slice};
-ghost use Rattle.device.specs.declared.phase.Sent.the-variants.{Nothing};
+ghost use Rattle.phases.specs.declared.phase.Phase.the-variants.{Slice};
+ghost use Rattle.phases.specs.declared.phase.Sent.the-variants.{Nothing};
 ghost use Rattle.intake.specs.Intake.{stopped, collecting, full, highTaken, filled, least};
 use crate::states::Taken;
 use device::Device;
-use device::Phase;
-use device::Registers;
-use device::Sent;
 use parts::Command;
+use phases::Phase;
+use phases::Sent;
+use registers::Registers;
 
 // A field's value, and the place of the next state.
 pub struct Filled {
@@ -37,9 +37,9 @@ pub fn collect(
     crate::states::one(
         registers,
         Phase::Slice {
-            command: command,
-            count: count,
-            taken: taken,
+            command,
+            count,
+            taken,
         },
         states,
         from,
@@ -83,7 +83,8 @@ fn gather(
     part_of(registers, slice, command, count, t as u16, i)
 }
 
-fn smaller(a: usize, b: usize) -> usize
+// The smaller of two numbers.
+pub fn smaller(a: usize, b: usize) -> usize
     ensures { λ r. ⌜ r ≡ least a b ⌝ }
 {
     if a <= b { a } else { b }
@@ -123,10 +124,10 @@ fn part_of(
     Taken {
         device: Device {
             registers: held,
-            place: device::place_of(Phase::Slice {
-                command: command,
-                count: count,
-                taken: taken,
+            place: phases::place_of(Phase::Slice {
+                command,
+                count,
+                taken,
             }),
         },
         at: from,
@@ -140,16 +141,16 @@ fn whole(registers: Registers, slice: [u16; 48], command: Command, count: u16, f
 {
     let mut held = registers;
     held.slice = slice;
-    let raised = device::raise(count, held.fault_of(command));
+    let raised = registers::raise(count, held.fault_of(command));
     let stored = held.store(command);
     Taken {
         device: Device {
             registers: stored,
-            place: device::place_of(Phase::Passing),
+            place: phases::place_of(Phase::Passing),
         },
         at: from,
         sent: Sent::Header {
-            command: command,
+            command,
             count: raised,
         },
     }

@@ -1,14 +1,14 @@
-// Low states, and high states in any phase.
+// High states, in any phase.
 ghost use mathlib.Core.Path.{_≡_};
 ghost use Prim.Native.Nat.{_<_, _≤_};
 ghost use lib.ListN.{length, getD, drop};
 ghost use Rattle.device.specs.Step.{at};
-ghost use Rattle.device.specs.declared.phase.Sent.the-variants.{Nothing};
-ghost use Rattle.intake.specs.Intake.{taken, stopped, highTaken, oneTaken, heardAll, headedAll, highsEnd};
+ghost use Rattle.phases.specs.declared.phase.Sent.the-variants.{Nothing};
+ghost use Rattle.intake.specs.Intake.{stopped, highTaken, oneTaken, headedAll, highsEnd};
 use device::Device;
-use device::Phase;
-use device::Registers;
-use device::Sent;
+use phases::Phase;
+use phases::Sent;
+use registers::Registers;
 
 // The device, the place of the next state, and what was sent.
 pub struct Taken {
@@ -17,44 +17,23 @@ pub struct Taken {
     pub sent: Sent,
 }
 
-// A window, and the place of the next state.
-pub struct Heard {
-    pub window: u8,
-    pub at: usize,
-}
-
 // A phase, and the place of the next state.
 pub struct Headed {
     pub phase: Phase,
     pub at: usize,
 }
 
-// From the state at a place on: all low states, or high states until the device sends, a low state or the end.
+// High states, from a place on, until the device sends, a low state or the end.
 pub fn take(device: Device, states: &[u8], from: usize) -> Taken
-    ensures { λ r. ⌜ r ≡ taken device (now (states .entry)) from ⌝ }
+    ensures { λ r. ⌜ r ≡ highTaken device (drop from (now (states .entry))) from ⌝ }
 {
-    if from < states.len() {
-        if states[from] < 2 {
-            let registers = device.registers;
-            let place = device.place;
-            let window = device::window_of(device::phase_of(place));
-            let heard = hear_all(window, states, from);
-            quiet(
-                registers,
-                Phase::Hunting {
-                    window: heard.window,
-                },
-                heard.at,
-            )
-        } else {
-            high(device, states, from)
-        }
-    } else {
-        Taken {
-            device: device,
-            at: from,
-            sent: Sent::Nothing,
-        }
+    if from < states.len() && states[from] >= 2 {
+        return high(device, states, from);
+    }
+    Taken {
+        device,
+        at: from,
+        sent: Sent::Nothing,
     }
 }
 
@@ -64,29 +43,12 @@ fn quiet(registers: Registers, phase: Phase, from: usize) -> Taken
 {
     Taken {
         device: Device {
-            registers: registers,
-            place: device::place_of(phase),
+            registers,
+            place: phases::place_of(phase),
         },
         at: from,
         sent: Sent::Nothing,
     }
-}
-
-// A window takes low states.
-fn hear_all(window: u8, states: &[u8], from: usize) -> Heard
-    ensures { λ r. ⌜ r ≡ heardAll window (drop from (now (states .entry))) from ⌝ }
-{
-    let mut w = window;
-    let mut i = from;
-    while i < states.len() {
-        let s = states[i];
-        if s >= 2 {
-            return Heard { window: w, at: i };
-        }
-        w = (((w as u16) * 2 + (s as u16)) % 256) as u8;
-        i += 1;
-    }
-    Heard { window: w, at: i }
 }
 
 // High states: those of a header, and then what the phase says.
@@ -96,16 +58,10 @@ fn high(device: Device, states: &[u8], from: usize) -> Taken
 {
     let registers = device.registers;
     let place = device.place;
-    let headed = head_all(device::phase_of(place), states, from);
+    let headed = head_all(phases::phase_of(place), states, from);
     let phase = headed.phase;
     let next = headed.at;
     match phase {
-        Phase::Hunting { window: _ } => quiet(registers, phase, next),
-        Phase::Opening { read: _ } => quiet(registers, phase, next),
-        Phase::Counting {
-            command: _,
-            read: _,
-        } => quiet(registers, phase, next),
         Phase::Slice {
             command,
             count,
@@ -113,6 +69,7 @@ fn high(device: Device, states: &[u8], from: usize) -> Taken
         } => crate::slice::collect(registers, command, count, taken, states, next),
         Phase::Passing => one(registers, phase, states, next),
         Phase::Lost => quiet(registers, phase, highs_end(states, next)),
+        _ => quiet(registers, phase, next),
     }
 }
 
@@ -124,13 +81,13 @@ fn head_all(phase: Phase, states: &[u8], from: usize) -> Headed
     let mut i = from;
     while i < states.len() {
         let s = states[i];
-        if !device::in_header(p) {
+        if !phases::in_header(p) {
             return Headed { phase: p, at: i };
         }
         if s < 2 {
             return Headed { phase: p, at: i };
         }
-        p = device::header_bit(p, s % 2);
+        p = phases::header_bit(p, s % 2);
         i += 1;
     }
     Headed { phase: p, at: i }
@@ -155,8 +112,8 @@ pub fn one(registers: Registers, phase: Phase, states: &[u8], from: usize) -> Ta
     ensures { λ r. ⌜ r ≡ oneTaken (at registers phase) (drop from (now (states .entry))) from ⌝ }
 {
     let device = Device {
-        registers: registers,
-        place: device::place_of(phase),
+        registers,
+        place: phases::place_of(phase),
     };
     if from < states.len() {
         let s = states[from];
@@ -167,12 +124,12 @@ pub fn one(registers: Registers, phase: Phase, states: &[u8], from: usize) -> Ta
             return Taken {
                 device: after,
                 at: from + 1,
-                sent: sent,
+                sent,
             };
         }
     }
     Taken {
-        device: device,
+        device,
         at: from,
         sent: Sent::Nothing,
     }

@@ -5,36 +5,28 @@ use mathlib.Core.Bool.{Bool}
 use mathlib.Core.List.{List, _∷_}
 use Prim.Native.Nat.{ℕ, _+_, _/_, _%_}
 use lib.Dec.{eqb, ltb}
-use lib.ListN.{length, length-set}
+use lib.ListN.{length-set}
 use Rattle.bits.specs.Bits.{digit}
 use Rattle.parts.specs.Parts.{partOf, multiplex, fieldWidth, fieldLimit}
 use Rattle.parts.specs.declared.command.Command.{Command}
 use Rattle.parts.specs.declared.command.Command.the-variants.{Individual, Calibration, Global, Configuration}
-use Rattle.device.specs.Phases.{phaseOf}
-use Rattle.device.specs.Held.{took, stored, copies}
+use Rattle.phases.specs.Phases.{phaseOf}
+use Rattle.registers.specs.Held.{took, stored, copies}
 use Rattle.device.specs.Step.{freshDevice, bounded, faulted, sliceLength, stepHigh}
-use Rattle.device.specs.declared.phase.Phase.{Phase}
-use Rattle.device.specs.declared.phase.Phase.the-variants.{Hunting, Opening, Counting, Slice, Passing, Lost}
-use Rattle.device.specs.declared.registers.Registers.{Registers}
+use Rattle.phases.specs.declared.phase.Phase.{Phase}
+use Rattle.phases.specs.declared.phase.Phase.the-variants.{Hunting, Opening, Counting, Slice, Passing, Lost}
+use Rattle.registers.specs.declared.registers.Registers.{Registers}
 use Rattle.device.specs.declared.device.Device.{Device}
 use Rattle.device.specs.declared.device.Stepped.{Stepped}
-use Rattle.device.proofs.Lists.{length-strided}
+use Rattle.registers.proofs.Lists.{length-strided}
 use Rattle.tables.proofs.Booleans.{cond-both}
 use Rattle.calls.specs.History.{Call, fresh, boundary, fault, refusalOf, afterCalls}
 use Rattle.model.specs.Lists.{All}
-use Rattle.link.specs.View.{stepRecord, Arrays}
+use Rattle.device.specs.Run.{stepRecord}
+use Rattle.link.specs.View.{Sizes, Arrays}
 use Rattle.link.proofs.Calls.{start-keeps}
 
 -- ---- lengths
-
--- the same of registers
-record Sizes (r : Registers) : Type 0 where
-  pub calibration : length (r .calibration) ≡ 3
-  pub waiting0 : length (r .waiting0) ≡ 24
-  pub waiting1 : length (r .waiting1) ≡ 24
-  pub active0 : length (r .active0) ≡ 24
-  pub active1 : length (r .active1) ≡ 24
-  pub slice : length (r .slice) ≡ 48
 
 stored-sizes : (r : Registers) (c : Command) → Sizes r → Sizes (stored r c)
 stored-sizes r Individual h =
@@ -87,31 +79,10 @@ high-sizes r (Slice c n t) s h =
 high-sizes r Passing s h = h
 high-sizes r Lost s h = h
 
--- a device's arrays by its registers
-arrays : (d : Device) → Sizes (d .registers) → Arrays d
-arrays d h = record {
-  calibration = h .calibration;
-  waiting0 = h .waiting0;
-  waiting1 = h .waiting1;
-  active0 = h .active0;
-  active1 = h .active1;
-  slice = h .slice;
-}
-
-sizes : (d : Device) → Arrays d → Sizes (d .registers)
-sizes d h = record {
-  calibration = h .calibration;
-  waiting0 = h .waiting0;
-  waiting1 = h .waiting1;
-  active0 = h .active0;
-  active1 = h .active1;
-  slice = h .slice;
-}
-
 step-arrays : (d : Device) (s : ℕ) → Arrays d → Arrays ((stepRecord d s) .0)
 unfolding stepRecord
 step-arrays d s h =
-    arrays _ (cond-both (λ (x : Stepped). Sizes (x .device .registers)) (ltb s 2) _ _ (λ _. sizes d h) (λ _. high-sizes (d .registers) (phaseOf (d .place)) s (sizes d h)))
+    cond-both (λ (x : Stepped). Sizes (x .device .registers)) (ltb s 2) _ _ (λ _. h) (λ _. high-sizes (d .registers) (phaseOf (d .place)) s h)
 
 bounded-arrays : (d : Device) → Arrays d → Arrays (bounded d)
 bounded-arrays d h = record {
@@ -125,9 +96,9 @@ bounded-arrays d h = record {
 
 faulted-arrays : (kind : ℕ) (flag : Bool) (d : Device) → Arrays d → Arrays (faulted d kind (digit flag))
 faulted-arrays kind flag d h =
-    arrays _ (cond-both Sizes (eqb kind 0) _ _
+    cond-both Sizes (eqb kind 0) _ _
     (λ _. record { calibration = h .calibration; waiting0 = h .waiting0; waiting1 = h .waiting1; active0 = h .active0; active1 = h .active1; slice = h .slice })
-    (λ _. record { calibration = h .calibration; waiting0 = h .waiting0; waiting1 = h .waiting1; active0 = h .active0; active1 = h .active1; slice = h .slice }))
+    (λ _. record { calibration = h .calibration; waiting0 = h .waiting0; waiting1 = h .waiting1; active0 = h .active0; active1 = h .active1; slice = h .slice })
 
 fresh-arrays : (q : ℕ) → Arrays (freshDevice q)
 fresh-arrays q = record {

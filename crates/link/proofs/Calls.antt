@@ -1,7 +1,7 @@
 -- Calls on records: a chain that was made fresh stays one that no call is refused for, whatever is called (`whole-calls`); a boundary of the
 -- records is a boundary of the model; the calls of a restore are one run of what they were given (`ran`). By induction on the
 -- calls. Assumes nothing.
-use mathlib.Core.Path.{_≡_, refl, sym, ap, _∙_, subst}
+use mathlib.Core.Path.{_≡_, refl, sym, ap, _∙_}
 use mathlib.Core.Bool.{Bool, true, false, cond, _&&_}
 use mathlib.Core.List.{List, [], _∷_, _++_, map}
 use Prim.Native.Nat.{ℕ, zero, suc, _-_, _≤_, _<_}
@@ -15,29 +15,29 @@ use Rattle.tables.specs.Lists.{allBelow, every}
 use Rattle.parts.specs.Parts.{known, isCount}
 use Rattle.tables.specs.Refusals.{first, content}
 use Rattle.tables.proofs.Rows.{clear}
-use Rattle.device.specs.Held.{showing, activated}
-use Rattle.device.specs.Phases.{phaseOf}
+use Rattle.registers.specs.Held.{showing, activated}
+use Rattle.phases.specs.Phases.{phaseOf}
 use Rattle.device.specs.Step.{freshDevice, bounded, faulted}
 use Rattle.device.specs.Judgement.{fits}
-use Rattle.device.specs.declared.phase.Phase.{Phase}
-use Rattle.device.specs.declared.phase.Phase.the-variants.{Hunting, Opening, Counting, Slice, Passing, Lost}
-use Rattle.device.specs.declared.registers.Registers.{Registers}
+use Rattle.phases.specs.declared.phase.Phase.{Phase}
+use Rattle.phases.specs.declared.phase.Phase.the-variants.{Hunting, Opening, Counting, Slice, Passing, Lost}
+use Rattle.registers.specs.declared.registers.Registers.{Registers}
 use Rattle.device.specs.declared.device.Device.{Device}
 use Rattle.tables.proofs.Booleans.{and-both, cond-both}
 use Rattle.device.proofs.Kept.{kept-bounded, kept-faulted, kept-fresh}
 use Rattle.calls.specs.Chain.{hasPart, allKnown, sameParts, allFit, blank}
 use Rattle.calls.specs.Calls.{freshTable, freshRefusal, freshDevices, runRefusal, runDevices, returned, boundaryRefusal, boundaryDevices, faultRefusal, faultDevices}
-use Rattle.calls.specs.History.{Call, fresh, run, boundary, fault, refusalOf, effect, after, afterCalls, given, answered, fed, answers, Keeps, RunOrKeeps, Runs, FaultOrLow, Settles}
+use Rattle.calls.specs.History.{Call, fresh, run, boundary, fault, refusalOf, effect, after, afterCalls, given, answered, fed, answers, RunOrKeeps, Runs, FaultOrLow, Settles}
 use Rattle.calls.specs.Told.{partBy, partTold, ownTable}
 use Rattle.model.specs.Lists.{All}
-use Rattle.model.specs.Run.{chain}
-use Rattle.model.specs.Run as machine
+use Rattle.machine.specs.Machine.{chain}
 use Rattle.model.specs.Device as model
 use Rattle.model.proofs.Lists.{All-replicate}
-use Rattle.model.proofs.Run.{chain-append, chain-nil, chain-holds}
-use Rattle.link.specs.View.{phaseIn, deviceOf, stepRecord}
+use Rattle.machine.proofs.Machine.{chain-append, chain-nil, chain-holds, length-chain}
+use Rattle.device.specs.Run.{stepRecord}
+use Rattle.link.specs.View.{phaseIn, deviceOf}
 use Rattle.link.proofs.View.{Sound}
-use Rattle.link.proofs.Device.{keep, step-part, through-same, chain-keep}
+use Rattle.link.proofs.Device.{keep, step-part, chain-keep}
 
 -- ---- what an accepted call leaves
 
@@ -57,7 +57,7 @@ pub record Whole (p : ℕ) (ds : List Device) : Type 0 where
   pub onePart : All (λ d. d .registers .part ≡ p) ds
   pub sound : All Sound ds
 
-every-all : (P : Device → Type 0) (f : Device → Bool) → ((d : Device) → P d → f d ≡ true) → (ds : List Device) → All P ds → every f ds ≡ true
+pub every-all : (P : Device → Type 0) (f : Device → Bool) → ((d : Device) → P d → f d ≡ true) → (ds : List Device) → All P ds → every f ds ≡ true
 every-all P f k [] h = refl
 every-all P f k (d ∷ ds) h = rw (k d (h .0), every-all P f k ds (h .1))
 
@@ -140,21 +140,13 @@ set-All P f k [] i z h = tt
 set-All P f k (d ∷ ds) zero z h = (k d (h .0), h .1)
 set-All P f k (d ∷ ds) (suc i) z h = (h .0, set-All P f k ds i z (h .1))
 
-pub length-chain : (ds : List Device) (ss : List ℕ) → length ((chain stepRecord ds ss) .0) ≡ length ds
-unfolding chain
-length-chain [] ss = refl
-length-chain (d ∷ ds) ss = ap suc (length-chain ds ((machine.run stepRecord d ss) .1))
-
-pub run-devices : (ds : List Device) (ss : List ℕ) → runDevices ds ss ≡ (chain stepRecord ds ss) .0
-run-devices ds ss = ap (λ (x : List Device × List ℕ). x .0) (through-same ds ss)
-
 -- ---- what fresh devices have and nothing that is called takes away
 
 module _ (P : Device → Type 0) (new : (q : ℕ) → P (freshDevice q)) (stepped : (d : Device) (s : ℕ) → P d → P ((stepRecord d s) .0))
     (activated : (d : Device) → P d → P (bounded d)) (flagged : (kind : ℕ) (flag : Bool) (d : Device) → P d → P (faulted d kind (digit flag))) where
   pub effect-keeps : (ds : List Device) (c : Call) → All P ds → All P (effect ds c)
   effect-keeps ds (fresh q) h = All-replicate P (length ds) (freshDevice q) (new q)
-  effect-keeps ds (run ss out) h = rw (run-devices ds ss) (chain-holds stepRecord P stepped ds ss h)
+  effect-keeps ds (run ss out) h = chain-holds stepRecord P stepped ds ss h
   effect-keeps ds boundary h = map-All P bounded activated ds h
   effect-keeps ds (fault device kind flag) h = set-All P (λ d. faulted d kind (digit flag)) (flagged kind flag) ds (device - 1) blank h
 
@@ -172,7 +164,7 @@ module _ (P : Device → Type 0) (new : (q : ℕ) → P (freshDevice q)) (steppe
 
 -- ---- so no call is refused for the records, whatever is called
 
-pub whole-fresh : (q : ℕ) (ds : List Device) → refusalOf ds (fresh q) ≡ 0 → Whole q (freshDevices q ds)
+whole-fresh : (q : ℕ) (ds : List Device) → refusalOf ds (fresh q) ≡ 0 → Whole q (freshDevices q ds)
 unfolding refusalOf freshRefusal
 whole-fresh q ds a =
     let t = clear (freshTable q (length ds)) refl a in
@@ -196,9 +188,8 @@ whole-from p ds es w l a o = record { someDevice = rw l (w .someDevice); fewDevi
 whole-effect : (p : ℕ) (ds : List Device) (c : Call) → Whole p ds → refusalOf ds c ≡ 0 → Whole (partBy ds p c) (effect ds c)
 whole-effect p ds (fresh q) w a = rw (eq-eqb (refusalOf ds (fresh q)) 0 a) (whole-fresh q ds a)
 whole-effect p ds (run ss out) w a =
-    subst (λ (es : List Device). Whole p es) (sym (run-devices ds ss))
-    (whole-from p ds ((chain stepRecord ds ss) .0) w (length-chain ds ss)
-    (chain-holds stepRecord (λ d. d .registers .part ≡ p) (λ d s h. step-part d s ∙ h) ds ss (w .onePart)) (chain-keep ds ss (w .sound)))
+    whole-from p ds ((chain stepRecord ds ss) .0) w (length-chain stepRecord ds ss)
+    (chain-holds stepRecord (λ d. d .registers .part ≡ p) (λ d s h. step-part d s ∙ h) ds ss (w .onePart)) (chain-keep ds ss (w .sound))
 whole-effect p ds boundary w a =
     whole-from p ds (boundaryDevices ds) w (length-map ds bounded) (map-All (λ d. d .registers .part ≡ p) bounded (λ d h. h) ds (w .onePart))
     (sound-effect ds boundary (w .sound))
@@ -232,7 +223,7 @@ whole-start p ds e = rw (after-effect ds (fresh p), eq-eqb (refusalOf ds (fresh 
 -- no call changes the number of records
 length-effect : (ds : List Device) (c : Call) → length (effect ds c) ≡ length ds
 length-effect ds (fresh q) = length-replicate (length ds) (freshDevice q)
-length-effect ds (run ss out) = ap (λ (es : List Device). length es) (run-devices ds ss) ∙ length-chain ds ss
+length-effect ds (run ss out) = length-chain stepRecord ds ss
 length-effect ds boundary = length-map ds bounded
 length-effect ds (fault device kind flag) = length-set ds (device - 1) _
 
@@ -246,9 +237,6 @@ length-afterCalls ds (c ∷ cs) = length-afterCalls (after ds c) cs ∙ length-a
 
 -- ---- runs, and calls that leave the records as they are
 
-pub refused-after : (ds : List Device) (c : Call) → (refusalOf ds c ≡ 0 → ⊥) → Keeps ds c
-refused-after ds c h = rw (after-effect ds c, ne-eqb (refusalOf ds c) 0 h)
-
 -- a run, accepted or refused, is a run of what it was given
 pub ran-one : (ds : List Device) (ss out : List ℕ)
     → _≡_ {A = List Device × List ℕ} (after ds (run ss out), answered ds (run ss out)) (chain stepRecord ds (given ds (run ss out)))
@@ -258,7 +246,7 @@ ran-one ds ss out = go (eqb (runRefusal ds ss (length out)) 0) refl
     go : (b : Bool) → eqb (runRefusal ds ss (length out)) 0 ≡ b
         → _≡_ {A = List Device × List ℕ} (cond b (runDevices ds ss) ds, cond b (take (length (returned ds ss)) (cond b (over (returned ds ss) out) out)) [])
         (chain stepRecord ds (cond b ss []))
-    go true e = rw (take-over (returned ds ss) out, through-same ds ss)
+    go true e = rw (take-over (returned ds ss) out)
     go false e = rw (chain-nil stepRecord ds)
 
 run-one : (ds : List Device) (c : Call) → RunOrKeeps ds c → _≡_ {A = List Device × List ℕ} (after ds c, answered ds c) (chain stepRecord ds (given ds c))

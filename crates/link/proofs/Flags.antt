@@ -11,7 +11,7 @@ use lib.Seq.{getD-set-same, getD-set-other}
 use borrow.Author.Tests.{eqb-true, eqb-false, eq-eqb, leb-true, ltb-true, not-false}
 use Rattle.bits.specs.Bits.{digit}
 use Rattle.tables.proofs.Rows.{clear}
-use Rattle.device.specs.Held.{flagged}
+use Rattle.registers.specs.Held.{flagged}
 use Rattle.device.specs.Step.{freshDevice, faulted}
 use Rattle.device.specs.declared.device.Device.{Device}
 use Rattle.tables.proofs.Booleans.{and-both, cond-both}
@@ -19,11 +19,11 @@ use Rattle.calls.specs.Chain.{allFit, blank}
 use Rattle.calls.specs.Calls.{freshDevices, runDevices, boundaryDevices, faultTable, faultRefusal, faultDevices}
 use Rattle.calls.specs.History.{Call, fresh, run, boundary, fault, refusalOf, after, afterCalls}
 use Rattle.calls.specs.Told.{flagIn, flagBy, flagTold}
-use Rattle.model.specs.Run.{chain}
-use Rattle.model.proofs.Run.{chain-keeps}
-use Rattle.link.specs.View.{stepRecord}
+use Rattle.machine.specs.Machine.{chain}
+use Rattle.machine.proofs.Machine.{chain-keeps}
+use Rattle.device.specs.Run.{stepRecord}
 use Rattle.link.proofs.Device.{step-keeps}
-use Rattle.link.proofs.Calls.{after-effect, length-after, run-devices}
+use Rattle.link.proofs.Calls.{after-effect, length-after}
 
 module _ (kind : ℕ) where
   -- the flag in a record
@@ -38,7 +38,7 @@ module _ (kind : ℕ) where
   at-same ds es i e = sym (List·getD-map flagOf es i blank) ∙ ap (λ (l : List ℕ). getD l i (flagOf blank)) e ∙ List·getD-map flagOf ds i blank
 
   run-flags : (ds : List Device) (ss : List ℕ) → map flagOf (runDevices ds ss) ≡ map flagOf ds
-  run-flags ds ss = ap (map flagOf) (run-devices ds ss) ∙ chain-keeps stepRecord flagOf step-flag ds ss
+  run-flags ds ss = chain-keeps stepRecord flagOf step-flag ds ss
 
   boundary-flags : (ds : List Device) → map flagOf (boundaryDevices ds) ≡ map flagOf ds
   boundary-flags [] = refl

@@ -12,7 +12,7 @@ use borrow.Author.Tests.{ltb-true, eqb-true, not-false}
 use Rattle.bits.specs.Bits.{fields, bytesOf, padded}
 use Rattle.bits.proofs.Laws.{bits-of-bytes}
 use Rattle.tables.specs.Lists.{allBelow}
-use Rattle.parts.specs.Parts.{partOf, limit, subframes, fieldWidth}
+use Rattle.parts.specs.Parts.{partOf, limit, subframes, fieldWidth, restoreOrder}
 use Rattle.parts.specs.Wire.{stateOf, statesOf, lows, frame, clocked}
 use Rattle.parts.specs.declared.command.Command.{Command}
 use Rattle.parts.specs.declared.command.Command.the-variants.{Individual, Calibration, Global, Configuration}
@@ -24,15 +24,14 @@ use Rattle.frames.proofs.Lengths.{subframes-small}
 use Rattle.frames.proofs.Accepted.{length-given}
 use Rattle.frames.proofs.Accepted as accepted
 use Rattle.frames.proofs.Pieces.{length-frameBits}
-use Rattle.device.proofs.Kept.{below-head}
+use Rattle.registers.proofs.Below.{below-head}
 use Rattle.model.specs.Lists.{All}
 use Rattle.model.specs.Device.{frameStates}
 use Rattle.model.specs.Set.{Set, Proper, owned, sliceOf, frameFields}
-use Rattle.model.specs.Restore.{restoreOrder, Piece, pieceStates, pieceOf, piecesOf}
-use Rattle.model.specs.Restore as model
+use Rattle.model.specs.Restore.{Piece, pieceStates, pieceOf, piecesOf, piecesStates}
 use Rattle.model.proofs.Lists.{take-map}
 use Rattle.model.proofs.Set.{fields-slices}
-use Rattle.link.specs.Restore.{told, byteOf, written, Writable, frameSize, framePart, restorePart, restoreStates}
+use Rattle.link.specs.Restore.{tailsOf, told, byteOf, written, Writable, frameSize, framePart, restorePart, restoreStates}
 
 all-below : (m : ℕ) (xs : List ℕ) → allBelow xs m ≡ true → All (λ v. v < m) xs
 all-below m [] h = tt
@@ -67,7 +66,8 @@ module _ (s : Set) (tail : Command → Tail) (w : Writable s tail) where
   fields-given Configuration = refl
 
   -- the states of the bytes are those of the frame's bits
-  written-states : (c : Command) → line.frameStates (written s c (tail c)) (frameSize s c (tail c)) ≡ statesOf (frame c 0 (fields (fieldWidth (partOf (s .part)) c) (frameFields s c)) (tailBits (tail c)))
+  written-states : (c : Command) → line.frameStates (written s c (tail c)) (frameSize s c (tail c))
+      ≡ statesOf (frame c 0 (fields (fieldWidth (partOf (s .part)) c) (frameFields s c)) (tailsOf tail c))
   unfolding line.frameStates frameOf frameBits
   written-states c =
       let vs : List ℕ = settings (told s c) (byteOf s c) (s .calibration) (s .individual) in
@@ -76,18 +76,15 @@ module _ (s : Set) (tail : Command → Tail) (w : Writable s tail) where
       ∙ ap (λ (l : List ℕ). statesOf (frame c 0 (fields (fieldWidth (partOf (s .part)) c) l) (tailBits (tail c)))) (fields-given c)
 
   module _ (gap : Command → List Bool) where
-    abbrev pub tails : Command → List Bool
-    tails c = tailBits (tail c)
-
     abbrev piece : Command → Piece
-    piece c = pieceOf (partOf (s .part)) (owned s) gap tails c
+    piece c = pieceOf (partOf (s .part)) (owned s) gap (tailsOf tail) c
 
     part-states : (c : Command) → framePart s gap tail c ≡ map stateOf (pieceStates (piece c))
     unfolding framePart pieceStates frameStates
     part-states c =
         ap (λ (l : List ℕ). map stateOf (lows (gap c)) ++ l) (written-states c)
-        ∙ ap (λ (bs : List Bool). map stateOf (lows (gap c)) ++ map stateOf (clocked (frame c 0 bs (tails c)))) (fields-slices s writable-proper c)
-        ∙ sym (map-append stateOf (lows (gap c)) (frameStates c 0 (map (sliceOf (partOf (s .part)) c) (owned s)) (tails c)))
+        ∙ ap (λ (bs : List Bool). map stateOf (lows (gap c)) ++ map stateOf (clocked (frame c 0 bs (tailsOf tail c)))) (fields-slices s writable-proper c)
+        ∙ sym (map-append stateOf (lows (gap c)) (frameStates c 0 (map (sliceOf (partOf (s .part)) c) (owned s)) (tailsOf tail c)))
 
     parts-states : (cs : List Command) → flatten (map (framePart s gap tail) cs) ≡ map stateOf (flatten (map pieceStates (map piece cs)))
     unfolding flatten
@@ -96,11 +93,11 @@ module _ (s : Set) (tail : Command → Tail) (w : Writable s tail) where
         ap₂ (λ (a b : List ℕ). a ++ b) (part-states c) (parts-states cs)
         ∙ sym (map-append stateOf (pieceStates (piece c)) (flatten (map pieceStates (map piece cs))))
 
-    pub restore-states : restoreStates s gap tail ≡ map stateOf (model.restoreStates (partOf (s .part)) (owned s) gap tails)
+    pub restore-states : restoreStates s gap tail ≡ map stateOf (piecesStates (partOf (s .part)) (owned s) gap (tailsOf tail))
     unfolding piecesOf
     restore-states = parts-states restoreOrder
 
-    pub restore-part : (j : ℕ) → restorePart s gap tail j ≡ map stateOf (flatten (map pieceStates (take j (piecesOf (partOf (s .part)) (owned s) gap tails))))
+    pub restore-part : (j : ℕ) → restorePart s gap tail j ≡ map stateOf (flatten (map pieceStates (take j (piecesOf (partOf (s .part)) (owned s) gap (tailsOf tail)))))
     unfolding piecesOf
     restore-part j =
         ap (λ (l : List (List ℕ)). flatten l) (take-map (framePart s gap tail) j restoreOrder)

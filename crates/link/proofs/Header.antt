@@ -16,13 +16,12 @@ use Rattle.parts.specs.Parts.{partOf, fieldWidth}
 use Rattle.parts.specs.Wire.{high, header}
 use Rattle.parts.specs.declared.command.Command.{Command}
 use Rattle.parts.specs.declared.command.Command.the-variants.{Individual, Calibration, Global, Configuration}
-use Rattle.device.specs.Phases.{rising, opened, opening, counting}
+use Rattle.phases.specs.Phases.{rising, opened, opening, counting}
 use Rattle.device.specs.Step.{at, sliceLength, step}
-use Rattle.device.specs.Run as records
-use Rattle.device.specs.declared.phase.Phase.{Phase}
-use Rattle.device.specs.declared.phase.Phase.the-variants.{Hunting, Opening, Counting, Slice, Lost}
-use Rattle.device.specs.declared.registers.Registers.{Registers}
-use Rattle.device.proofs.Fields.{field-width-pos}
+use Rattle.phases.specs.declared.phase.Phase.{Phase}
+use Rattle.phases.specs.declared.phase.Phase.the-variants.{Hunting, Opening, Counting, Slice, Lost}
+use Rattle.registers.specs.declared.registers.Registers.{Registers}
+use Rattle.registers.proofs.Fields.{field-width-pos}
 use Rattle.model.specs.Device.{lost, taking, command, count, slice, named, stepDevice}
 use Rattle.model.specs.Device as model
 use Rattle.link.specs.View.{rest}

@@ -1,33 +1,33 @@
 -- What is not a clock, seen in the model: a fresh device, a frame boundary, a fault setting; then every accepted call on a chain. By cases on
 -- the call: a run is `chain-agree`, the others change registers that no phase looks at. Assumes nothing.
 use mathlib.Core.Path.{_≡_, refl, ap, _∙_}
-use mathlib.Core.Bool.{Bool, true, false, cond, _&&_}
+use mathlib.Core.Bool.{Bool, true, false, cond}
 use mathlib.Core.List.{List, [], _∷_, map}
 use Prim.Native.Nat.{ℕ, zero, suc, _-_}
 use lib.Dec.{eqb}
 use lib.ListN.{length, length-map, getD, set, replicate, List·getD-map}
-use borrow.Author.Tests.{eq-eqb, not-false}
+use borrow.Author.Tests.{eq-eqb}
 use Rattle.bits.specs.Bits.{isOne, digit}
 use Rattle.parts.specs.Parts.{partOf}
-use Rattle.tables.specs.Lists.{allBelow}
 use Rattle.parts.specs.Wire.{Line, lineOf}
 use Rattle.parts.proofs.Laws.{banks-three}
-use Rattle.tables.proofs.Rows.{clear}
-use Rattle.device.specs.Held.{flagged, showing}
-use Rattle.device.specs.Phases.{phaseOf}
+use Rattle.registers.specs.Held.{flagged, showing}
+use Rattle.phases.specs.Phases.{phaseOf}
 use Rattle.device.specs.Step.{freshDevice, faulted}
 use Rattle.device.specs.Judgement.{fits}
-use Rattle.device.specs.declared.phase.Phase.{Phase}
-use Rattle.device.specs.declared.registers.Registers.{Registers}
+use Rattle.phases.specs.declared.phase.Phase.{Phase}
+use Rattle.registers.specs.declared.registers.Registers.{Registers}
 use Rattle.device.specs.declared.device.Device.{Device}
 use Rattle.tables.proofs.Booleans.{and-both, cond-both}
 use Rattle.calls.specs.Chain.{allFit, blank}
-use Rattle.calls.specs.Calls.{runTable, runRefusal}
+use Rattle.calls.specs.Calls.{runRefusal}
+use Rattle.calls.proofs.Accepted.{accepted-run}
 use Rattle.calls.specs.History.{Call, fresh, run, boundary, fault, refusalOf, effect, after, given, answered}
 use Rattle.model.specs.Lists.{All}
-use Rattle.model.specs.Run.{chain}
+use Rattle.machine.specs.Machine.{chain}
 use Rattle.model.specs.Device as model
-use Rattle.link.specs.View.{registersOf, phaseIn, deviceOf, stepRecord, Arrays}
+use Rattle.device.specs.Run.{stepRecord}
+use Rattle.link.specs.View.{registersOf, phaseIn, deviceOf, Arrays}
 use Rattle.link.specs.Called.{called}
 use Rattle.link.proofs.View.{Sound}
 use Rattle.link.proofs.Device.{chain-agree}
@@ -39,7 +39,7 @@ one-digit false = refl
 
 -- ---- a fresh device
 
-pub fresh-same : (part : ℕ) → deviceOf (freshDevice part) ≡ model.freshDevice (partOf part)
+fresh-same : (part : ℕ) → deviceOf (freshDevice part) ≡ model.freshDevice (partOf part)
 unfolding deviceOf
 fresh-same part = rw (banks-three part)
 
@@ -72,7 +72,7 @@ flagged-phase r kind flag p =
     (λ _. showing-phase r flag (r .openled) (r .active) (r .active0) (r .active1) p)
     (λ _. showing-phase r (r .overtemperature) flag (r .active) (r .active0) (r .active1) p)
 
-pub fault-same : (d : Device) (kind : ℕ) (flag : Bool) → deviceOf (faulted d kind (digit flag)) ≡ model.faulted kind flag (deviceOf d)
+fault-same : (d : Device) (kind : ℕ) (flag : Bool) → deviceOf (faulted d kind (digit flag)) ≡ model.faulted kind flag (deviceOf d)
 unfolding deviceOf
 fault-same d kind flag = rw (flagged-registers (d .registers) kind flag, flagged-phase (d .registers) kind (digit flag) (phaseOf (d .place)))
 
@@ -84,15 +84,9 @@ set-map f (y ∷ ys) (suc i) x = rw (set-map f ys i x)
 -- ---- every accepted call
 
 -- records that fit and whose arrays have their lengths
-pub all-sound : (ds : List Device) → allFit ds ≡ true → All Arrays ds → All Sound ds
+all-sound : (ds : List Device) → allFit ds ≡ true → All Arrays ds → All Sound ds
 all-sound [] e h = tt
 all-sound (d ∷ ds) e h = let f = and-both (fits d) (allFit ds) e in (record { fit = f .0; slots = h .0 .slice }, all-sound ds (f .1) (h .1))
-
-run-fit : (ds : List Device) (ss : List ℕ) (room : ℕ) → runRefusal ds ss room ≡ 0 → allFit ds ≡ true
-unfolding runRefusal
-run-fit ds ss room e =
-    let t = clear (runTable ds ss room) refl e in
-    and-both (allBelow ss 4) (allFit ds) (not-false (allBelow ss 4 && allFit ds) (t .1 .1 .1 .1 .0)) .1
 
 accepted-given : (ds : List Device) (ss out : List ℕ) → refusalOf ds (run ss out) ≡ 0 → given ds (run ss out) ≡ ss
 unfolding refusalOf
@@ -100,7 +94,7 @@ accepted-given ds ss out e = rw (eq-eqb (runRefusal ds ss (length out)) 0 e)
 
 accepted-fit : (ds : List Device) (ss out : List ℕ) → refusalOf ds (run ss out) ≡ 0 → allFit ds ≡ true
 unfolding refusalOf
-accepted-fit ds ss out e = run-fit ds ss (length out) e
+accepted-fit ds ss out e = accepted-run ds ss (length out) (eq-eqb (runRefusal ds ss (length out)) 0 e) .fit
 
 accepted-after : (ds : List Device) (c : Call) → refusalOf ds c ≡ 0 → after ds c ≡ effect ds c
 accepted-after ds c e = after-effect ds c ∙ rw (eq-eqb (refusalOf ds c) 0 e)

@@ -14,7 +14,7 @@ use lib.Seq.{take-at, drop-at}
 use borrow.Author.Tests.{ltb-true, ltb-false, lt-ltb, le-ltb}
 use Rattle.bits.specs.Bits.{isOne, digit, bits, number, split}
 use Rattle.bits.proofs.Laws.{length-bits, bits-add, bits-mod, number-bits, number-append}
-use Rattle.device.specs.Phases.{pushed}
+use Rattle.phases.specs.Phases.{pushed}
 use Rattle.link.specs.View.{rest, gotten}
 
 -- ---- a bit at the low end

@@ -17,20 +17,20 @@ use Rattle.line.specs.States.{dataBits}
 use Rattle.device.specs.Step.{faulted}
 use Rattle.device.specs.declared.device.Device.{Device}
 use Rattle.tables.proofs.Booleans.{cond-both}
-use Rattle.device.proofs.Kept.{below-head}
+use Rattle.registers.proofs.Below.{below-head}
 use Rattle.calls.specs.Chain.{blank}
 use Rattle.calls.specs.Calls.{runRefusal, faultRefusal, boundaryDevices}
 use Rattle.calls.specs.History.{Call, fresh, run, boundary, fault, refusalOf, after, afterCalls, given, FaultOrLow, Settles}
 use Rattle.model.specs.Lists.{All, Both}
-use Rattle.model.specs.Run.{chain}
+use Rattle.machine.specs.Machine.{chain}
 use Rattle.model.specs.Device.{registersIn}
 use Rattle.model.specs.Device as model
 use Rattle.model.specs.Set.{Own, OwnProper}
-use Rattle.model.specs.Restore.{Piece}
-use Rattle.model.specs.Restore as restore
+use Rattle.model.specs.Restore.{Piece, RegistersHold}
 use Rattle.model.proofs.Frame.{quiet}
 use Rattle.model.proofs.Restore.{sendPiece, sendPieces, Ready}
-use Rattle.link.specs.View.{registersOf, deviceOf, stepRecord, registersAll, Holds}
+use Rattle.device.specs.Run.{stepRecord}
+use Rattle.link.specs.View.{registersOf, deviceOf, registersAll, Holds}
 use Rattle.link.proofs.View.{Sound}
 use Rattle.link.proofs.Device.{chain-agree}
 use Rattle.link.proofs.Calls.{Whole, own-refusal, whole-settled, ran-one}
@@ -70,9 +70,12 @@ low-registers ds ss o h =
 
 -- ---- what waits
 
--- a boundary would make each device's registers in use its own
+-- a boundary would make a device's registers in use its own, and each device's
+abbrev WaitsOne : Own → Device → Type 0
+WaitsOne o d = RegistersHold o (model.activated (registersOf (d .registers)))
+
 abbrev pub Waits : List Own → List Device → Type 0
-Waits os ds = Both restore.Holds os (map model.activated (registersAll ds))
+Waits os ds = Both RegistersHold os (map model.activated (registersAll ds))
 
 pub boundary-holds : (os : List Own) (ds : List Device) → Waits os ds → Both Holds os (boundaryDevices ds)
 unfolding model.activated
@@ -86,14 +89,13 @@ unfolding afterCalls after refusalOf
 boundary-after p ds w = rw (own-refusal p ds boundary w)
 
 -- a fault setting leaves it
-faulted-waits : (kind : ℕ) (flag : Bool) (o : Own) (d : Device) → restore.Holds o (model.activated (registersOf (d .registers)))
-    → restore.Holds o (model.activated (registersOf (faulted d kind (digit flag) .registers)))
+faulted-waits : (kind : ℕ) (flag : Bool) (o : Own) (d : Device) → WaitsOne o d → WaitsOne o (faulted d kind (digit flag))
 unfolding model.activated
 faulted-waits kind flag o d h =
-    subst (λ (r : model.Registers). restore.Holds o (model.activated r)) (sym (flagged-registers (d .registers) kind flag))
+    subst (λ (r : model.Registers). RegistersHold o (model.activated r)) (sym (flagged-registers (d .registers) kind flag))
     (record { configuration = h .configuration; calibration = h .calibration; global = h .global; individual = h .individual })
 
-set-waits : (f : Device → Device) → ((o : Own) (d : Device) → restore.Holds o (model.activated (registersOf (d .registers))) → restore.Holds o (model.activated (registersOf (f d .registers))))
+set-waits : (f : Device → Device) → ((o : Own) (d : Device) → WaitsOne o d → WaitsOne o (f d))
     → (os : List Own) (ds : List Device) (i : ℕ) (z : Device) → Waits os ds → Waits os (set ds i (f (getD ds i z)))
 set-waits f k os [] i z h = h
 set-waits f k [] (d ∷ ds) i z h = absurd h

@@ -1,6 +1,6 @@
 -- The link while a slice comes in: the record holds its bits in 48 fields, the model as a list. One more bit is one more in both; on the
 -- last one both store the same registers and send the same header. Assumes nothing.
-use mathlib.Core.Path.{_≡_, refl, sym, ap, _∙_}
+use mathlib.Core.Path.{_≡_, refl, sym, _∙_}
 use mathlib.Core.Bool.{Bool, true, false, cond, _&&_}
 use mathlib.Core.List.{List, [], _∷_, _++_, map}
 use Prim.Native.Nat.{ℕ, zero, suc, _+_, _-_, _*_, _/_, _%_, _≤_, _<_}
@@ -16,14 +16,14 @@ use Rattle.parts.specs.Wire.{low, high, lineOf, header, clocked}
 use Rattle.parts.proofs.Laws.{banks-three}
 use Rattle.parts.specs.declared.command.Command.{Command}
 use Rattle.parts.specs.declared.command.Command.the-variants.{Individual, Calibration, Global, Configuration}
-use Rattle.device.specs.Held.{holding, took, strided, stored, fault, raised, byteAt}
+use Rattle.registers.specs.Held.{holding, took, strided, stored, fault, raised, byteAt}
 use Rattle.device.specs.Step.{sentStates, at, moved, sending, sliceLength, collected}
-use Rattle.device.specs.Run as records
-use Rattle.device.specs.declared.phase.Phase.the-variants.{Slice, Passing}
-use Rattle.device.specs.declared.phase.Sent.the-variants.{Nothing, One, Header}
-use Rattle.device.specs.declared.registers.Registers.{Registers}
-use Rattle.device.proofs.Fields.{field-width-pos}
-use Rattle.device.proofs.Kept.{Below, below-head, took-below}
+use Rattle.phases.specs.declared.phase.Phase.the-variants.{Slice, Passing}
+use Rattle.phases.specs.declared.phase.Sent.the-variants.{Nothing, One, Header}
+use Rattle.registers.specs.declared.registers.Registers.{Registers}
+use Rattle.registers.proofs.Fields.{field-width-pos}
+use Rattle.registers.proofs.Halves.{strided-take}
+use Rattle.registers.proofs.Below.{Below, below-head, took-below}
 use Rattle.model.specs.Device.{slice, stepDevice, load, counted, evens, odds, headerStates}
 use Rattle.model.specs.Device as model
 use Rattle.model.proofs.Set.{double}
@@ -45,12 +45,6 @@ kept-low m (suc k) [] h = refl
 kept-low m (suc k) (x ∷ xs) h =
     let t = below-head x xs m h in
     rw (mod-eq-of-lt (t .0), kept-low m k xs (t .1))
-
-take-strided : (n : ℕ) (s : List ℕ) → n ≤ length s → strided s 0 1 n ≡ take n s
-unfolding strided
-take-strided zero s h = refl
-take-strided (suc n) [] h = absurd (omega arith)
-take-strided (suc n) (x ∷ xs) h = ap (λ (l : List ℕ). x ∷ l) (strided-tail x xs 0 1 n ∙ take-strided n xs (omega arith))
 
 strided-two : (x y : ℕ) (s : List ℕ) (n : ℕ) → strided (x ∷ y ∷ s) 2 2 n ≡ strided s 0 2 n
 strided-two x y s n = strided-tail x (y ∷ s) 1 2 n ∙ strided-tail y s 0 2 n
@@ -95,7 +89,7 @@ module _ (r : Registers) (h : length (r .slice) ≡ 48) (b : Below r) where
       go : (m : ℕ) → m < 2 → r .configuration % 2 ≡ m
           → registersOf (stored r Individual)
           ≡ load Individual (gotten (partOf (r .part) .width) (r .slice) (8 * partOf (r .part) .banks * (1 + r .configuration % 2) * partOf (r .part) .width)) (registersOf r)
-      go zero l e = rw (e, values 0 l, take-strided 24 (r .slice) (omega arith))
+      go zero l e = rw (e, values 0 l, strided-take (r .slice) 0 24 (omega arith))
       go (suc zero) l e = rw (e, values 1 l, evens-strided 24 (r .slice) (omega arith), odds-strided 24 (r .slice) (omega arith))
       go (suc (suc m)) l e = absurd (omega arith)
   load-same Calibration = rw bytes

@@ -7,13 +7,12 @@ use lib.ListN.{length}
 use Rattle.parts.specs.Wire.{Line, high, lineOf}
 use Rattle.device.specs.Step.{sentStates, at, sending, step}
 use Rattle.device.specs.Judgement.{fits}
-use Rattle.device.specs.Run as records
-use Rattle.device.specs.declared.phase.Phase.{Phase}
-use Rattle.device.specs.declared.phase.Sent.{Sent}
-use Rattle.device.specs.declared.registers.Registers.{Registers}
+use Rattle.phases.specs.declared.phase.Phase.{Phase}
+use Rattle.phases.specs.declared.phase.Sent.{Sent}
+use Rattle.registers.specs.declared.registers.Registers.{Registers}
 use Rattle.device.specs.declared.device.Device.{Device}
 use Rattle.device.specs.declared.device.Stepped.{Stepped}
-use Rattle.device.proofs.Places.{Small, phase-place}
+use Rattle.phases.proofs.Places.{Small, phase-place}
 use Rattle.model.specs.Device.{taking, slice, finish, stepDevice}
 use Rattle.model.specs.Device as model
 use Rattle.link.specs.View.{viewed, deviceOf}
@@ -23,7 +22,7 @@ pub record Sound (d : Device) : Type 0 where
   pub fit : fits d ≡ true
   pub slots : length (d .registers .slice) ≡ 48
 
-abbrev pub Outcome : Type 0
+abbrev Outcome : Type 0
 Outcome = model.Device × List Line
 
 -- a step of a record, seen

@@ -6,7 +6,7 @@ use mathlib.Core.Bool.{Bool, true}
 use mathlib.Core.List.{List, [], _∷_, _++_, map, flatten}
 use lib.ListN.{take, getD}
 use Rattle.tables.specs.Lists.{allBelow}
-use Rattle.parts.specs.Parts.{partOf}
+use Rattle.parts.specs.Parts.{partOf, restoreOrder}
 use Rattle.parts.specs.Wire.{stateOf, lows}
 use Rattle.parts.specs.declared.command.Command.{Command}
 use Rattle.parts.specs.declared.command.Command.the-variants.{Individual, Calibration, Global, Configuration}
@@ -15,10 +15,8 @@ use Rattle.frames.specs.Frames.{slicesBits, tailBits, frameOf, frameLength}
 use Rattle.frames.specs.Writing.{settings, writeRefusal}
 use Rattle.frames.specs.declared.told.Told.{Told}
 use Rattle.frames.specs.declared.told.Tail.{Tail}
-use Rattle.model.specs.Device.{Registers}
 use Rattle.model.specs.Set.{Set, owned}
-use Rattle.model.specs.Restore.{restoreOrder}
-use Rattle.model.specs.Restore as model
+use Rattle.model.specs.Restore.{statesUntil}
 
 -- ---- the frames
 
@@ -74,12 +72,12 @@ module _ (s : Set) (gap : Command → List Bool) (tail : Command → Tail) where
 abbrev pub gapAfter : (Command → List Bool) → List Bool → ℕ → List Bool
 gapAfter gap last j = getD (map gap restoreOrder ++ last ∷ []) j []
 
--- ---- what comes back, and when a slice has arrived
+-- ---- tails, and when a slice has arrived
 
--- the four returns of a chain with these registers, as its last device sends them
-abbrev pub returnsOf : (Command → Tail) → List Registers → List (List Bool)
-returnsOf tail rs = model.returnsOf (λ c. tailBits (tail c)) rs
+-- the bits of each frame's tail
+abbrev pub tailsOf : (Command → Tail) → Command → List Bool
+tailsOf tail c = tailBits (tail c)
 
 -- how many states give a frame's header and the slices of the devices 1 to `device`
 abbrev pub arrival : Set → (Command → List Bool) → (Command → Tail) → Command → ℕ → ℕ
-arrival s gap tail c device = model.arrival (partOf (s .part)) (owned s) gap (λ c. tailBits (tail c)) c device
+arrival s gap tail c device = statesUntil (partOf (s .part)) (owned s) gap (tailsOf tail) c device

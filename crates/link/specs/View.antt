@@ -8,17 +8,17 @@ use lib.Dec.{eqb, ltb}
 use lib.ListN.{length, getD}
 use Rattle.bits.specs.Bits.{isOne, bits}
 use Rattle.parts.specs.Parts.{partOf, fieldWidth}
-use Rattle.device.specs.Phases.{phaseOf}
-use Rattle.device.specs.Step.{sentStates, sliceLength, step}
-use Rattle.device.specs.declared.phase.Phase.{Phase}
-use Rattle.device.specs.declared.phase.Phase.the-variants.{Hunting, Opening, Counting, Slice, Passing, Lost}
-use Rattle.device.specs.declared.registers.Registers.{Registers}
+use Rattle.phases.specs.Phases.{phaseOf}
+use Rattle.device.specs.Step.{sliceLength}
+use Rattle.phases.specs.declared.phase.Phase.{Phase}
+use Rattle.phases.specs.declared.phase.Phase.the-variants.{Hunting, Opening, Counting, Slice, Passing, Lost}
+use Rattle.registers.specs.declared.registers.Registers.{Registers}
 use Rattle.device.specs.declared.device.Device.{Device}
 use Rattle.calls.specs.Chain.{blank}
 use Rattle.model.specs.Device.{hunting, lost, taking, passing, command, count, slice}
 use Rattle.model.specs.Device as model
 use Rattle.model.specs.Set.{Own}
-use Rattle.model.specs.Restore as restore
+use Rattle.model.specs.Restore.{RegistersHold}
 
 -- ---- bits as a record keeps them
 
@@ -63,18 +63,18 @@ viewed r p = model.at (registersOf r) (phaseIn r p)
 unfoldable pub deviceOf : Device → model.Device
 deviceOf d = viewed (d .registers) (phaseOf (d .place))
 
--- the step of a record, with the states that it sends on
-unfoldable pub stepRecord : Device → ℕ → Device × List ℕ
-stepRecord d s = (step d s .device, sentStates (step d s .sent))
+-- arrays with the lengths that their types say
+pub record Sizes (r : Registers) : Type 0 where
+  pub calibration : length (r .calibration) ≡ 3
+  pub waiting0 : length (r .waiting0) ≡ 24
+  pub waiting1 : length (r .waiting1) ≡ 24
+  pub active0 : length (r .active0) ≡ 24
+  pub active1 : length (r .active1) ≡ 24
+  pub slice : length (r .slice) ≡ 48
 
--- its arrays have the lengths that their types say, as those of every record that is lent do
-pub record Arrays (d : Device) : Type 0 where
-  pub calibration : length (d .registers .calibration) ≡ 3
-  pub waiting0 : length (d .registers .waiting0) ≡ 24
-  pub waiting1 : length (d .registers .waiting1) ≡ 24
-  pub active0 : length (d .registers .active0) ≡ 24
-  pub active1 : length (d .registers .active1) ≡ 24
-  pub slice : length (d .registers .slice) ≡ 48
+-- the record's arrays have them, as those of every record that is lent do
+abbrev pub Arrays : Device → Type 0
+Arrays d = Sizes (d .registers)
 
 -- ---- a lent chain
 
@@ -88,4 +88,4 @@ registersAll ds = map (λ d. registersOf (d .registers)) ds
 
 -- the registers in use hold the values of the device's own slices
 abbrev pub Holds : Own → Device → Type 0
-Holds o d = restore.Holds o (registersOf (d .registers))
+Holds o d = RegistersHold o (registersOf (d .registers))

@@ -13,11 +13,11 @@ use lib.Seq.{take-append-add, take-take, take-nil}
 use borrow.Author.Tests.{le-leb, lt-leb}
 use Rattle.parts.specs.Wire.{Line, low, high, lows, highs, frame}
 use Rattle.parts.specs.declared.command.Command.{Command}
-use Rattle.model.specs.Run.{run}
+use Rattle.machine.specs.Machine.{run}
 use Rattle.model.specs.Device.{Registers, Device, Phase, hunting, lost, taking, passing, Field, command, count, slice, at, sliceLength, load, fault, counted, headerStates, frameStates, stepDevice, runDevice, runChain, registersIn}
 use Rattle.model.specs.Restore.{Piece, pieceStates}
 use Rattle.model.proofs.Lists.{take-append, take-map, append-nil-left, append-nil-right, leb-same}
-use Rattle.model.proofs.Run.{run-append, chain-cons, chain-empty, chain-nil, chain-append, chain-silent}
+use Rattle.machine.proofs.Machine.{run-append, chain-cons, chain-empty, chain-nil, chain-append, chain-silent}
 use Rattle.model.proofs.Wire.{frame-states, length-headerStates}
 use Rattle.model.proofs.Frame.{loadAll, Fits, headed, framed, quiet}
 
@@ -63,7 +63,9 @@ take-first c n s ss tail k = take-frame c n (s ∷ ss) tail (length s + k) ∙ r
 
 part-framed : (d : Device) (c : Command) (n : ℕ) (bs : List Bool) → n < 1024 → length bs ≤ pred (sliceLength (d .registers) c) → (runDevice d (frameStates c n [] bs)) .1 ≡ []
 unfolding flatten
-part-framed d c n bs h b = rw (frame-states c n [] bs, run-append stepDevice d (headerStates c n) (highs bs), headed d c n h) (part-taken (d .registers) (slice c n) (pred (sliceLength (d .registers) c)) [] bs b)
+part-framed d c n bs h b =
+    rw (frame-states c n [] bs, run-append stepDevice d (headerStates c n) (highs bs), headed d c n h)
+    (part-taken (d .registers) (slice c n) (pred (sliceLength (d .registers) c)) [] bs b)
 
 module _ (d : Device) (c : Command) (n : ℕ) (s : List Bool) (ss : List (List Bool)) (tail : List Bool) (h : n < 1024) (p : 0 < length s) (e : length s ≡ sliceLength (d .registers) c) where
   cut-early : (m : ℕ) → m < 24 + length s → (runDevice d (take m (frameStates c n (s ∷ ss) tail))) .1 ≡ []
@@ -75,7 +77,8 @@ module _ (d : Device) (c : Command) (n : ℕ) (s : List Bool) (ss : List (List B
       let b : length bs ≤ k = rw length-take (omega arith) in
       rw (← t, take-frame c n (s ∷ ss) tail k) (silent d (frameStates c n [] bs) m (part-framed d c n bs h b))
 
-  cut-late : (k : ℕ) → runDevice d (take (24 + (length s + k)) (frameStates c n (s ∷ ss) tail)) ≡ (at (load c s (d .registers)) passing, take (24 + k) (frameStates c (counted n (fault c (d .registers))) ss tail))
+  cut-late : (k : ℕ) → runDevice d (take (24 + (length s + k)) (frameStates c n (s ∷ ss) tail))
+      ≡ (at (load c s (d .registers)) passing, take (24 + k) (frameStates c (counted n (fault c (d .registers))) ss tail))
   cut-late k = rw (take-first, take-frame) (framed d c n s [] (take k (flatten ss ++ tail)) h p e)
 
 -- each device its slice, as far as m states of the frame reach
@@ -84,7 +87,7 @@ cutAll c m [] rs = rs
 cutAll c m (s ∷ ss) [] = []
 cutAll c m (s ∷ ss) (r ∷ rs) = cond (leb (24 + length s) m) (load c s r ∷ cutAll c (m - length s) ss rs) (r ∷ rs)
 
-pub cut-frame : (c : Command) (m : ℕ) (ds : List Device) (n : ℕ) (ss : List (List Bool)) (tail : List Bool) → n < 1024 → Fits c ss (registersIn ds)
+cut-frame : (c : Command) (m : ℕ) (ds : List Device) (n : ℕ) (ss : List (List Bool)) (tail : List Bool) → n < 1024 → Fits c ss (registersIn ds)
     → registersIn ((runChain ds (take m (frameStates c n ss tail))) .0) ≡ cutAll c m ss (registersIn ds)
 unfolding cutAll
 cut-frame c m [] n [] tail h f = rw (chain-empty stepDevice (take m (frameStates c n [] tail)))
@@ -94,7 +97,8 @@ cut-frame c m (d ∷ ds) n (s ∷ ss) tail h f = go (leb (24 + length s) m) refl
   where
     go : (b : Bool) → leb (24 + length s) m ≡ b
         → registersIn ((runChain ds (take (m - length s) (frameStates c (counted n (fault c (d .registers))) ss tail))) .0) ≡ cutAll c (m - length s) ss (registersIn ds)
-        → registersIn ((runChain (d ∷ ds) (take m (frameStates c n (s ∷ ss) tail))) .0) ≡ cond b (load c s (d .registers) ∷ cutAll c (m - length s) ss (registersIn ds)) (d .registers ∷ registersIn ds)
+        → registersIn ((runChain (d ∷ ds) (take m (frameStates c n (s ∷ ss) tail))) .0)
+        ≡ cond b (load c s (d .registers) ∷ cutAll c (m - length s) ss (registersIn ds)) (d .registers ∷ registersIn ds)
     go true e i =
         let l : 24 + length s ≤ m = leb→le (24 + length s) m (rw e tt) in
         let k : ℕ = m - (24 + length s) in
@@ -107,7 +111,7 @@ cut-frame c m (d ∷ ds) n (s ∷ ss) tail h f = go (leb (24 + length s) m) refl
         let q = cut-early d c n s ss tail h (f .0 .0) (f .0 .1) m l in
         rw (chain-silent stepDevice d ds (take m (frameStates c n (s ∷ ss) tail)) q, still d (take m (frameStates c n (s ∷ ss) tail)) q)
 
-pub cut-full : (c : Command) (m : ℕ) (ss : List (List Bool)) (rs : List Registers) → 24 + length (flatten ss) ≤ m → cutAll c m ss rs ≡ loadAll c ss rs
+cut-full : (c : Command) (m : ℕ) (ss : List (List Bool)) (rs : List Registers) → 24 + length (flatten ss) ≤ m → cutAll c m ss rs ≡ loadAll c ss rs
 unfolding cutAll loadAll flatten
 cut-full c m [] rs h = refl
 cut-full c m (s ∷ ss) [] h = refl
@@ -115,7 +119,7 @@ cut-full c m (s ∷ ss) (r ∷ rs) h =
     let g = rw length-append at h in
     rw (le-leb (24 + length s) m (omega arith), cut-full c (m - length s) ss rs (omega arith))
 
-pub cut-none : (c : Command) (ss : List (List Bool)) (rs : List Registers) → cutAll c 0 ss rs ≡ rs
+cut-none : (c : Command) (ss : List (List Bool)) (rs : List Registers) → cutAll c 0 ss rs ≡ rs
 unfolding cutAll
 cut-none c [] rs = refl
 cut-none c (s ∷ ss) [] = refl
@@ -146,7 +150,8 @@ cut-at c m (s ∷ ss) (r ∷ rs) (suc i) z h e = go (leb (24 + length s) m) refl
   where
     go : (b : Bool) → leb (24 + length s) m ≡ b
         → getD (cutAll c (m - length s) ss rs) i z ≡ cond (leb (24 + length (flatten (take (suc i) ss))) (m - length s)) (load c (getD ss i []) (getD rs i z)) (getD rs i z)
-        → getD (cond b (load c s r ∷ cutAll c (m - length s) ss rs) (r ∷ rs)) (suc i) z ≡ cond (leb (24 + length (s ++ flatten (take (suc i) ss))) m) (load c (getD ss i []) (getD rs i z)) (getD rs i z)
+        → getD (cond b (load c s r ∷ cutAll c (m - length s) ss rs) (r ∷ rs)) (suc i) z
+        ≡ cond (leb (24 + length (s ++ flatten (take (suc i) ss))) m) (load c (getD ss i []) (getD rs i z)) (getD rs i z)
     go true t ih =
         let l : 24 + length s ≤ m = leb→le (24 + length s) m (rw t tt) in
         ih ∙ rw (length-append, leb-same (24 + length (flatten (take (suc i) ss))) (m - length s) (24 + (length s + length (flatten (take (suc i) ss)))) m (omega arith) (omega arith))
@@ -180,7 +185,8 @@ pub length-states : (p : Piece) → length (pieceStates p) ≡ length (p .gap) +
 unfolding pieceStates
 length-states p = rw (length-append, length-map, frame-states, length-append, length-headerStates, length-map, length-append)
 
-pub cut-pieces : (ps : List Piece) (k : ℕ) (ds : List Device) → FitsAll ps (registersIn ds) → registersIn ((runChain ds (take k (flatten (map pieceStates ps)))) .0) ≡ cutPieces k ps (registersIn ds)
+pub cut-pieces : (ps : List Piece) (k : ℕ) (ds : List Device) → FitsAll ps (registersIn ds)
+    → registersIn ((runChain ds (take k (flatten (map pieceStates ps)))) .0) ≡ cutPieces k ps (registersIn ds)
 unfolding cutPieces flatten
 cut-pieces [] k ds f = rw (take-nil, chain-nil stepDevice ds)
 cut-pieces (p ∷ ps) k ds f =

@@ -1,4 +1,4 @@
--- A restore of a set, cut after any number of states: in each device each group is wholly new or wholly old, by its slice's arrival. The
+-- A restore of a set, cut after any number of states: in each device each group is wholly new or wholly old, by its slice's statesUntil. The
 -- four frames are cut one after the other; individual slices fit because configuration has wholly arrived before them. Assumes nothing.
 use mathlib.Core.Path.{_≡_, refl, sym, _∙_}
 use mathlib.Core.Bool.{Bool, true, false, cond}
@@ -14,9 +14,9 @@ use Rattle.parts.specs.declared.command.Command.the-variants.{Individual, Calib
 use Rattle.model.specs.Lists.{Both}
 use Rattle.model.specs.Device.{Values, Registers, Device, multiplexed, evens, odds, withIndividual, load, stepDevice, runChain, registersIn}
 use Rattle.model.specs.Set.{Own, OwnProper, sliceOf}
-use Rattle.model.specs.Restore.{pieceStates, piecesOf, pieceOf, restoreStates, before, arrival, CutFields}
+use Rattle.model.specs.Restore.{pieceStates, piecesOf, pieceOf, piecesStates, statesUntil, CutFields}
 use Rattle.model.proofs.Lists.{true-of, leb-same, both-at, both-length, getD-map, length-flatten-take, take-append, take-map}
-use Rattle.model.proofs.Run.{chain-append}
+use Rattle.machine.proofs.Machine.{chain-append}
 use Rattle.model.proofs.Frame.{quiet}
 use Rattle.model.proofs.Set.{load-configuration, load-calibration, load-global, load-individual}
 use Rattle.model.proofs.Restore.{Ready, Configured, Calibrated, GlobalWaiting, both-fits, fit-configuration, fit-calibration, fit-global, fit-individual, stage1, stage2, stage3, global-own}
@@ -62,11 +62,15 @@ module _ (w : Part) (o : Own) (p : OwnProper w o) (r : Registers) (e : r .part �
   cut1 false = record { part = refl; configuration = refl; calibration = refl; global = refl; mux0 = refl; mux1 = refl; active = refl }
 
   cut2 : (b1 b2 : Bool) (q : Registers) → CutBy b1 false false false o r q → CutBy b1 b2 false false o r (cutOne Calibration b2 (sliceOf w Calibration o) q)
-  cut2 b1 true q h = rw (load-calibration w o p q (h .part ∙ e)) (record { part = h .part; configuration = h .configuration; calibration = refl; global = h .global; mux0 = h .mux0; mux1 = h .mux1; active = h .active })
+  cut2 b1 true q h =
+      rw (load-calibration w o p q (h .part ∙ e))
+      (record { part = h .part; configuration = h .configuration; calibration = refl; global = h .global; mux0 = h .mux0; mux1 = h .mux1; active = h .active })
   cut2 b1 false q h = h
 
   cut3 : (b1 b2 b3 : Bool) (q : Registers) → CutBy b1 b2 false false o r q → CutBy b1 b2 b3 false o r (cutOne Global b3 (sliceOf w Global o) q)
-  cut3 b1 b2 true q h = rw (load-global w o p q (h .part ∙ e)) (record { part = h .part; configuration = h .configuration; calibration = h .calibration; global = refl; mux0 = h .mux0; mux1 = h .mux1; active = h .active })
+  cut3 b1 b2 true q h =
+      rw (load-global w o p q (h .part ∙ e))
+      (record { part = h .part; configuration = h .configuration; calibration = h .calibration; global = refl; mux0 = h .mux0; mux1 = h .mux1; active = h .active })
   cut3 b1 b2 false q h = h
 
   cut4 : (b1 b2 b3 b4 : Bool) (q : Registers) → (T b4 → T b1) → CutBy b1 b2 b3 false o r q → CutBy b1 b2 b3 b4 o r (cutOne Individual b4 (sliceOf w Individual o) q)
@@ -84,8 +88,10 @@ module _ (w : Part) (o : Own) (p : OwnProper w o) (r : Registers) (e : r .part �
       })
   cut4 b1 b2 b3 false q i h = h
 
-  cut-fields : (b1 b2 b3 b4 : Bool) → (T b4 → T b1)
-      → CutBy b1 b2 b3 b4 o r (cutOne Individual b4 (sliceOf w Individual o) (cutOne Global b3 (sliceOf w Global o) (cutOne Calibration b2 (sliceOf w Calibration o) (cutOne Configuration b1 (sliceOf w Configuration o) r))))
+  abbrev cut : Command → Bool → Registers → Registers
+  cut c b q = cutOne c b (sliceOf w c o) q
+
+  cut-fields : (b1 b2 b3 b4 : Bool) → (T b4 → T b1) → CutBy b1 b2 b3 b4 o r (cut Individual b4 (cut Global b3 (cut Calibration b2 (cut Configuration b1 r))))
   cut-fields b1 b2 b3 b4 i = cut4 b1 b2 b3 b4 _ i (cut3 b1 b2 b3 _ (cut2 b1 b2 _ (cut1 b1)))
 
 module _ (w : Part) (os : List Own) (gap tail : Command → List Bool) where
@@ -104,24 +110,24 @@ module _ (w : Part) (os : List Own) (gap tail : Command → List Bool) where
 
   -- one frame of it, in one device
   cut-step : (c : Command) (m k i : ℕ) (rs : List Registers) (o : Own) (z : Registers) → i < length os → length rs ≡ length os
-      → (24 + length (flatten (take (suc i) (map (sliceOf w c) os))) ≤ m → arrival w os gap tail c (suc i) ≤ k)
-      → (arrival w os gap tail c (suc i) ≤ k → 24 + length (flatten (take (suc i) (map (sliceOf w c) os))) ≤ m)
-      → getD (cutAll c m (map (sliceOf w c) os) rs) i z ≡ cutOne c (leb (arrival w os gap tail c (suc i)) k) (sliceOf w c (getD os i o)) (getD rs i z)
+      → (24 + length (flatten (take (suc i) (map (sliceOf w c) os))) ≤ m → statesUntil w os gap tail c (suc i) ≤ k)
+      → (statesUntil w os gap tail c (suc i) ≤ k → 24 + length (flatten (take (suc i) (map (sliceOf w c) os))) ≤ m)
+      → getD (cutAll c m (map (sliceOf w c) os) rs) i z ≡ cutOne c (leb (statesUntil w os gap tail c (suc i)) k) (sliceOf w c (getD os i o)) (getD rs i z)
   cut-step c m k i rs o z h l f g =
       let ss : List (List Bool) = map (sliceOf w c) os in
       let n : length ss ≡ length os = length-map os (sliceOf w c) in
-      cut-at c m ss rs i z (omega arith) (l ∙ sym n) ∙ rw (leb-same (24 + length (flatten (take (suc i) ss))) m (arrival w os gap tail c (suc i)) k f g, getD-map (sliceOf w c) os i o [] h)
+      cut-at c m ss rs i z (omega arith) (l ∙ sym n) ∙ rw (leb-same (24 + length (flatten (take (suc i) ss))) m (statesUntil w os gap tail c (suc i)) k f g, getD-map (sliceOf w c) os i o [] h)
 
   -- Configuration arrives first
-  order : (k i : ℕ) → T (leb (arrival w os gap tail Individual (suc i)) k) → T (leb (arrival w os gap tail Configuration (suc i)) k)
+  order : (k i : ℕ) → T (leb (statesUntil w os gap tail Individual (suc i)) k) → T (leb (statesUntil w os gap tail Configuration (suc i)) k)
   order k i t =
-      let l = leb→le (arrival w os gap tail Individual (suc i)) k t in
-      le→leb (arrival w os gap tail Configuration (suc i)) k (omega (arith, length-states (pieceOf w os gap tail Configuration), length-flatten-take (suc i) (map (sliceOf w Configuration) os)))
+      let l = leb→le (statesUntil w os gap tail Individual (suc i)) k t in
+      le→leb (statesUntil w os gap tail Configuration (suc i)) k (omega (arith, length-states (pieceOf w os gap tail Configuration), length-flatten-take (suc i) (map (sliceOf w Configuration) os)))
 
   -- Cut: after k states of the restore, in device i (from 0)
-  pub cut-restore : (ds : List Device) → Both (Ready w) os (registersIn ds) → (k i : ℕ) (o : Own) (z : Registers) → i < length os
-      → CutFields (λ c. leb (arrival w os gap tail c (suc i)) k) (getD os i o) (getD (registersIn ds) i z)
-      (getD (registersIn ((runChain ds (take k (restoreStates w os gap tail))) .0)) i z)
+  cut-restore : (ds : List Device) → Both (Ready w) os (registersIn ds) → (k i : ℕ) (o : Own) (z : Registers) → i < length os
+      → CutFields (λ c. leb (statesUntil w os gap tail c (suc i)) k) (getD os i o) (getD (registersIn ds) i z)
+      (getD (registersIn ((runChain ds (take k (piecesStates w os gap tail))) .0)) i z)
   unfolding piecesOf cutPieces
   cut-restore ds b k i o z h =
       let rs : List Registers = registersIn ds in
@@ -141,18 +147,19 @@ module _ (w : Part) (os : List Own) (gap tail : Command → List Bool) where
       let f2 = cut-step Calibration (j1 - length (gap Calibration)) k i c1 o z h n1 (omega arith) (omega arith) in
       let f3 = cut-step Global (j2 - length (gap Global)) k i c2 o z h n2 (omega arith) (omega arith) in
       let f4 = cut-step Individual (j3 - length (gap Individual)) k i c3 o z h n3 (omega arith) (omega arith) in
-      let g = cut-fields w (getD os i o) (r .0) (getD rs i z) (r .1) (leb (arrival w os gap tail Configuration (suc i)) k) (leb (arrival w os gap tail Calibration (suc i)) k) (leb (arrival w os gap tail Global (suc i)) k) (leb (arrival w os gap tail Individual (suc i)) k) (order k i) in
-      by-tests (λ c. leb (arrival w os gap tail c (suc i)) k) (getD os i o) (getD rs i z) _ (rw (e, f4, f3, f2, f1) g)
+      let arrived : Command → Bool = λ c. leb (statesUntil w os gap tail c (suc i)) k in
+      let g = cut-fields w (getD os i o) (r .0) (getD rs i z) (r .1) (arrived Configuration) (arrived Calibration) (arrived Global) (arrived Individual) (order k i) in
+      by-tests arrived (getD os i o) (getD rs i z) _ (rw (e, f4, f3, f2, f1) g)
 
   -- with low clocks after the last frame, which change no register
   pub cut-sent : (ds : List Device) → Both (Ready w) os (registersIn ds) → (last : List Bool) (k i : ℕ) (o : Own) (z : Registers) → i < length os
-      → CutFields (λ c. leb (arrival w os gap tail c (suc i)) k) (getD os i o) (getD (registersIn ds) i z)
-      (getD (registersIn ((runChain ds (take k (restoreStates w os gap tail ++ lows last))) .0)) i z)
+      → CutFields (λ c. leb (statesUntil w os gap tail c (suc i)) k) (getD os i o) (getD (registersIn ds) i z)
+      (getD (registersIn ((runChain ds (take k (piecesStates w os gap tail ++ lows last))) .0)) i z)
   cut-sent ds b last k i o z h =
       rw (
-        take-append k (restoreStates w os gap tail) (lows last),
-        take-map low (k - length (restoreStates w os gap tail)) last,
-        chain-append stepDevice ds (take k (restoreStates w os gap tail)) (lows (take (k - length (restoreStates w os gap tail)) last)),
-        quiet (take (k - length (restoreStates w os gap tail)) last) ((runChain ds (take k (restoreStates w os gap tail))) .0),
+        take-append k (piecesStates w os gap tail) (lows last),
+        take-map low (k - length (piecesStates w os gap tail)) last,
+        chain-append stepDevice ds (take k (piecesStates w os gap tail)) (lows (take (k - length (piecesStates w os gap tail)) last)),
+        quiet (take (k - length (piecesStates w os gap tail)) last) ((runChain ds (take k (piecesStates w os gap tail))) .0),
       )
       (cut-restore ds b k i o z h)

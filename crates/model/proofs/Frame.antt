@@ -9,15 +9,14 @@ use native.Mathlib.Omega.{arith}
 use lib.ListN.{length}
 use Rattle.bits.specs.Bits.{digit, bits, number}
 use Rattle.bits.proofs.Laws.{length-bits, number-bits}
-use Rattle.parts.specs.Parts.{Part}
 use Rattle.parts.specs.Wire.{Line, low, high, lows, highs, sync}
 use Rattle.parts.specs.declared.command.Command.{Command}
 use Rattle.parts.specs.declared.command.Command.the-variants.{Individual, Calibration, Global, Configuration}
 use Rattle.model.specs.Lists.{Both, howMany}
-use Rattle.model.specs.Run.{run, chain}
-use Rattle.model.specs.Device.{Registers, Device, Phase, hunting, lost, taking, passing, Field, command, count, slice, at, sliceLength, load, fault, faults, counted, finish, headerStates, frameStates, stepDevice, runDevice, runChain, registersIn, window}
+use Rattle.machine.specs.Machine.{run, chain}
+use Rattle.model.specs.Device.{Registers, Device, Phase, hunting, taking, passing, Field, command, count, slice, at, sliceLength, load, fault, faults, counted, finish, headerStates, frameStates, stepDevice, runDevice, runChain, registersIn, window}
 use Rattle.model.proofs.Lists.{howMany-cons}
-use Rattle.model.proofs.Run.{run-then, chain-cons, chain-nil}
+use Rattle.machine.proofs.Machine.{run-then, chain-cons, chain-nil}
 use Rattle.model.proofs.Wire.{pairs, header-states, frame-states}
 
 -- SYNC is recognised whatever came before
@@ -60,12 +59,8 @@ headed d c n h =
     let m : n % 2 ^ 10 ≡ n = mod-eq-of-lt h in
     let e = taken (d .registers) (count c) 9 [] (bits 10 n) (length-bits 10 n) in
     rw (header-states c n)
-    (run-then stepDevice d (lows sync) (highs (pairs c ++ bits 10 n)) (sync-any (d .registers) (d .phase)) (highs-then _ (pairs c) (bits 10 n) (commanded (d .registers) c) (rw (number-bits 10 n, m) at e)))
-
--- what a device sends at the end of its slice goes no further than the next device
-pub header-stops : (d : Device) (ds : List Device) (c : Command) (n : ℕ) → n < 1024
-    → runChain (d ∷ ds) (headerStates c n) ≡ (at (d .registers) (taking (slice c n) (pred (sliceLength (d .registers) c)) []) ∷ ds, [])
-header-stops d ds c n h = chain-cons stepDevice d ds (headerStates c n) (headed d c n h) (chain-nil stepDevice ds)
+    (run-then stepDevice d (lows sync) (highs (pairs c ++ bits 10 n)) (sync-any (d .registers) (d .phase))
+    (highs-then _ (pairs c) (bits 10 n) (commanded (d .registers) c) (rw (number-bits 10 n, m) at e)))
 
 -- A device takes the first slice of a frame and sends on the frame of the others
 pub framed : (d : Device) (c : Command) (n : ℕ) (s : List Bool) (ss : List (List Bool)) (tail : List Bool) → n < 1024 → 0 < length s → length s ≡ sliceLength (d .registers) c
@@ -114,28 +109,3 @@ quiet g (d ∷ ds) = let (p, e) = quiet-one g d in rw (e, chain-nil stepDevice d
 pub quiet-sends : (g : List Bool) (ds : List Device) → 0 < length ds → (runChain ds (lows g)) .1 ≡ []
 quiet-sends g [] h = absurd (omega arith)
 quiet-sends g (d ∷ ds) h = let (p, e) = quiet-one g d in rw (chain-cons stepDevice d ds (lows g) e (chain-nil stepDevice ds))
-
--- no step changes a device's part
-abbrev pub partOf : Device → Part
-partOf d = d .registers .part
-
-pub load-part : (c : Command) (s : List Bool) (r : Registers) → (load c s r) .part ≡ r .part
-unfolding load
-load-part Individual s r = refl
-load-part Calibration s r = refl
-load-part Global s r = refl
-load-part Configuration s r = refl
-
-from-part : (r : Registers) (p : Phase) (l : Line) → partOf ((stepDevice (at r p) l) .0) ≡ r .part
-unfolding stepDevice
-from-part r p (low b) = refl
-from-part r (hunting w) (high b) = refl
-from-part r lost (high b) = refl
-from-part r (taking command zero got) (high b) = refl
-from-part r (taking (count c) zero got) (high b) = refl
-from-part r (taking (slice c n) zero got) (high b) = load-part c (got ++ b ∷ []) r
-from-part r (taking f (suc n) got) (high b) = refl
-from-part r passing (high b) = refl
-
-pub step-part : (d : Device) (l : Line) → partOf ((stepDevice d l) .0) ≡ partOf d
-step-part d l = from-part (d .registers) (d .phase) l

@@ -1,31 +1,39 @@
 -- A restore: the four frames of a set through a chain in any phases, then a frame boundary. Each frame goes by `framed-all`; the relation
 -- between what is a device's own and its registers grows by one register with each frame. Assumes nothing.
-use mathlib.Core.Path.{_≡_, refl, sym, ap, _∙_}
+use mathlib.Core.Path.{_≡_, refl, ap, _∙_}
 use mathlib.Core.Bool.{Bool, true, false}
 use mathlib.Core.List.{List, [], _∷_, _++_, map, flatten, map-append}
 use Prim.Native.Nat.{ℕ, suc, _+_, _*_, _%_, _<_}
 use native.Mathlib.Omega.{arith}
 use native.Mathlib.Nat.{mul-pos}
-use lib.ListN.{length, length-map, length-replicate}
+use lib.ListN.{length, length-replicate}
 use Rattle.bits.proofs.Laws.{length-fields}
 use Rattle.parts.specs.Parts.{Part, multiplex}
 use Rattle.parts.specs.Wire.{Line, lows, dataBit, returnOf}
 use Rattle.parts.specs.declared.command.Command.{Command}
 use Rattle.parts.specs.declared.command.Command.the-variants.{Individual, Calibration, Global, Configuration}
 use Rattle.model.specs.Lists.{Both, howMany}
-use Rattle.model.specs.Run.{andThen}
+use Rattle.machine.specs.Machine.{andThen}
 use Rattle.model.specs.Device.{Values, Registers, Device, at, sliceLength, multiplexed, withIndividual, load, fault, faults, activated, frameStates, stepDevice, runChain, boundary, registersIn}
 use Rattle.model.specs.Set.{Own, OwnProper, sliceOf}
-use Rattle.model.specs.Restore.{Piece, pieceStates, pieceOf, piecesOf, returnsOf, InUse, Holds}
+use Rattle.model.specs.Restore.{Piece, pieceStates, pieceOf, piecesOf, returnsOf, InUse, RegistersHold}
 use Rattle.model.proofs.Lists.{both-map, howMany-le}
-use Rattle.model.proofs.Run.{chain-append, chain-nil, chain-keeps}
+use Rattle.machine.proofs.Machine.{chain-append, chain-nil, length-chain}
 use Rattle.model.proofs.Wire.{bits-return}
-use Rattle.model.proofs.Frame.{loadAll, Fits, passings, framed-all, quiet, quiet-sends, partOf, step-part}
+use Rattle.model.proofs.Frame.{loadAll, Fits, passings, framed-all, quiet, quiet-sends}
 use Rattle.model.proofs.Set.{load-configuration, load-calibration, load-global, load-individual}
 
--- the chain afterwards, and what the last device sends while the frameStates comes in
+-- a chain after the clocks before a piece's frame
+abbrev afterGap : List Device → Piece → List Device
+afterGap ds p = (runChain ds (lows (p .gap))) .0
+
+-- that frame
+abbrev pieceFrame : Piece → List Line
+pieceFrame p = frameStates (p .kind) 0 (p .slices) (p .tail)
+
+-- the chain afterwards, and what the last device sends while the frame comes in
 unfoldable pub sendPiece : List Device → Piece → List Device × List (List Bool)
-sendPiece ds p = ((runChain ((runChain ds (lows (p .gap))) .0) (frameStates (p .kind) 0 (p .slices) (p .tail))) .0, map dataBit ((runChain ((runChain ds (lows (p .gap))) .0) (frameStates (p .kind) 0 (p .slices) (p .tail))) .1) ∷ [])
+sendPiece ds p = ((runChain (afterGap ds p) (pieceFrame p)) .0, map dataBit ((runChain (afterGap ds p) (pieceFrame p)) .1) ∷ [])
 
 unfoldable pub sendPieces : List Device → List Piece → List Device × List (List Bool)
 sendPieces ds [] = (ds, [])
@@ -35,26 +43,29 @@ sendPieces ds (p ∷ ps) = andThen (sendPiece ds p) (λ t. sendPieces t ps)
 pub pieces-run : (ds : List Device) (ps : List Piece) → (sendPieces ds ps) .0 ≡ (runChain ds (flatten (map pieceStates ps))) .0
 unfolding sendPieces sendPiece pieceStates flatten
 pieces-run ds [] = rw (chain-nil stepDevice ds)
-pieces-run ds (p ∷ ps) = pieces-run ((sendPiece ds p) .0) ps ∙ rw (chain-append stepDevice ds (lows (p .gap) ++ frameStates (p .kind) 0 (p .slices) (p .tail)) (flatten (map pieceStates ps)), chain-append stepDevice ds (lows (p .gap)) (frameStates (p .kind) 0 (p .slices) (p .tail)))
+pieces-run ds (p ∷ ps) =
+    pieces-run ((sendPiece ds p) .0) ps
+    ∙ rw (chain-append stepDevice ds (lows (p .gap) ++ pieceFrame p) (flatten (map pieceStates ps)), chain-append stepDevice ds (lows (p .gap)) (pieceFrame p))
 
 -- a chain of one or more devices sends, over all the states, the returns and nothing else
-pub length-run : (ds : List Device) (ls : List Line) → length ((runChain ds ls) .0) ≡ length ds
-length-run ds ls = sym (length-map ((runChain ds ls) .0) partOf) ∙ ap length (chain-keeps stepDevice partOf step-part ds ls) ∙ length-map ds partOf
-
 pub pieces-sent : (ds : List Device) (ps : List Piece) → 0 < length ds → map dataBit ((runChain ds (flatten (map pieceStates ps))) .1) ≡ flatten ((sendPieces ds ps) .1)
 unfolding sendPieces sendPiece pieceStates flatten
 pieces-sent ds [] h = rw (chain-nil stepDevice ds)
 pieces-sent ds (p ∷ ps) h =
-    let f : List Line = frameStates (p .kind) 0 (p .slices) (p .tail) in
-    let a : List Device = (runChain ds (lows (p .gap))) .0 in
-    let i = pieces-sent ((runChain a f) .0) ps (rw (length-run, length-run) h) in
-    rw (chain-append stepDevice ds (lows (p .gap) ++ f) (flatten (map pieceStates ps)), chain-append stepDevice ds (lows (p .gap)) f, quiet-sends (p .gap) ds h, map-append, i)
+    let i = pieces-sent ((runChain (afterGap ds p) (pieceFrame p)) .0) ps (rw (length-chain, length-chain) h) in
+    rw (
+      chain-append stepDevice ds (lows (p .gap) ++ pieceFrame p) (flatten (map pieceStates ps)),
+      chain-append stepDevice ds (lows (p .gap)) (pieceFrame p),
+      quiet-sends (p .gap) ds h,
+      map-append,
+      i,
+    )
 
-pub piece-law : (ds : List Device) (rs : List Registers) (p : Piece) → registersIn ds ≡ rs → length rs < 1024 → Fits (p .kind) (p .slices) rs
+piece-law : (ds : List Device) (rs : List Registers) (p : Piece) → registersIn ds ≡ rs → length rs < 1024 → Fits (p .kind) (p .slices) rs
     → sendPiece ds p ≡ (passings (loadAll (p .kind) (p .slices) rs), returnOf (p .kind) (faults (p .kind) rs) (p .tail) ∷ [])
 unfolding sendPiece
 piece-law ds rs p e h f =
-    let a : List Device = (runChain ds (lows (p .gap))) .0 in
+    let a : List Device = afterGap ds p in
     let q : registersIn a ≡ rs = quiet (p .gap) ds ∙ e in
     let m : (0 + faults (p .kind) rs) % 1024 ≡ faults (p .kind) rs = omega (arith, howMany-le (fault (p .kind)) rs) in
     rw (rw (q, m) at (framed-all (p .kind) a 0 (p .slices) (p .tail) (omega arith) (rw q f)), bits-return)
@@ -109,8 +120,12 @@ Calibrated w o r = Configured w o r × (r .calibration ≡ o .calibration)
 abbrev pub GlobalWaiting : Part → Own → Registers → Type 0
 GlobalWaiting w o r = Calibrated w o r × (r .waiting .global ≡ o .global)
 
-abbrev pub AllWaiting : Part → Own → Registers → Type 0
+abbrev AllWaiting : Part → Own → Registers → Type 0
 AllWaiting w o r = GlobalWaiting w o r × InUse (multiplexed (o .configuration)) (o .individual) (r .waiting .mux0) (r .waiting .mux1)
+
+-- a device's own slice has the length that its registers ask for
+abbrev FitsOne : Part → Command → Own → Registers → Type 0
+FitsOne w c o r = (0 < length (sliceOf w c o)) × (length (sliceOf w c o) ≡ sliceLength r c)
 
 module _ (w : Part) (c : Command) (R Q : Own → Registers → Type 0) where
   both-load : ((o : Own) (r : Registers) → R o r → Q o (load c (sliceOf w c o) r)) → (os : List Own) (rs : List Registers) → Both R os rs → Both Q os (loadAll c (map (sliceOf w c) os) rs)
@@ -120,7 +135,7 @@ module _ (w : Part) (c : Command) (R Q : Own → Registers → Type 0) where
   both-load k (o ∷ os) [] b = absurd b
   both-load k (o ∷ os) (r ∷ rs) b = (k o r (b .0), both-load k os rs (b .1))
 
-  pub both-fits : ((o : Own) (r : Registers) → R o r → (0 < length (sliceOf w c o)) × (length (sliceOf w c o) ≡ sliceLength r c)) → (os : List Own) (rs : List Registers) → Both R os rs → Fits c (map (sliceOf w c) os) rs
+  pub both-fits : ((o : Own) (r : Registers) → R o r → FitsOne w c o r) → (os : List Own) (rs : List Registers) → Both R os rs → Fits c (map (sliceOf w c) os) rs
   both-fits k [] [] b = tt
   both-fits k [] (r ∷ rs) b = absurd b
   both-fits k (o ∷ os) [] b = absurd b
@@ -142,21 +157,26 @@ in-use-own false vs l = refl
 
 -- each stage's slices fit, and bring the next stage
 module _ (w : Part) (o : Own) (r : Registers) where
-  pub fit-configuration : Ready w o r → (0 < length (sliceOf w Configuration o)) × (length (sliceOf w Configuration o) ≡ sliceLength r Configuration)
+  pub fit-configuration : Ready w o r → FitsOne w Configuration o r
   unfolding sliceOf sliceLength
   fit-configuration h = rw (length-fields, length-replicate, h .1) (omega arith)
 
-  pub fit-calibration : Configured w o r → (0 < length (sliceOf w Calibration o)) × (length (sliceOf w Calibration o) ≡ sliceLength r Calibration)
+  pub fit-calibration : Configured w o r → FitsOne w Calibration o r
   unfolding sliceOf sliceLength
   fit-calibration h = rw (length-fields, h .0 .0 .calibrationLength, h .0 .1) (omega arith)
 
-  pub fit-global : Calibrated w o r → (0 < length (sliceOf w Global o)) × (length (sliceOf w Global o) ≡ sliceLength r Global)
+  pub fit-global : Calibrated w o r → FitsOne w Global o r
   unfolding sliceOf sliceLength
   fit-global h = rw (length-fields, length-replicate, h .0 .0 .1) (omega arith)
 
-  pub fit-individual : GlobalWaiting w o r → (0 < length (sliceOf w Individual o)) × (length (sliceOf w Individual o) ≡ sliceLength r Individual)
+  pub fit-individual : GlobalWaiting w o r → FitsOne w Individual o r
   unfolding sliceOf sliceLength
-  fit-individual h = rw (length-fields, h .0 .0 .0 .0 .individualLength, h .0 .0 .1, h .0 .0 .0 .1) (fields-pos (multiplex (o .configuration)) (w .banks) (w .width) (h .0 .0 .0 .0 .wide .banks) (h .0 .0 .0 .0 .wide .width), refl)
+  fit-individual h =
+      let configured : Configured w o r = h .0 .0 in
+      let ready : Ready w o r = configured .0 in
+      let proper : OwnProper w o = ready .0 in
+      rw (length-fields, proper .individualLength, configured .1, ready .1)
+      (fields-pos (multiplex (o .configuration)) (w .banks) (w .width) (proper .wide .banks) (proper .wide .width), refl)
 
   to-configured : Ready w o r → Configured w o (load Configuration (sliceOf w Configuration o) r)
   to-configured h = rw (load-configuration w o (h .0) r (h .1)) (h, refl)
@@ -168,26 +188,32 @@ module _ (w : Part) (o : Own) (r : Registers) where
   to-global h = rw (load-global w o (h .0 .0 .0) r (h .0 .0 .1)) (h, refl)
 
   to-all : GlobalWaiting w o r → AllWaiting w o (load Individual (sliceOf w Individual o) r)
-  to-all h = rw (load-individual w o (h .0 .0 .0 .0) r (h .0 .0 .0 .1) (h .0 .0 .1)) ((h .0, global-own (multiplexed (o .configuration)) (o .individual) (r .waiting) ∙ h .1), in-use-own (multiplexed (o .configuration)) (o .individual) (r .waiting))
+  to-all h =
+      let configured : Configured w o r = h .0 .0 in
+      let ready : Ready w o r = configured .0 in
+      let mode : Bool = multiplexed (o .configuration) in
+      rw (load-individual w o (ready .0) r (ready .1) (configured .1))
+      ((h .0, global-own mode (o .individual) (r .waiting) ∙ h .1), in-use-own mode (o .individual) (r .waiting))
 
 pub registers-boundary : (ds : List Device) → registersIn (boundary ds) ≡ map activated (registersIn ds)
 unfolding boundary
 registers-boundary [] = refl
 registers-boundary (d ∷ ds) = rw (registers-boundary ds)
 
-pieces-then : (ds : List Device) (p : Piece) (ps : List Piece) {t u : List Device} {o q : List (List Bool)} → sendPiece ds p ≡ (t, o) → sendPieces t ps ≡ (u, q) → sendPieces ds (p ∷ ps) ≡ (u, o ++ q)
+pieces-then : (ds : List Device) (p : Piece) (ps : List Piece) {t u : List Device} {o q : List (List Bool)}
+    → sendPiece ds p ≡ (t, o) → sendPieces t ps ≡ (u, q) → sendPieces ds (p ∷ ps) ≡ (u, o ++ q)
 unfolding sendPieces
 pieces-then ds p ps e f = rw (e, f)
 
-to-holds : (w : Part) (o : Own) (r : Registers) → AllWaiting w o r → Holds o (activated r)
+to-holds : (w : Part) (o : Own) (r : Registers) → AllWaiting w o r → RegistersHold o (activated r)
 unfolding activated
 to-holds w o r h = record { configuration = h .0 .0 .0 .1; calibration = h .0 .0 .1; global = h .0 .1; individual = h .1 }
 
 -- the registers after the frame of a command, and after all four
-abbrev pub afterFrame : Part → List Own → Command → List Registers → List Registers
+abbrev afterFrame : Part → List Own → Command → List Registers → List Registers
 afterFrame w os c rs = loadAll c (map (sliceOf w c) os) rs
 
-abbrev pub afterFour : Part → List Own → List Registers → List Registers
+abbrev afterFour : Part → List Own → List Registers → List Registers
 afterFour w os rs = afterFrame w os Individual (afterFrame w os Global (afterFrame w os Calibration (afterFrame w os Configuration rs)))
 
 module _ (w : Part) (os : List Own) (rs : List Registers) (b : Both (Ready w) os rs) where
@@ -200,12 +226,12 @@ module _ (w : Part) (os : List Own) (rs : List Registers) (b : Both (Ready w) os
   pub stage3 : Both (GlobalWaiting w) os (afterFrame w os Global (afterFrame w os Calibration (afterFrame w os Configuration rs)))
   stage3 = both-load w Global (Calibrated w) (GlobalWaiting w) (to-global w) os _ stage2
 
-  pub stage4 : Both (AllWaiting w) os (afterFour w os rs)
+  stage4 : Both (AllWaiting w) os (afterFour w os rs)
   stage4 = both-load w Individual (GlobalWaiting w) (AllWaiting w) (to-all w) os _ stage3
 
 module _ (w : Part) (os : List Own) (gap tail : Command → List Bool) where
   sent-one : (c : Command) (R : Own → Registers → Type 0) (ds : List Device) (rs : List Registers) → registersIn ds ≡ rs → length rs < 1024
-      → ((o : Own) (r : Registers) → R o r → (0 < length (sliceOf w c o)) × (length (sliceOf w c o) ≡ sliceLength r c)) → Both R os rs
+      → ((o : Own) (r : Registers) → R o r → FitsOne w c o r) → Both R os rs
       → sendPiece ds (pieceOf w os gap tail c) ≡ (passings (afterFrame w os c rs), returnOf c (faults c rs) (tail c) ∷ [])
   sent-one c R ds rs e h k b = piece-law ds rs (pieceOf w os gap tail c) e h (both-fits w c R R k os rs b)
 
@@ -229,7 +255,7 @@ module _ (w : Part) (os : List Own) (gap tail : Command → List Bool) where
 
   -- Restored: after the four frames, any low clocks and a boundary, for a chain in any phases whose devices have the set's part
   pub restored : (ds : List Device) (last : List Bool) → length (registersIn ds) < 1024 → Both (Ready w) os (registersIn ds)
-      → Both Holds os (registersIn (boundary ((runChain ((sendPieces ds (piecesOf w os gap tail)) .0) (lows last)) .0)))
+      → Both RegistersHold os (registersIn (boundary ((runChain ((sendPieces ds (piecesOf w os gap tail)) .0) (lows last)) .0)))
   restored ds last h b =
       rw (registers-boundary, quiet, sent-four ds h b, registers-passings)
-      (both-map (AllWaiting w) Holds activated (to-holds w) os (afterFour w os (registersIn ds)) (stage4 w os (registersIn ds) b))
+      (both-map (AllWaiting w) RegistersHold activated (to-holds w) os (afterFour w os (registersIn ds)) (stage4 w os (registersIn ds) b))

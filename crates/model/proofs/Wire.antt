@@ -3,8 +3,7 @@
 use mathlib.Core.Path.{_≡_, refl, ap, _∙_}
 use mathlib.Core.Bool.{Bool, true, false}
 use mathlib.Core.List.{List, [], _∷_, _++_, map, flatten, append-assoc, map-append}
-use Prim.Native.Nat.{ℕ, zero, suc, _<_}
-use native.Mathlib.Omega.{arith}
+use Prim.Native.Nat.{ℕ}
 use lib.ListN.{length, length-map, length-append, take, drop, take-append-drop}
 use Rattle.bits.specs.Bits.{bits}
 use Rattle.bits.proofs.Laws.{length-bits}
@@ -40,15 +39,15 @@ length-headerStates c n = rw (header-states, length-append, length-map, length-m
 
 -- ---- data bits
 
-pub bits-lows : (bs : List Bool) → map dataBit (lows bs) ≡ bs
+bits-lows : (bs : List Bool) → map dataBit (lows bs) ≡ bs
 bits-lows [] = refl
 bits-lows (b ∷ bs) = rw (bits-lows bs)
 
-pub bits-highs : (bs : List Bool) → map dataBit (highs bs) ≡ bs
+bits-highs : (bs : List Bool) → map dataBit (highs bs) ≡ bs
 bits-highs [] = refl
 bits-highs (b ∷ bs) = rw (bits-highs bs)
 
-pub bits-clocked : (bs : List Bool) → map dataBit (clocked bs) ≡ bs
+bits-clocked : (bs : List Bool) → map dataBit (clocked bs) ≡ bs
 unfolding clocked
 bits-clocked bs = map-append dataBit (lows (take 8 bs)) (highs (drop 8 bs)) ∙ rw (bits-lows, bits-highs, take-append-drop)
 
@@ -58,18 +57,11 @@ bits-return c n tail = bits-clocked (frame c n [] tail)
 
 -- ---- document 01's numbers
 
-pub line-state : (l : Line) → lineOf (stateOf l) ≡ l
+line-state : (l : Line) → lineOf (stateOf l) ≡ l
 line-state (low false) = refl
 line-state (low true) = refl
 line-state (high false) = refl
 line-state (high true) = refl
-
-pub state-line : (s : ℕ) → s < 4 → stateOf (lineOf s) ≡ s
-state-line zero h = refl
-state-line (suc zero) h = refl
-state-line (suc (suc zero)) h = refl
-state-line (suc (suc (suc zero))) h = refl
-state-line (suc (suc (suc (suc s)))) h = omega arith
 
 pub lines-states : (ls : List Line) → map lineOf (map stateOf ls) ≡ ls
 lines-states [] = refl

@@ -10,7 +10,7 @@ use Rattle.parts.specs.Wire.{Line, low, high, header, frame, clocked}
 use Rattle.parts.specs.declared.command.Command.{Command}
 use Rattle.parts.specs.declared.command.Command.the-variants.{Individual, Calibration, Global, Configuration}
 use Rattle.model.specs.Lists.{howMany}
-use Rattle.model.specs.Run.{run, chain}
+use Rattle.machine.specs.Machine.{run, chain}
 
 -- what waits for a frame boundary and becomes active there
 pub record Values : Type 0 where

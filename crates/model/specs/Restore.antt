@@ -3,18 +3,14 @@
 use Prim.Native.Nat.{ℕ, _+_}
 use mathlib.Core.Path.{_≡_}
 use mathlib.Core.Bool.{Bool, true, false, _&&_, cond}
-use mathlib.Core.List.{List, [], _∷_, _++_, map, flatten}
+use mathlib.Core.List.{List, _++_, map, flatten}
 use lib.ListN.{length, take}
-use Rattle.parts.specs.Parts.{Part}
+use Rattle.parts.specs.Parts.{Part, restoreOrder}
 use Rattle.parts.specs.Wire.{Line, lows, returnOf}
 use Rattle.parts.specs.declared.command.Command.{Command}
 use Rattle.parts.specs.declared.command.Command.the-variants.{Individual, Calibration, Global, Configuration}
 use Rattle.model.specs.Device.{Registers, multiplexed, evens, odds, frameStates, faults}
 use Rattle.model.specs.Set.{Own, sliceOf}
-
--- the commands in restore order
-abbrev pub restoreOrder : List Command
-restoreOrder = Configuration ∷ Calibration ∷ Global ∷ Individual ∷ []
 
 -- a frame from the host, and the clocks at low load before it
 pub record Piece : Type 0 where
@@ -37,20 +33,20 @@ module _ (w : Part) (os : List Own) (gap tail : Command → List Bool) where
   piecesOf = map pieceOf restoreOrder
 
   -- all the states of a restore
-  abbrev pub restoreStates : List Line
-  restoreStates = flatten (map pieceStates piecesOf)
+  abbrev pub piecesStates : List Line
+  piecesStates = flatten (map pieceStates piecesOf)
 
   -- how many states come before a frame's own
-  abbrev pub before : Command → ℕ
-  before Configuration = 0
-  before Calibration = length (pieceStates (pieceOf Configuration))
-  before Global = length (pieceStates (pieceOf Configuration)) + length (pieceStates (pieceOf Calibration))
-  before Individual =
+  abbrev pub statesBefore : Command → ℕ
+  statesBefore Configuration = 0
+  statesBefore Calibration = length (pieceStates (pieceOf Configuration))
+  statesBefore Global = length (pieceStates (pieceOf Configuration)) + length (pieceStates (pieceOf Calibration))
+  statesBefore Individual =
       length (pieceStates (pieceOf Configuration)) + length (pieceStates (pieceOf Calibration)) + length (pieceStates (pieceOf Global))
 
   -- how many states give the frame's header and the slices of the devices 1 to `device`: its slice has then fully arrived
-  abbrev pub arrival : Command → ℕ → ℕ
-  arrival c device = before c + (length (gap c) + (24 + length (flatten (take device (map (sliceOf w c) os)))))
+  abbrev pub statesUntil : Command → ℕ → ℕ
+  statesUntil c device = statesBefore c + (length (gap c) + (24 + length (flatten (take device (map (sliceOf w c) os)))))
 
 -- the four returns of a chain with these registers
 abbrev pub returnsOf : (Command → List Bool) → List Registers → List (List Bool)
@@ -62,7 +58,7 @@ InUse true vs mux0 mux1 = (mux0 ≡ evens vs) × (mux1 ≡ odds vs)
 InUse false vs mux0 mux1 = mux0 ≡ vs
 
 -- the registers in use hold the values of the device's own slices
-pub record Holds (o : Own) (r : Registers) : Type 0 where
+pub record RegistersHold (o : Own) (r : Registers) : Type 0 where
   pub configuration : r .configuration ≡ o .configuration
   pub calibration : r .calibration ≡ o .calibration
   pub global : r .active .global ≡ o .global

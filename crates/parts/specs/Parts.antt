@@ -102,6 +102,10 @@ abbrev pub commandAt : ℕ → Command
 commandAt n =
     cond (eqb (n % 4) 0) Individual (cond (eqb (n % 4) 1) Calibration (cond (eqb (n % 4) 2) Global Configuration))
 
+-- the commands in restore order
+abbrev pub restoreOrder : List Command
+restoreOrder = Configuration ∷ Calibration ∷ Global ∷ Individual ∷ []
+
 -- bits of one field of a slice
 abbrev pub fieldWidth : Part → Command → ℕ
 fieldWidth p Individual = p .width

@@ -9,7 +9,7 @@ use native.Mathlib.Omega.{arith}
 use lib.ListN.{length, getD, take, drop, length-append}
 use lib.Seq.{take-suc, drop-cons}
 use borrow.Author.Tests.{ne-eqb, eq-eqb, le-leb, lt-leb, le-ltb, lt-ltb}
-use Rattle.report.specs.Arguments.{isDigit, digitsOnly, numeral, parsed, valueOf, isPart, isCount, judged}
+use Rattle.report.specs.Arguments.{isDigit, digitsOnly, numeral, parsed, valueOf, isPart, countAccepted, judged}
 use Rattle.report.specs.declared.arguments.Parsed.{Parsed}
 use Rattle.report.specs.declared.arguments.Parsed.the-variants as P
 use Rattle.report.specs.declared.arguments.Asked.the-variants as A
@@ -74,20 +74,20 @@ pub judged-part : (p q : Parsed) → isPart p ≡ false → A.Refused 1 ≡ judg
 unfolding judged
 judged-part p q e = rw e
 
-pub judged-count : (p q : Parsed) → isPart p ≡ true → isCount q ≡ false → A.Refused 2 ≡ judged p q
+pub judged-count : (p q : Parsed) → isPart p ≡ true → countAccepted q ≡ false → A.Refused 2 ≡ judged p q
 unfolding judged
 judged-count p q e f = rw (e, f)
 
-pub judged-chain : (p q : Parsed) → isPart p ≡ true → isCount q ≡ true → A.Chain (valueOf p) (valueOf q) ≡ judged p q
+pub judged-chain : (p q : Parsed) → isPart p ≡ true → countAccepted q ≡ true → A.Chain (valueOf p) (valueOf q) ≡ judged p q
 unfolding judged
 judged-chain p q e f = rw (e, f)
 
 -- 1 to 512
-pub count-low : (n : ℕ) → n ≡ 0 → isCount (P.Value n) ≡ false
+pub count-low : (n : ℕ) → n ≡ 0 → countAccepted (P.Value n) ≡ false
 count-low n h = rw (le-ltb 0 n (omega arith))
 
-pub count-high : (n : ℕ) → 512 < n → isCount (P.Value n) ≡ false
+pub count-high : (n : ℕ) → 512 < n → countAccepted (P.Value n) ≡ false
 count-high n h = rw (lt-ltb 0 n (omega arith), le-ltb n 513 (omega arith))
 
-pub count-yes : (n : ℕ) → (n ≡ 0 → ⊥) → n ≤ 512 → isCount (P.Value n) ≡ true
+pub count-yes : (n : ℕ) → (n ≡ 0 → ⊥) → n ≤ 512 → countAccepted (P.Value n) ≡ true
 count-yes n h g = rw (lt-ltb 0 n (omega arith), lt-ltb n 513 (omega arith))

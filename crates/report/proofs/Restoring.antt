@@ -1,6 +1,6 @@
 -- Laws of the report's lines: those of the frames behind the configuration frame, from one frame on, with the input as it stands there;
 -- and those of all four, by the answer for the configuration frame. Assumes nothing.
-use mathlib.Core.Path.{_≡_, sym, ap, ap₂, _∙_}
+use mathlib.Core.Path.{_≡_, refl, sym, ap, ap₂, _∙_}
 use mathlib.Core.Bool.{Bool, true, false, cond}
 use mathlib.Core.List.{List, [], _∷_, _++_, append-nil}
 use Prim.Native.Nat.{ℕ, suc, _+_, _*_, _≤_, _<_}
@@ -19,22 +19,23 @@ use Rattle.parts.specs.declared.command.Command.{Command}
 use Rattle.parts.specs.declared.command.Command.the-variants.{Individual, Configuration}
 use Rattle.frames.specs.declared.told.Read.{Read}
 use Rattle.frames.specs.declared.told.Read.the-variants as R
+use Rattle.frames.specs.Frames.{toldOf}
 use Rattle.frames.proofs.told.Read.{the-type}
+use Rattle.frames.proofs.Cases.{read-no-byte}
 use Rattle.report.specs.Lines.{trailingLine, partLine, frameLine}
-use Rattle.report.specs.Report.{toldOf, frameBits, answerOf, isRefused, lineOf, restoreOrder, linesOf, configurationOf, behind, allLines, reportOf}
+use Rattle.report.specs.Report.{frameBits, answerOf, isRefused, lineOf, laterCommands, linesOf, configurationOf, behind, allLines, reportOf}
 use Rattle.report.specs.declared.arguments.Asked.{Asked}
 use Rattle.report.specs.declared.arguments.Asked.the-variants as A
-use Rattle.report.proofs.Cases.{not-first}
 use Rattle.report.proofs.Putting as put
 
 -- the lines of the frames behind the configuration frame
 module _ (part devices configuration : ℕ) (input : List ℕ) where
   -- the lines from a frame on
   abbrev pub linesFrom : ℕ → ℕ → List ℕ
-  linesFrom place from = linesOf part devices configuration (drop place restoreOrder) (drop from input)
+  linesFrom place from = linesOf part devices configuration (drop place laterCommands) (drop from input)
 
   -- the line of one frame, for which the reader answers `answer`, and those of the next
-  pub lines-step : (place from : ℕ) (c : Command) (answer : Read) (n : ℕ) → place < 3 → c ≡ getD restoreOrder place Individual
+  pub lines-step : (place from : ℕ) (c : Command) (answer : Read) (n : ℕ) → place < 3 → c ≡ getD laterCommands place Individual
       → n ≡ frameBits (toldOf part devices c configuration) → answer ≡ answerOf (toldOf part devices c configuration) (drop from input)
       → linesFrom place from ≡ frameLine c n answer ++ cond (isRefused answer) [] (linesFrom (place + 1) (from + bytesFor n))
   unfolding linesOf
@@ -42,13 +43,13 @@ module _ (part devices configuration : ℕ) (input : List ℕ) where
       let t = toldOf part devices c configuration in
       let r = answerOf t (drop from input) in
       ap (λ (cs : List Command). linesOf part devices configuration cs (drop from input))
-      (drop-cons restoreOrder place Individual h ∙ ap₂ (λ (k : Command) (m : ℕ). k ∷ drop m restoreOrder) (sym e) (sym (add-one place)))
-      ∙ ap (λ (l : List ℕ). lineOf t r ++ cond (isRefused r) [] (linesOf part devices configuration (drop (place + 1) restoreOrder) l))
+      (drop-cons laterCommands place Individual h ∙ ap₂ (λ (k : Command) (m : ℕ). k ∷ drop m laterCommands) (sym e) (sym (add-one place)))
+      ∙ ap (λ (l : List ℕ). lineOf t r ++ cond (isRefused r) [] (linesOf part devices configuration (drop (place + 1) laterCommands) l))
       (drop-drop (bytesFor (frameBits t)) from input)
       ∙ ap₂ (λ (a : Read) (m : ℕ). frameLine c m a ++ cond (isRefused a) [] (linesFrom (place + 1) (from + bytesFor m))) (sym g) (sym f)
 
   -- the same, refused and accepted
-  pub lines-refused : (place from : ℕ) (c : Command) (answer : Read) (n : ℕ) → place < 3 → c ≡ getD restoreOrder place Individual
+  pub lines-refused : (place from : ℕ) (c : Command) (answer : Read) (n : ℕ) → place < 3 → c ≡ getD laterCommands place Individual
       → n ≡ frameBits (toldOf part devices c configuration) → answer ≡ answerOf (toldOf part devices c configuration) (drop from input)
       → isRefused answer ≡ true → linesFrom place from ≡ frameLine c n answer
   lines-refused place from c answer n h e f g r =
@@ -56,7 +57,7 @@ module _ (part devices configuration : ℕ) (input : List ℕ) where
       ∙ ap (λ (b : Bool). frameLine c n answer ++ cond b [] (linesFrom (place + 1) (from + bytesFor n))) r
       ∙ append-nil (frameLine c n answer)
 
-  pub lines-accepted : (place from : ℕ) (c : Command) (answer : Read) (n : ℕ) → place < 3 → c ≡ getD restoreOrder place Individual
+  pub lines-accepted : (place from : ℕ) (c : Command) (answer : Read) (n : ℕ) → place < 3 → c ≡ getD laterCommands place Individual
       → n ≡ frameBits (toldOf part devices c configuration) → answer ≡ answerOf (toldOf part devices c configuration) (drop from input)
       → isRefused answer ≡ false → linesFrom place from ≡ frameLine c n answer ++ linesFrom (place + 1) (from + bytesFor n)
   lines-accepted place from c answer n h e f g r =
@@ -78,18 +79,17 @@ module _ (part devices : ℕ) (input : List ℕ) where
   pub all-refused : (answer : Read) (n : ℕ) → n ≡ frameBits (configurationOf part devices) → OneOf (1 ∷ 2 ∷ 3 ∷ []) (tagOf the-type answer)
       → frameLine Configuration n answer ≡ allLines part devices input answer
   unfolding allLines
-  all-refused (R.Byte b) n e h = absurd (not-first h)
-  all-refused (R.Bytes k) n e h = ap (λ (m : ℕ). frameLine Configuration m (R.Bytes k)) e
-  all-refused (R.Values k) n e h = ap (λ (m : ℕ). frameLine Configuration m (R.Values k)) e
-  all-refused (R.Refused k) n e h = ap (λ (m : ℕ). frameLine Configuration m (R.Refused k)) e
+  all-refused answer n e h =
+      ap (λ (m : ℕ). frameLine Configuration m answer) e
+      ∙ read-no-byte (λ r. lineOf (configurationOf part devices) r ≡ allLines part devices input r) (λ k. refl) (λ k. refl) (λ k. refl) answer h
 
   -- where it gives one
   pub all-accepted : (b n : ℕ) (rest : List ℕ) → n ≡ frameBits (configurationOf part devices) → rest ≡ drop (bytesFor n) input
-      → partLine part devices (multiplex b) ++ (frameLine Configuration n (R.Byte b) ++ linesOf part devices b restoreOrder rest) ≡ allLines part devices input (R.Byte b)
+      → partLine part devices (multiplex b) ++ (frameLine Configuration n (R.Byte b) ++ linesOf part devices b laterCommands rest) ≡ allLines part devices input (R.Byte b)
   unfolding allLines
   all-accepted b n rest f g =
-      ap (λ (l : List ℕ). partLine part devices (multiplex b) ++ (frameLine Configuration n (R.Byte b) ++ linesOf part devices b restoreOrder l)) g
-      ∙ ap (λ (m : ℕ). partLine part devices (multiplex b) ++ (frameLine Configuration m (R.Byte b) ++ linesOf part devices b restoreOrder (drop (bytesFor m) input))) f
+      ap (λ (l : List ℕ). partLine part devices (multiplex b) ++ (frameLine Configuration n (R.Byte b) ++ linesOf part devices b laterCommands l)) g
+      ∙ ap (λ (m : ℕ). partLine part devices (multiplex b) ++ (frameLine Configuration m (R.Byte b) ++ linesOf part devices b laterCommands (drop (bytesFor m) input))) f
 
 -- ---- how long a report can be
 
@@ -115,14 +115,14 @@ unfolding allLines
 length-allLines part devices input (R.Byte b) =
     let t = configurationOf part devices in
     let line = lineOf t (R.Byte b) in
-    let rest = linesOf part devices b restoreOrder (behind t input) in
+    let rest = linesOf part devices b laterCommands (behind t input) in
     omega (
       arith,
       length-append (partLine part devices (multiplex b)) (line ++ rest),
       length-append line rest,
       put.length-partLine part devices (multiplex b),
       put.length-frameLine Configuration (frameBits t) (R.Byte b),
-      length-linesOf part devices b restoreOrder (behind t input),
+      length-linesOf part devices b laterCommands (behind t input),
     )
 length-allLines part devices input (R.Bytes n) = omega (arith, put.length-frameLine Configuration (frameBits (configurationOf part devices)) (R.Bytes n))
 length-allLines part devices input (R.Values n) = omega (arith, put.length-frameLine Configuration (frameBits (configurationOf part devices)) (R.Values n))

@@ -42,13 +42,13 @@ isPart (P.Value n) = known n
 isPart P.Bad = false
 
 -- 1 to 512
-abbrev pub isCount : Parsed → Bool
-isCount (P.Value n) = ltb 0 n && ltb n 513
-isCount P.Bad = false
+abbrev pub countAccepted : Parsed → Bool
+countAccepted (P.Value n) = ltb 0 n && ltb n 513
+countAccepted P.Bad = false
 
 -- 1 and 2
 abbrev pub askedRows : Parsed → Parsed → List Row
-askedRows part devices = (1 when not (isPart part)) ∷ (2 when not (isCount devices)) ∷ []
+askedRows part devices = (1 when not (isPart part)) ∷ (2 when not (countAccepted devices)) ∷ []
 
 -- what they ask for
 unfoldable pub judged : Parsed → Parsed → Asked

@@ -1,36 +1,27 @@
 -- The whole report: what the bench program writes for what its arguments ask and for its standard input, which is four frames without
 -- tails back to back in restore order. Each frame is what stands at the front of the input, at the length that it should have, and is
 -- read by the frame reader. Document 01, "The bench program".
-use Prim.Native.Nat.{ℕ, _+_, _*_}
+use Prim.Native.Nat.{ℕ, _+_}
 use mathlib.Core.Bool.{Bool, true, false, cond}
 use mathlib.Core.List.{List, [], _∷_, _++_}
 use lib.Dec.{eqb}
 use lib.ListN.{length, take, drop}
 use Rattle.bits.specs.Bits.{bytesFor}
-use Rattle.parts.specs.Parts.{partOf, multiplex, sliceBits}
+use Rattle.parts.specs.Parts.{multiplex, restoreOrder}
 use Rattle.parts.specs.declared.command.Command.{Command}
-use Rattle.parts.specs.declared.command.Command.the-variants.{Individual, Calibration, Global, Configuration}
+use Rattle.parts.specs.declared.command.Command.the-variants.{Configuration}
+use Rattle.frames.specs.Frames.{toldOf, noTail, slicesBits}
 use Rattle.frames.specs.Reading.{read}
 use Rattle.frames.specs.declared.told.Told.{Told}
-use Rattle.frames.specs.declared.told.Tail.{Tail}
 use Rattle.frames.specs.declared.told.Read.{Read}
 use Rattle.frames.specs.declared.told.Read.the-variants as R
 use Rattle.report.specs.Lines.{refusedLine, trailingLine, partLine, frameLine}
 use Rattle.report.specs.declared.arguments.Asked.{Asked}
 use Rattle.report.specs.declared.arguments.Asked.the-variants as A
 
--- no tail
-abbrev pub noTail : Tail
-noTail = record { number = 0; length = 0 }
-
--- what the reader is told
-abbrev pub toldOf : ℕ → ℕ → Command → ℕ → Told
-toldOf part devices c configuration =
-    record { part = part; devices = devices; command = c; configuration = configuration }
-
 -- the bits that a frame should have: header and slices
 abbrev pub frameBits : Told → ℕ
-frameBits t = 24 + t .devices * sliceBits (partOf (t .part)) (t .command) (multiplex (t .configuration))
+frameBits t = 24 + slicesBits t
 
 -- the frame at the front of the input
 abbrev pub frontOf : Told → List ℕ → List ℕ
@@ -56,8 +47,8 @@ abbrev pub lineOf : Told → Read → List ℕ
 lineOf t answer = frameLine (t .command) (frameBits t) answer
 
 -- the frames behind the configuration frame, in restore order
-abbrev pub restoreOrder : List Command
-restoreOrder = Calibration ∷ Global ∷ Individual ∷ []
+abbrev pub laterCommands : List Command
+laterCommands = drop 1 restoreOrder
 
 -- their lines: a refused frame's line is last; input behind the last frame is refused too
 unfoldable pub linesOf : ℕ → ℕ → ℕ → List Command → List ℕ → List ℕ
@@ -77,7 +68,7 @@ unfoldable pub allLines : ℕ → ℕ → List ℕ → Read → List ℕ
 allLines part devices input (R.Byte b) =
     partLine part devices (multiplex b)
     ++ (lineOf (configurationOf part devices) (R.Byte b)
-    ++ linesOf part devices b restoreOrder (behind (configurationOf part devices) input))
+    ++ linesOf part devices b laterCommands (behind (configurationOf part devices) input))
 allLines part devices input (R.Bytes n) = lineOf (configurationOf part devices) (R.Bytes n)
 allLines part devices input (R.Values n) = lineOf (configurationOf part devices) (R.Values n)
 allLines part devices input (R.Refused number) = lineOf (configurationOf part devices) (R.Refused number)

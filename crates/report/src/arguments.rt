@@ -33,10 +33,7 @@ pub fn ask(part: &[u8], devices: &[u8]) -> Asked
     let Parsed::Value(count) = second else {
         return Asked::Refused(2);
     };
-    if count == 0 {
-        return Asked::Refused(2);
-    }
-    if 512 < count {
+    if count == 0 || 512 < count {
         return Asked::Refused(2);
     }
     Asked::Chain(number, count)
@@ -53,10 +50,7 @@ pub fn parse(text: &[u8]) -> Parsed
     let mut i: usize = 0;
     while i < text.len() {
         let byte = text[i];
-        if byte < b'0' {
-            return Parsed::Bad;
-        }
-        if b'9' < byte {
+        if byte < b'0' || b'9' < byte {
             return Parsed::Bad;
         }
         value = with_digit(value, byte - b'0');

@@ -3,7 +3,7 @@ ghost use mathlib.Core.Path.{_≡_};
 ghost use Prim.Native.Nat.{_<_};
 ghost use lib.ListN.{getD, take, drop};
 ghost use Rattle.parts.specs.declared.command.Command.the-variants as C;
-ghost use Rattle.report.specs.Report.{frameBits, answerOf, isRefused, restoreOrder};
+ghost use Rattle.report.specs.Report.{frameBits, answerOf, isRefused, laterCommands};
 use frames::Read;
 use frames::Tail;
 use frames::Told;
@@ -38,24 +38,23 @@ pub fn read_front(told: Told, input: &[u8]) -> Read
 // The frames behind the configuration frame, in restore order.
 pub fn command_at(place: usize) -> Command
     requires { ⌜ place < 3 ⌝ }
-    ensures { λ r. ⌜ r ≡ getD restoreOrder place C.Individual ⌝ }
+    ensures { λ r. ⌜ r ≡ getD laterCommands place C.Individual ⌝ }
 {
-    if place == 0 {
-        return Command::Calibration;
+    match place {
+        0 => Command::Calibration,
+        1 => Command::Global,
+        _ => Command::Individual,
     }
-    if place == 1 {
-        return Command::Global;
-    }
-    Command::Individual
 }
 
 pub fn is_refused(answer: Read) -> bool
     ensures { λ r. ⌜ r ≡ isRefused answer ⌝ }
 {
-    let Read::Refused(_) = answer else {
-        return false;
-    };
-    true
+    if let Read::Refused(_) = answer {
+        true
+    } else {
+        false
+    }
 }
 
 // The first n bytes, or all where there are fewer.

@@ -4,7 +4,7 @@ ghost use Prim.Native.Nat.{_+_, _≤_};
 ghost use lib.ListN.{length};
 ghost use Rattle.bits.specs.Bits.{over};
 ghost use Rattle.report.specs.Lines.{Put};
-ghost use Rattle.report.specs.Report.{linesOf, restoreOrder, allLines, configurationOf, answerOf, reportOf};
+ghost use Rattle.report.specs.Report.{linesOf, laterCommands, allLines, configurationOf, answerOf, reportOf};
 use crate::arguments::Asked;
 use crate::lines::put_frame;
 use crate::lines::put_part;
@@ -37,7 +37,7 @@ fn put_all(part: u16, devices: u16, input: &[u8], out: &mut [u8]) -> usize
         ⌜ Put (allLines part devices (now (input .entry)) (answerOf (configurationOf part devices) (now (input .entry)))) 0 (now (out .entry)) r (now (out .exit)) ⌝ }
 {
     let told = Told {
-        part: part,
+        part,
         devices: devices as usize,
         command: Command::Configuration,
         configuration: 0,
@@ -69,7 +69,7 @@ fn put_rest(
     at: usize,
 ) -> usize
     requires { ⌜ at + 448 ≤ length (now out) ⌝ }
-    ensures { λ r. ⌜ Put (linesOf part devices configuration restoreOrder (now (input .entry))) at (now (out .entry)) r (now (out .exit)) ⌝ }
+    ensures { λ r. ⌜ Put (linesOf part devices configuration laterCommands (now (input .entry))) at (now (out .entry)) r (now (out .exit)) ⌝ }
 {
     let mut from: usize = 0;
     let mut end = at;
@@ -77,10 +77,10 @@ fn put_rest(
     while place < 3 {
         let command = command_at(place);
         let told = Told {
-            part: part,
+            part,
             devices: devices as usize,
-            command: command,
-            configuration: configuration,
+            command,
+            configuration,
         };
         let bits = frame_bits(told);
         let answer = read_front(told, back(input, from));

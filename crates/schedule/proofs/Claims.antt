@@ -1,25 +1,21 @@
 -- Document 01's "Light" for each part, configuration and global byte, as statements about what the questions answer. They follow from the
 -- laws of Subframes and Lit, which hold for any S, level and row. Assumes nothing.
 use mathlib.Core.Path.{_≡_, refl, sym, ap, ap₂, _∙_}
-use mathlib.Core.Bool.{Bool, true, false, not, cond}
+use mathlib.Core.Bool.{Bool, true, false, cond}
 use Prim.Native.Nat.{ℕ, _+_, _-_, _*_, _/_, _≤_}
 use native.Mathlib.Omega.{arith}
 use lib.Dec.{eqb}
 use lib.IntN.{pos, negℤ}
 use lib.Signed.{_<ℤ_}
 use Rattle.tables.specs.Refusals.{first, answer}
-use Rattle.parts.specs.Parts.{Part, partOf, subframes}
-use Rattle.tables.proofs.Booleans.{or-second, or-none}
+use Rattle.parts.specs.Parts.{partOf, subframes}
 use Rattle.tables.proofs.Rows.{clear, none, accepted}
-use Rattle.device.specs.declared.device.Device.{Device}
-use Rattle.device.specs.Judgement.{fits}
 use Rattle.schedule.specs.declared.answer.Asked.the-variants as asked
 use Rattle.schedule.specs.declared.answer.Clocks.the-variants as clocks
-use Rattle.schedule.specs.Light.{count, total, level, isOn, leadOf, isEven, isLit, litAt, inRun, litFrom, litTo, litCount, litFirst, litEnd}
-use Rattle.schedule.specs.Answers.{positionOver, litRows, litAnswer, litClocksAnswer}
-use Rattle.schedule.specs.OfDevice.{activeValue, deviceRows, deviceAnswer, deviceClocksAnswer}
+use Rattle.schedule.specs.Light.{count, total, level, isOn, leadOf, isEven, isLit, inRun, litFrom, litTo, litCount, litFirst, litEnd}
+use Rattle.schedule.specs.Answers.{litRows, litAnswer, litClocksAnswer}
 use Rattle.schedule.proofs.Subframes.{level-lt, count-frame, count-quotients, lead-below}
-use Rattle.schedule.proofs.Lit.{lit-run, lit-first-end, run-empty, count-lit, total-lit, lit-on, position-zero}
+use Rattle.schedule.proofs.Lit.{lit-run, lit-first-end, run-empty, total-lit, lit-on, position-zero}
 
 -- a frame has exactly g + 1 ON subframes
 pub frame-on :
@@ -85,7 +81,7 @@ dark part value even h configuration global output subframe clock phase a e q =
     ∙ ap asked.Is (run-empty (litFrom (partOf part) value even) (litTo (partOf part) value even) clock h)
 
 -- what an accepted answer gives as first and end clock
-run-given : (n g h f e : ℕ) → answer n clocks.Refused (clocks.Run g h) ≡ clocks.Run f e → (g ≡ f) × (h ≡ e)
+pub run-given : (n g h f e : ℕ) → answer n clocks.Refused (clocks.Run g h) ≡ clocks.Run f e → (g ≡ f) × (h ≡ e)
 run-given n g h f e q = at (eqb n 0) q where
   at : (t : Bool) → cond t (clocks.Run g h) (clocks.Refused n) ≡ clocks.Run f e → (g ≡ f) × (h ≡ e)
   at true r = (cc, cc)
@@ -116,39 +112,7 @@ lit-clocks-accepted part configuration value output subframe clock phase a =
     none (litRows part configuration value output subframe 0 phase)
     (n .0, (n .1 .0, (position-zero (partOf part) configuration output subframe clock phase (n .1 .1 .0), tt)))
 
--- of a device record, the same
-pub device-clocks :
-    (d : Device) (output subframe clock phase f e : ℕ)
-    → deviceClocksAnswer d output subframe phase ≡ clocks.Run f e
-    → first (deviceRows d output subframe clock phase) ≡ 0
-    → deviceAnswer d output subframe clock phase ≡ asked.Is (inRun f e clock)
-unfolding deviceAnswer deviceClocksAnswer
-device-clocks d output subframe clock phase f e q a =
-    let r = d .registers in
-    let p = partOf (r .part) in
-    let v = activeValue r output phase in
-    let g = run-given (first (deviceRows d output subframe 0 phase)) (litFirst p (r .configuration) (r .active) v output subframe) (litEnd p (r .configuration) (r .active) v output subframe) f e q in
-    sym
-    (accepted asked.Refused refl a
-    (ap asked.Is
-    (sym (lit-first-end p (r .configuration) (r .active) v output subframe clock ∙ ap₂ (λ (m n : ℕ). inRun m n clock) (g .0) (g .1)))))
-
-pub device-clocks-accepted :
-    (d : Device) (output subframe clock phase : ℕ)
-    → first (deviceRows d output subframe clock phase) ≡ 0
-    → first (deviceRows d output subframe 0 phase) ≡ 0
-device-clocks-accepted d output subframe clock phase a =
-    let r = d .registers in
-    let n = clear (deviceRows d output subframe clock phase) refl a in
-    let o = or-none (not (fits d)) (positionOver (partOf (r .part)) (r .configuration) output subframe clock phase) (n .1 .0) in
-    none (deviceRows d output subframe 0 phase)
-    (n .0, (or-second (o .0) (position-zero (partOf (r .part)) (r .configuration) output subframe clock phase (o .1)), tt))
-
--- of an ON subframe's clocks, those of the value outside the edge zones are lit, whether the output is even or odd
-pub lit-count : (p : Part) (value output : ℕ) → count (litAt p value output) 0 (p .clocks) ≡ litCount p value
-lit-count p value output = count-lit p value output
-
--- so in a frame, over its subframes and their clocks, g + 1 times as many
+-- in a frame, over its subframes and their clocks, g + 1 times as many clocks are lit as in an ON subframe
 pub frame-lit :
     (part configuration global value output : ℕ)
     → total (λ s. count (isLit (partOf part) configuration global value output s) 0 (partOf part .clocks)) (subframes (partOf part) configuration)

@@ -1,6 +1,5 @@
--- Laws of light: signed differences, ON subframes, lit clocks, device records, and the claims for each part.
+-- Laws of light: signed differences, ON subframes, lit clocks, and the claims for each part.
 pub mod Signed
 pub mod Subframes
 pub mod Lit
-pub mod Records
 pub mod Claims

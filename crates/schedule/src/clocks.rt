@@ -19,11 +19,8 @@ pub fn is_output_lit(
     requires { ⌜ (subframe < subframes (partOf part) configuration) × (value < limit (partOf part)) ⌝ }
     ensures { λ r. ⌜ r ≡ isLit (partOf part) configuration global value output subframe clock ⌝ }
 {
-    if is_subframe_on(part, configuration, global, subframe) {
-        is_clock_lit(part, value, output, clock)
-    } else {
-        false
-    }
+    is_subframe_on(part, configuration, global, subframe)
+        && is_clock_lit(part, value, output, clock)
 }
 
 // In an ON subframe at those of its value, outside the edge zones.

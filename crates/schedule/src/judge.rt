@@ -62,7 +62,7 @@ pub fn judge_lit(
 }
 
 // The part and its configuration do not have the position.
-pub fn is_position_over(
+fn is_position_over(
     part: u16,
     configuration: u8,
     output: u32,

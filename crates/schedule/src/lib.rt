@@ -1,9 +1,8 @@
 // Light: is a subframe ON, how far a window of subframes leads, is an output lit, and at which clocks. What they mean is in specs/Light;
-// what they answer, refusals included, is in specs/Answers and, of a device record, in specs/OfDevice.
+// what they answer, refusals included, is in specs/Answers.
 mod answer;
 mod clocks;
 mod judge;
-mod of_device;
 mod questions;
 mod run;
 mod subframe;
@@ -11,8 +10,6 @@ mod subframe;
 pub use answer::Asked;
 pub use answer::Clocks;
 pub use answer::Lead;
-pub use of_device::device_lit_clocks;
-pub use of_device::is_device_lit;
 pub use questions::is_lit;
 pub use questions::is_on;
 pub use questions::lead_of;

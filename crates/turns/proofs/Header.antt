@@ -1,7 +1,8 @@
--- A header leaves any device before the first bit of its slice, whatever it did before, and nothing is sent. SYNC pushes all that was there out
--- of the window; the command bits are read as numbers, by cases; the count bits by induction, after a leading one.
+-- A header leaves any record before the first bit of its slice, whatever it did before, and nothing is sent. SYNC pushes all that was there out
+-- of the window; the command bits are read as numbers, by cases; the count bits by induction, after a leading one. The same of the model's
+-- device, whose rows and registers are any and which keeps the bits as lists, is `headed` of model/proofs/Frame: neither law gives the other.
 use mathlib.Core.Path.{_≡_, refl, ap, _∙_}
-use mathlib.Core.List.{List, [], _∷_, _++_, append-assoc}
+use mathlib.Core.List.{List, [], _∷_}
 use Prim.Native.Nat.{ℕ, zero, suc, _+_, _*_, _/_, _%_, _^_, _<_, _≤_}
 use native.Mathlib.Nat.{mod-lt, pow-succ', mul-le-mul-left, mul-assoc, add-mul}
 use native.Mathlib.Omega.{arith}
@@ -9,80 +10,43 @@ use lib.Dec.{lit<}
 use lib.Arith.{mod-mul}
 use lib.Pow.{pow-pos}
 use borrow.Author.Tests.{lt-ltb, le-ltb}
+use Rattle.machine.specs.Machine as machine
 use Rattle.parts.specs.Parts.{code}
 use Rattle.parts.proofs.Laws.{command-code}
 use Rattle.parts.specs.Wire.{header, statesOf}
 use Rattle.parts.specs.declared.command.Command.{Command}
 use Rattle.parts.specs.declared.command.Command.the-variants.{Individual, Calibration, Global, Configuration}
-use Rattle.device.specs.Phases.{phaseOf, placeOf, windowOf}
-use Rattle.device.specs.Step.{step, stepHigh, sentStates, at}
-use Rattle.device.specs.Run.{run}
-use Rattle.device.specs.declared.phase.Phase.{Phase}
-use Rattle.device.specs.declared.phase.Phase.the-variants.{Hunting, Counting, Slice}
-use Rattle.device.specs.declared.registers.Registers.{Registers}
+use Rattle.phases.specs.Phases.{phaseOf, placeOf, windowOf, pushed}
+use Rattle.device.specs.Step.{step, stepHigh, at}
+use Rattle.device.specs.Run.{stepRecord, run}
+use Rattle.phases.specs.declared.phase.Phase.{Phase}
+use Rattle.phases.specs.declared.phase.Phase.the-variants.{Hunting, Counting, Slice}
+use Rattle.registers.specs.declared.registers.Registers.{Registers}
 use Rattle.device.specs.declared.device.Device.{Device}
 use Rattle.turns.specs.Front.{sliceStart}
 use Rattle.turns.proofs.Lines.{bitStates, header-parts}
 
--- a run of two lists is the run of the first and then of the second
-pub run-append : (d : Device) (xs ys : List ℕ) → run d (xs ++ ys) ≡ (run (run d xs .0) ys .0, run d xs .1 ++ run (run d xs .0) ys .1)
-unfolding run
-run-append d [] ys = refl
-run-append d (x ∷ xs) ys =
-    rw append-assoc
-    (ap (λ (p : Device × List ℕ). (p .0, sentStates (step d x .sent) ++ p .1)) (run-append (step d x .device) xs ys))
-
-pub run-then : (d : Device) (xs ys : List ℕ) {e f : Device} {ss ts : List ℕ} → run d xs ≡ (e, ss) → run e ys ≡ (f, ts) → run d (xs ++ ys) ≡ (f, ss ++ ts)
-run-then d xs ys p q = run-append d xs ys ∙ rw (p, q)
-
 -- ---- SYNC
 
--- the window that a record holds is kept below 256
-again : (m s : ℕ) → (m % 256 % 256 * 2 + s) % 256 ≡ (m % 256 * 2 + s) % 256
-again m s = omega arith
+-- a bit into the window, which a record keeps below 256
+abbrev push : ℕ → ℕ → ℕ
+push w b = pushed (w % 256) b 256
 
--- eight bits push all that was there out of the window
-eight : (w : ℕ) → ((((((((w * 2 + 1) % 256 * 2 + 1) % 256 * 2 + 1) % 256 * 2 + 0) % 256 * 2 + 1) % 256 * 2 + 0) % 256 * 2 + 0) % 256 * 2 + 0) % 256 ≡ 232
+-- eight bits push all that was there out of it
+eight : (w : ℕ) → push (push (push (push (push (push (push ((w * 2 + 1) % 256) 1) 1) 0) 1) 0) 0) 0 ≡ 0xE8
 eight w = omega arith
 
-abbrev hunting : Registers → ℕ → Device
-hunting r w = at r (Hunting w)
-
--- a run over a low state
-hears : (r : Registers) (m : ℕ) (xs : List ℕ) (s : ℕ) → s < 2 → run (hunting r (m % 256)) (s ∷ xs) ≡ run (hunting r ((m % 256 * 2 + s) % 256)) xs
-unfolding run
-hears r m xs s h = rw (lt-ltb s 2 h, again m s) refl
-
-first-hears : (d : Device) (xs : List ℕ) → run d (1 ∷ xs) ≡ run (hunting (d .registers) ((windowOf (phaseOf (d .place)) * 2 + 1) % 256)) xs
-unfolding run
-first-hears d xs = refl
-
-synced : (d : Device) (xs : List ℕ) → run d (1 ∷ 1 ∷ 1 ∷ 0 ∷ 1 ∷ 0 ∷ 0 ∷ 0 ∷ xs) ≡ run (hunting (d .registers) 0xE8) xs
-synced d xs =
-    let r = d .registers in
-    let w = windowOf (phaseOf (d .place)) in
-    let m1 : ℕ = w * 2 + 1 in
-    let m2 : ℕ = m1 % 256 * 2 + 1 in
-    let m3 : ℕ = m2 % 256 * 2 + 1 in
-    let m4 : ℕ = m3 % 256 * 2 + 0 in
-    let m5 : ℕ = m4 % 256 * 2 + 1 in
-    let m6 : ℕ = m5 % 256 * 2 + 0 in
-    let m7 : ℕ = m6 % 256 * 2 + 0 in
-    first-hears d (1 ∷ 1 ∷ 0 ∷ 1 ∷ 0 ∷ 0 ∷ 0 ∷ xs)
-    ∙ hears r m1 (1 ∷ 0 ∷ 1 ∷ 0 ∷ 0 ∷ 0 ∷ xs) 1 (lit< tt)
-    ∙ hears r m2 (0 ∷ 1 ∷ 0 ∷ 0 ∷ 0 ∷ xs) 1 (lit< tt)
-    ∙ hears r m3 (1 ∷ 0 ∷ 0 ∷ 0 ∷ xs) 0 (lit< tt)
-    ∙ hears r m4 (0 ∷ 0 ∷ 0 ∷ xs) 1 (lit< tt)
-    ∙ hears r m5 (0 ∷ 0 ∷ xs) 0 (lit< tt)
-    ∙ hears r m6 (0 ∷ xs) 0 (lit< tt)
-    ∙ hears r m7 xs 0 (lit< tt)
-    ∙ ap (λ (n : ℕ). run (hunting r n) xs) (eight w)
+synced : (d : Device) (xs : List ℕ) → run d (1 ∷ 1 ∷ 1 ∷ 0 ∷ 1 ∷ 0 ∷ 0 ∷ 0 ∷ xs) ≡ run (at (d .registers) (Hunting 0xE8)) xs
+unfolding machine.run stepRecord
+synced d xs = ap (λ (w : ℕ). run (at (d .registers) (Hunting w)) xs) (eight (windowOf (phaseOf (d .place))))
 
 -- ---- the command
 
 commanded : (r : Registers) (c : Command) (xs : List ℕ)
-    → run (hunting r 0xE8) ((code c / 2 % 2 + 2) ∷ (code c / 1 % 2 + 2) ∷ (code c / 2 % 2 + 2) ∷ (code c / 1 % 2 + 2) ∷ (code c / 2 % 2 + 2) ∷ (code c / 1 % 2 + 2) ∷ xs) ≡ run (at r (Counting c 1)) xs
-unfolding run
+    → let high = code c / 2 % 2 + 2 in
+    let low = code c / 1 % 2 + 2 in
+    run (at r (Hunting 0xE8)) (high ∷ low ∷ high ∷ low ∷ high ∷ low ∷ xs) ≡ run (at r (Counting c 1)) xs
+unfolding machine.run stepRecord
 commanded r Individual xs = refl
 commanded r Calibration xs = refl
 commanded r Global xs = refl
@@ -106,7 +70,7 @@ high-load r p b e = let h : 2 ≤ b + 2 = omega arith in rw (le-ltb (b + 2) 2 h,
 -- the count bits that are left, after m
 counted : (k : ℕ) (r : Registers) (c : Command) (n m v : ℕ) → v ≡ m * 2 ^ suc k + n % 2 ^ suc k → 1024 ≤ v → v < 2048
     → run (at r (Counting c m)) (bitStates (suc k) n) ≡ (at r (Slice c (v % 1024) 0), [])
-unfolding run bitStates
+unfolding machine.run stepRecord bitStates
 counted zero r c n m v e l u =
     let b : n / 2 ^ 0 % 2 < 2 = mod-lt (n / 2 ^ 0) (lit< tt) in
     let f : v ≡ m * 2 + n / 2 ^ 0 % 2 = omega arith in

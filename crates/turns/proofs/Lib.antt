@@ -1,9 +1,10 @@
 -- Laws under a run of a lent chain.
 pub mod Lines
 pub mod Header
+pub mod Cases
+pub mod Phases
 pub mod Taking
 pub mod Turns
-pub mod Resuming
 pub mod Same
 pub mod Room
 pub mod Whole

@@ -1,40 +1,41 @@
 -- A run of n states returns at most n + 23, so an accepted run never lacks room. A device may send more than it takes only while a slice ends
 -- within the next 23 bits; what a device that is not passing sends begins with a low state, and after a low state no device has a surplus.
-use mathlib.Core.Path.{_≡_, refl, sym, subst}
-use mathlib.Core.Bool.{Bool, true, false, not, _&&_, cond, true≢false}
+use mathlib.Core.Path.{_≡_, refl, subst}
+use mathlib.Core.Bool.{Bool, true, false, not, _&&_}
 use mathlib.Core.List.{List, [], _∷_, _++_}
-use Prim.Native.Nat.{ℕ, suc, _+_, _-_, _*_, _/_, _%_, _<_, _≤_}
+use Prim.Native.Nat.{ℕ, suc, _+_, _-_, _*_, _/_, _%_, _≤_}
 use native.Mathlib.Nat.{le-trans, mul-le-mul-left}
 use native.Mathlib.Omega.{arith}
-use lib.Dec.{ltb, leb, eqb, lit≤}
+use lib.Dec.{ltb, eqb, lit≤}
 use lib.ListN.{length, length-append}
-use borrow.Author.Tests.{ltb-true, ltb-false, leb-true, eqb-true}
-use Rattle.parts.specs.Parts.{Part, partOf, multiplex, fieldWidth, fieldLimit, isCount}
-use Rattle.tables.specs.Lists.{allBelow}
+use borrow.Author.Tests.{ltb-true, ltb-false}
+use Rattle.machine.specs.Machine.{chain}
+use Rattle.machine.specs.Machine as machine
+use Rattle.machine.proofs.Machine.{run-nil}
+use Rattle.parts.specs.Parts.{Part, partOf, multiplex, fieldWidth, fieldLimit}
 use Rattle.tables.specs.Refusals.{first}
 use Rattle.parts.specs.Wire.{header, statesOf}
 use Rattle.parts.specs.declared.command.Command.{Command}
 use Rattle.parts.specs.declared.command.Command.the-variants.{Individual, Calibration, Global, Configuration}
 use Rattle.parts.proofs.Laws.{each-row, banks-three, command-code}
-use Rattle.tables.proofs.Rows.{clear}
-use Rattle.device.specs.Phases.{phaseOf, placeOf, heard, rising, opened, opening, counting}
-use Rattle.device.specs.Held.{took, stored, fault, raised}
-use Rattle.device.specs.Step.{step, stepHigh, moved, sending, sliceLength, sentStates, at}
-use Rattle.device.specs.Judgement.{phaseFits, samePlace, placeFits, flagsFit, valuesFit, fits}
-use Rattle.device.specs.Run.{run}
-use Rattle.device.specs.declared.phase.Phase.{Phase}
-use Rattle.device.specs.declared.phase.Phase.the-variants.{Hunting, Opening, Counting, Slice, Passing, Lost}
-use Rattle.device.specs.declared.phase.Sent.the-variants.{Header}
-use Rattle.device.specs.declared.registers.Registers.{Registers}
+use Rattle.phases.specs.Phases.{phaseOf, placeOf, heard, rising, opened, opening, counting, samePlace}
+use Rattle.registers.specs.Held.{took, fault, raised}
+use Rattle.device.specs.Step.{step, stepHigh, moved, sliceLength, sentStates, at}
+use Rattle.device.specs.Judgement.{phaseFits, placeFits, fits}
+use Rattle.registers.specs.Widths.{flagsFit, valuesFit}
+use Rattle.device.specs.Run.{stepRecord, run}
+use Rattle.phases.specs.declared.phase.Phase.{Phase}
+use Rattle.phases.specs.declared.phase.Phase.the-variants.{Hunting, Opening, Counting, Slice, Passing, Lost}
+use Rattle.registers.specs.declared.registers.Registers.{Registers}
 use Rattle.device.specs.declared.device.Device.{Device}
 use Rattle.device.specs.declared.device.Stepped.{Stepped}
-use Rattle.device.proofs.Fields.{field-width-pos}
-use Rattle.tables.proofs.Booleans.{and-both}
+use Rattle.registers.proofs.Fields.{field-width-pos}
+use Rattle.tables.proofs.Booleans.{and-both, cond-both}
 use Rattle.calls.specs.Chain.{through, allFit}
-use Rattle.calls.specs.Calls.{runTable, runRefusal}
+use Rattle.calls.proofs.Accepted.{Accepted}
 use Rattle.turns.specs.Front.{isPassing, passes}
 use Rattle.turns.proofs.Lines.{header-is, length-header-states}
-use Rattle.turns.proofs.Taking.{by-test, passer, Fine, on, ends, passes-at, fine-low, fine-step}
+use Rattle.turns.proofs.Taking.{passer, Fine, on, ends, passes-at, fine-low, fine-step}
 use Rattle.turns.proofs.Turns.{no-way}
 
 -- ---- what a device may send more than it takes
@@ -76,39 +77,39 @@ credit-at r Lost = refl
 moved-owes : (r : Registers) (p : Phase) (k : ℕ) → credit r p ≤ 1 + k → Owes k (moved r p)
 moved-owes r p k h = omega (arith, credit-at r p, h)
 
-opened-none : (r : Registers) (x : ℕ) → credit r (opened x) ≤ 1
+abbrev Free : Registers → Phase → Type 0
+Free r p = credit r p ≤ 1
+
+opened-none : (r : Registers) (x : ℕ) → Free r (opened x)
 opened-none r x =
-    by-test (eqb x 0) (Counting Individual 1) (cond (eqb x 21) (Counting Calibration 1) (cond (eqb x 42) (Counting Global 1) (cond (eqb x 63) (Counting Configuration 1) Lost))) Free (omega arith)
-    (by-test (eqb x 21) (Counting Calibration 1) (cond (eqb x 42) (Counting Global 1) (cond (eqb x 63) (Counting Configuration 1) Lost)) Free (omega arith)
-    (by-test (eqb x 42) (Counting Global 1) (cond (eqb x 63) (Counting Configuration 1) Lost) Free (omega arith)
-    (by-test (eqb x 63) (Counting Configuration 1) Lost Free (omega arith) (omega arith))))
-  where
-    Free : Phase → Type 0
-    Free p = credit r p ≤ 1
+    cond-both (Free r) (eqb x 0) _ _ (λ _. omega arith)
+    (λ _. cond-both (Free r) (eqb x 21) _ _ (λ _. omega arith)
+    (λ _. cond-both (Free r) (eqb x 42) _ _ (λ _. omega arith)
+    (λ _. cond-both (Free r) (eqb x 63) _ _ (λ _. omega arith) (λ _. omega arith))))
 
 high-credit : (r : Registers) (p : Phase) (s : ℕ) → Owes (credit r p) (stepHigh r p s)
-high-credit r (Hunting w) s = moved-owes r (rising w (s % 2)) 0 (by-test (eqb w 0xE8) (Opening (2 + s % 2)) Lost (λ (p : Phase). credit r p ≤ 1 + 0) (omega arith) (omega arith))
+high-credit r (Hunting w) s = moved-owes r (rising w (s % 2)) 0 (cond-both (Free r) (eqb w 0xE8) _ _ (λ _. omega arith) (λ _. omega arith))
 high-credit r (Opening a) s =
-    moved-owes r (opening a (s % 2)) 0 (by-test (ltb (a * 2 + s % 2) 64) (Opening (a * 2 + s % 2)) (opened (a * 2 + s % 2 - 64)) (λ (p : Phase). credit r p ≤ 1 + 0) (omega arith) (opened-none r (a * 2 + s % 2 - 64)))
+    let n = a * 2 + s % 2 in
+    moved-owes r (opening a (s % 2)) 0 (cond-both (Free r) (ltb n 64) _ _ (λ _. omega arith) (λ _. opened-none r (n - 64)))
 high-credit r (Counting c a) s =
-    moved-owes r (counting c a (s % 2)) 0
-    (by-test (ltb (a * 2 + s % 2) 1024) (Counting c (a * 2 + s % 2)) (Slice c ((a * 2 + s % 2) % 1024) 0) (λ (p : Phase). credit r p ≤ 1 + 0) (omega arith) (omega (arith, long r c)))
-high-credit r (Slice c n t) s = go (ltb (t + 1) (sliceLength r c)) refl
-  where
-    go : (u : Bool) → ltb (t + 1) (sliceLength r c) ≡ u
-        → Owes (24 - (sliceLength r c - t)) (cond u (moved (took r (t / fieldWidth (partOf (r .part)) c) (s % 2) (fieldLimit (partOf (r .part)) c)) (Slice c n (t + 1))) (sending (stored (took r (t / fieldWidth (partOf (r .part)) c) (s % 2) (fieldLimit (partOf (r .part)) c)) c) Passing (Header c (raised n (fault (took r (t / fieldWidth (partOf (r .part)) c) (s % 2) (fieldLimit (partOf (r .part)) c)) c)))))
-    go true e = moved-owes (took r (t / fieldWidth (partOf (r .part)) c) (s % 2) (fieldLimit (partOf (r .part)) c)) (Slice c n (t + 1)) (24 - (sliceLength r c - t)) (omega arith)
-    go false e = omega (arith, ltb-false (t + 1) (sliceLength r c) e, length-header-states c (raised n (fault (took r (t / fieldWidth (partOf (r .part)) c) (s % 2) (fieldLimit (partOf (r .part)) c)) c)))
+    let n = a * 2 + s % 2 in
+    moved-owes r (counting c a (s % 2)) 0 (cond-both (Free r) (ltb n 1024) _ _ (λ _. omega arith) (λ _. omega (arith, long r c)))
+high-credit r (Slice c n t) s =
+    let q : Registers = took r (t / fieldWidth (partOf (r .part)) c) (s % 2) (fieldLimit (partOf (r .part)) c) in
+    let k : ℕ = 24 - (sliceLength r c - t) in
+    cond-both (Owes k) (ltb (t + 1) (sliceLength r c)) _ _
+    (λ _. moved-owes q (Slice c n (t + 1)) k (omega arith))
+    (λ e. omega (arith, ltb-false (t + 1) (sliceLength r c) e, length-header-states c (raised n (fault q c))))
 high-credit r Passing s = omega arith
 high-credit r Lost s = omega arith
 
 step-credit : (d : Device) (s : ℕ) → Owes (credit (d .registers) (phaseOf (d .place))) (step d s)
 step-credit d s =
-    by-test (ltb s 2) (moved (d .registers) (heard (phaseOf (d .place)) s)) (stepHigh (d .registers) (phaseOf (d .place)) s) (Owes (credit (d .registers) (phaseOf (d .place))))
-    (omega arith) (high-credit (d .registers) (phaseOf (d .place)) s)
+    cond-both (Owes (credit (d .registers) (phaseOf (d .place)))) (ltb s 2) _ _ (λ _. omega arith) (λ _. high-credit (d .registers) (phaseOf (d .place)) s)
 
 run-credit : (d : Device) (xs : List ℕ) → length (run d xs .1) ≤ length xs + credit (d .registers) (phaseOf (d .place))
-unfolding run
+unfolding machine.run stepRecord
 run-credit d [] = omega arith
 run-credit d (s ∷ xs) =
     omega (arith, step-credit d s, run-credit (step d s .device) xs, length-append (sentStates (step d s .sent)) (run (step d s .device) xs .1))
@@ -129,36 +130,30 @@ fine-out _ xs (on {r} p e) rec = rec (at r p) (passes-at r p e)
 fine-out _ xs (ends {r} {c} {n} h) rec = header-low c n (run (passer r) xs .1)
 
 quiet-out : (d : Device) (xs : List ℕ) → passes d ≡ false → LowFirst (run d xs .1)
-unfolding run
+unfolding machine.run stepRecord
 quiet-out d [] e = none
 quiet-out d (s ∷ xs) e = fine-out (step d s) xs (fine-step d s e) (λ d′ e′. quiet-out d′ xs e′)
 
 -- after a low state any device
 low-out : (d : Device) (s : ℕ) (xs : List ℕ) → ltb s 2 ≡ true → LowFirst (run d (s ∷ xs) .1)
-unfolding run
+unfolding machine.run stepRecord
 low-out d s xs e = fine-out (step d s) xs (fine-low d s e) (λ d′ e′. quiet-out d′ xs e′)
 
 -- ---- no surplus after a low state; 23 at most before it
 low-credit : (d : Device) (s : ℕ) (xs : List ℕ) → ltb s 2 ≡ true → length (run d (s ∷ xs) .1) ≤ suc (length xs)
-unfolding run
-low-credit d s xs e =
-    subst (λ (u : Bool). length (outOf (cond u (moved (d .registers) (heard (phaseOf (d .place)) s)) (stepHigh (d .registers) (phaseOf (d .place)) s)) xs) ≤ suc (length xs)) (sym e)
-    (omega (arith, run-credit (at (d .registers) (heard (phaseOf (d .place)) s)) xs))
+unfolding machine.run stepRecord
+low-credit d s xs e = rw e (omega (arith, run-credit (at (d .registers) (heard (phaseOf (d .place)) s)) xs))
 
 record Tame (xs ys : List ℕ) : Type 0 where
   pub first : LowFirst ys
   pub short : length ys ≤ length xs
 
-none-out : (d : Device) → run d [] .1 ≡ []
-unfolding run
-none-out d = refl
-
 tame : (d : Device) (xs : List ℕ) → LowFirst xs → Tame xs (run d xs .1)
-tame d [] none = subst (Tame []) (sym (none-out d)) (record { first = none; short = omega arith })
+tame d [] none = rw (run-nil stepRecord d) (record { first = none; short = omega arith })
 tame d (s ∷ xs) (low e) = record { first = low-out d s xs e; short = low-credit d s xs e }
 
 low-through : (ds : List Device) (xs : List ℕ) → LowFirst xs → length (through ds xs .1) ≤ length xs
-unfolding through
+unfolding chain
 low-through [] xs h = omega arith
 low-through (d ∷ ds) xs h = let t : Tame xs (run d xs .1) = tame d xs h in omega (arith, t .short, low-through ds (run d xs .1) (t .first))
 
@@ -185,7 +180,7 @@ passing-credit r Passing e = omega arith
 passing-credit r Lost e = omega arith
 
 pub surplus : (ds : List Device) (xs : List ℕ) → allFit ds ≡ true → length (through ds xs .1) ≤ length xs + 23
-unfolding through
+unfolding chain
 surplus [] xs e = omega arith
 surplus (d ∷ ds) xs e = go (surplus ds (run d xs .1) (and-both (fits d) (allFit ds) e .1)) (passes d) refl
   where
@@ -194,25 +189,6 @@ surplus (d ∷ ds) xs e = go (surplus ds (run d xs .1) (and-both (fits d) (allFi
     go rest false h = omega (arith, low-through ds (run d xs .1) (quiet-out d xs h), run-credit d xs, place-credit d (and-both (fits d) (allFit ds) e .0))
 
 -- ---- an accepted run
-
-pub record Accepted (ds : List Device) (ss : List ℕ) (room : ℕ) : Type 0 where
-  pub some : 0 < length ds
-  pub few : length ds < 1024
-  pub enoughRoom : length ss + 23 ≤ room
-  pub fit : allFit ds ≡ true
-
-pub accepted-run : (ds : List Device) (ss : List ℕ) (room : ℕ) → eqb (runRefusal ds ss room) 0 ≡ true → Accepted ds ss room
-unfolding runRefusal
-accepted-run ds ss room e =
-    let c = clear (runTable ds ss room) refl (eqb-true (first (runTable ds ss room)) 0 e) in
-    let n : (leb 1 (length ds) ≡ true) × (leb (length ds) 1023 ≡ true) = and-both (leb 1 (length ds)) (leb (length ds) 1023) (not-no (isCount (length ds)) (c .1 .0)) in
-    let l : length ds ≤ 1023 = leb-true (length ds) 1023 (n .1) in
-    let f : (allBelow ss 4 ≡ true) × (allFit ds ≡ true) = and-both (allBelow ss 4) (allFit ds) (not-no (allBelow ss 4 && allFit ds) (c .1 .1 .1 .1 .0)) in
-    record { some = leb-true 1 (length ds) (n .0); few = omega (arith, l); enoughRoom = ltb-false room (length ss + 23) (c .1 .1 .1 .0); fit = f .1 }
-  where
-    not-no : (b : Bool) → not b ≡ false → b ≡ true
-    not-no true h = refl
-    not-no false h = absurd (true≢false h)
 
 -- an accepted run has room for what it returns
 pub room-enough : (ds : List Device) (ss : List ℕ) (room : ℕ) → Accepted ds ss room → length (through ds ss .1) ≤ room

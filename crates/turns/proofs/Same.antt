@@ -1,36 +1,38 @@
 -- A run by its front is the plain chain: each turn leaves what is still to come as it was. Between turns the devices are those before the
 -- front, which pass, and the rest; what the first ones send of the states left, after a header under way, goes into the rest.
 use mathlib.Core.Path.{_≡_, refl, ap, sym, _∙_, subst}
-use mathlib.Core.Bool.{Bool, true, false, not, _&&_, cond, true≢false}
+use mathlib.Core.Bool.{Bool, true, false, _&&_, cond, true≢false}
 use mathlib.Core.List.{List, [], _∷_, _++_, append-assoc}
 use Prim.Native.Nat.{ℕ, zero, suc, _+_, _<_, _≤_}
 use native.Mathlib.Omega.{arith}
-use lib.Dec.{ltb, leb, eqb}
+use lib.Dec.{ltb, leb}
 use lib.ListN.{length, getD, set, take, drop, length-append, take-append-drop}
 use lib.Seq.{set-at, set-getD, getD-at, drop-drop, drop-append-seam, length-take-le}
-use borrow.Author.Tests.{ltb-true, ltb-false, leb-true, leb-false, eqb-true, eq-eqb}
+use borrow.Author.Tests.{ltb-true, ltb-false, leb-true, leb-false}
+use Rattle.machine.specs.Machine.{chain}
+use Rattle.machine.proofs.Machine.{run-nil, run-then, chain-nil, chain-devices}
 use Rattle.parts.specs.Wire.{header, statesOf}
 use Rattle.parts.specs.declared.command.Command.{Command}
-use Rattle.device.specs.Phases.{phaseOf, placeOf}
+use Rattle.phases.specs.Phases.{phaseOf, placeOf}
 use Rattle.device.specs.Step.{sentStates}
 use Rattle.device.specs.Judgement.{fits, placeFits}
-use Rattle.device.specs.Run.{run}
-use Rattle.device.specs.declared.phase.Place.{Place}
-use Rattle.device.specs.declared.phase.Phase.{Phase}
-use Rattle.device.specs.declared.phase.Phase.the-variants.{Hunting, Opening, Counting, Slice, Passing, Lost}
-use Rattle.device.specs.declared.phase.Sent.{Sent}
-use Rattle.device.specs.declared.phase.Sent.the-variants.{Nothing, One, Header}
-use Rattle.device.specs.declared.registers.Registers.{Registers}
+use Rattle.device.specs.Run.{stepRecord, run}
+use Rattle.phases.specs.declared.phase.Place.{Place}
+use Rattle.phases.specs.declared.phase.Phase.{Phase}
+use Rattle.phases.specs.declared.phase.Phase.the-variants.{Hunting, Opening, Counting, Slice, Passing, Lost}
+use Rattle.phases.specs.declared.phase.Sent.{Sent}
+use Rattle.phases.specs.declared.phase.Sent.the-variants.{Nothing, One, Header}
+use Rattle.registers.specs.declared.registers.Registers.{Registers}
 use Rattle.device.specs.declared.device.Device.{Device}
 use Rattle.device.proofs.Places.{place-phase}
-use Rattle.intake.specs.Intake.{stopped}
+use Rattle.intake.specs.Intake.{stopped, highTaken}
 use Rattle.intake.specs.declared.states.Taken.{Taken}
 use Rattle.calls.specs.Chain.{through, allFit, blank}
 use Rattle.turns.specs.declared.cursor.Cursor.{Cursor}
-use Rattle.turns.specs.Front.{isPassing, passes, untilSent, frontTaken, sliceStart, deviceTaken, putAll, putEnd, highs, indexOf, cursor, facing, aimed, frontAfter, lineCursor, lineOut, deviceTurn, turnedOut, Running, turning, turns, started, enough, frontRun, Turned}
+use Rattle.turns.specs.Front.{isPassing, passes, roamed, roamTaken, frontTaken, sliceStart, deviceTaken, putAll, putEnd, highs, indexOf, cursor, facing, aimed, frontAfter, lineCursor, lineOut, deviceTurn, turnedOut, Running, turning, turns, started, enough, frontRun, Turned}
 use Rattle.turns.proofs.Lines.{put-full, length-put, put-append, highs-fit, length-header-states}
-use Rattle.turns.proofs.Header.{run-then, run-header}
-use Rattle.turns.proofs.Taking.{by-test, through-append, High, AllPass, none, also, passer, through-high, Takes, takes-none, takes, Ending, quiet, sent, endings, ending-low}
+use Rattle.turns.proofs.Header.{run-header}
+use Rattle.turns.proofs.Taking.{by-test, High, AllPass, none, also, passer, through-high, Takes, takes-none, takes, takes-low, Ending, quiet, sent, endings, ending-low}
 use Rattle.turns.proofs.Turns.{no-way, owed, low-front, lineTurn, turnWithin, turned-is, turned-out-is, Good, measure, good-start, good-next, nearer-next, turns-on, turns-stop, near-start}
 use Rattle.tables.proofs.Booleans.{and-left}
 
@@ -58,36 +60,36 @@ abbrev mid : Whole → Device → List ℕ → List Device → Whole
 mid a e q qs = (a .0 ++ (run e (a .1) .0 ∷ through qs (q ++ run e (a .1) .1) .0), through qs (q ++ run e (a .1) .1) .1)
 
 here : (a : Whole) (e : Device) (qs : List Device) → joined a (e ∷ qs) [] ≡ mid a e [] qs
-unfolding through
+unfolding chain
 here a e qs = refl
 
 one-device : (e : Device) (ss : List ℕ) → through (e ∷ []) ss ≡ (run e ss .0 ∷ [], run e ss .1)
-unfolding through
+unfolding chain
 one-device e ss = refl
 
 moves-on : (ps : List Device) (e : Device) (qs : List Device) (q rest : List ℕ) → joined (through (ps ++ (e ∷ [])) rest) qs q ≡ mid (through ps rest) e q qs
 moves-on ps e qs q rest =
-    ap (λ (a : Whole). joined a qs q) (through-append ps (e ∷ []) rest)
+    ap (λ (a : Whole). joined a qs q) (chain-devices stepRecord ps (e ∷ []) rest)
     ∙ ap (λ (b : Whole). joined (through ps rest .0 ++ b .0, b .1) qs q) (one-device e (through ps rest .1))
     ∙ ap (λ (ds : List Device). (ds, through qs (q ++ run e (through ps rest .1) .1) .1)) (append-assoc (through ps rest .0) (run e (through ps rest .1) .0 ∷ []) (through qs (q ++ run e (through ps rest .1) .1) .0))
 
 -- the states that a device takes go by the devices before it, which pass: there are none, or the states are high
-goes-by : (first : Bool) (ps : List Device) (d : Device) (ss : List ℕ) (k : ℕ) (t : Taken) → AllPass ps → (first ≡ true → ps ≡ []) → (x : Takes first d ss k t)
+goes-by : (low : Bool) (ps : List Device) (d : Device) (ss : List ℕ) (k : ℕ) (t : Taken) → AllPass ps → (low ≡ true → ps ≡ []) → (x : Takes low d ss k t)
     → through ps (x .own ++ x .rest) ≡ (through ps (x .rest) .0, x .own ++ through ps (x .rest) .1)
-unfolding through
+unfolding chain
 goes-by true ps d ss k t a h x =
     subst (λ (bs : List Device). through bs (x .own ++ x .rest) ≡ (through bs (x .rest) .0, x .own ++ through bs (x .rest) .1)) (sym (h refl)) refl
 goes-by false ps d ss k t a h x = through-high ps (x .own) (x .rest) a (x .high refl)
 
 -- a device takes the header that is under way and then states
-takes-on : (first : Bool) (ps qs : List Device) (d d0 : Device) (ins rest : List ℕ) (k : ℕ) (t : Taken) → AllPass ps → (first ≡ true → ps ≡ []) → run d ins ≡ (d0, []) → (x : Takes first d0 rest k t)
+takes-on : (low : Bool) (ps qs : List Device) (d d0 : Device) (ins rest : List ℕ) (k : ℕ) (t : Taken) → AllPass ps → (low ≡ true → ps ≡ []) → run d ins ≡ (d0, []) → (x : Takes low d0 rest k t)
     → joined (through ps rest) (d ∷ qs) ins ≡ mid (through ps (x .rest)) (t .device) (sentStates (t .sent)) qs
-unfolding through
-takes-on first ps qs d d0 ins rest k t a f h x =
+unfolding chain
+takes-on low ps qs d d0 ins rest k t a f h x =
     ap (λ (r : List ℕ). joined (through ps r) (d ∷ qs) ins) (x .whole)
-    ∙ ap (λ (b : Whole). joined b (d ∷ qs) ins) (goes-by first ps d0 rest k t a f x)
+    ∙ ap (λ (b : Whole). joined b (d ∷ qs) ins) (goes-by low ps d0 rest k t a f x)
     ∙ ap (λ (y : Device × List ℕ). (through ps (x .rest) .0 ++ (y .0 ∷ through qs (y .1) .0), through qs (y .1) .1))
-    (run-then d ins (x .own ++ through ps (x .rest) .1) h (run-then d0 (x .own) (through ps (x .rest) .1) (x .runs) refl))
+    (run-then stepRecord d ins (x .own ++ through ps (x .rest) .1) h (run-then stepRecord d0 (x .own) (through ps (x .rest) .1) (x .runs) refl))
 
 -- ---- what holds between turns
 -- a record that passes has the numbers of that phase alone
@@ -132,13 +134,13 @@ module _ (ss : List ℕ) (fin : List Device × (List ℕ × ℕ)) where
       ap (λ (n : ℕ). drop n ss) h ∙ sym (drop-drop (length hs) at ss) ∙ ap (λ (xs : List ℕ). drop (length hs) xs) e ∙ drop-append-seam hs rest
 
   -- the front device d, with what is under way, becomes e and sends nothing
-  stays : (first : Bool) (ps qs : List Device) (d d0 e : Device) (ws : List ℕ) (f at k w : ℕ) (ins : List ℕ) → length ps ≡ f → AllPass ps → (first ≡ true → ps ≡ []) → AllNeat (e ∷ qs) → run d ins ≡ (d0, []) → Takes first d0 (drop at ss) at (stopped e k Nothing)
+  stays : (low : Bool) (ps qs : List Device) (d d0 e : Device) (ws : List ℕ) (f at k w : ℕ) (ins : List ℕ) → length ps ≡ f → AllPass ps → (low ≡ true → ps ≡ []) → AllNeat (e ∷ qs) → run d ins ≡ (d0, []) → Takes low d0 (drop at ss) at (stopped e k Nothing)
       → joined (through ps (drop at ss)) (d ∷ qs) ins .0 ≡ fin .0 → wrote ws w (joined (through ps (drop at ss)) (d ∷ qs) ins .1) ≡ fin .1
       → Holds (set (ps ++ d ∷ qs) f e) ws f k w Nothing
   unfolding Small
-  stays first ps qs d d0 e ws f at k w ins l a z ne h x u v =
+  stays low ps qs d d0 e ws f at k w ins l a z ne h x u v =
       let m : joined (through ps (drop at ss)) (d ∷ qs) ins ≡ joined (through ps (drop k ss)) (e ∷ qs) [] =
-      takes-on first ps qs d d0 ins (drop at ss) at (stopped e k Nothing) a z h x ∙ sym (here (through ps (x .rest)) e qs) ∙ ap (λ (r : List ℕ). joined (through ps r) (e ∷ qs) []) (sym (left at k (x .own) (x .rest) (x .whole) (x .far))) in
+      takes-on low ps qs d d0 ins (drop at ss) at (stopped e k Nothing) a z h x ∙ sym (here (through ps (x .rest)) e qs) ∙ ap (λ (r : List ℕ). joined (through ps r) (e ∷ qs) []) (sym (left at k (x .own) (x .rest) (x .whole) (x .far))) in
       record {
         ps = ps;
         qs = e ∷ qs;
@@ -152,14 +154,14 @@ module _ (ss : List ℕ) (fin : List Device × (List ℕ × ℕ)) where
       }
 
   -- the front device d, with what is under way, becomes t's
-  after : (first : Bool) (ps qs : List Device) (d d0 : Device) (ws : List ℕ) (f at w : ℕ) (ins : List ℕ) (t : Taken) → length ps ≡ f → AllPass ps → (first ≡ true → ps ≡ []) → AllNeat qs → run d ins ≡ (d0, []) → Takes first d0 (drop at ss) at t → Ending t
+  after : (low : Bool) (ps qs : List Device) (d d0 : Device) (ws : List ℕ) (f at w : ℕ) (ins : List ℕ) (t : Taken) → length ps ≡ f → AllPass ps → (low ≡ true → ps ≡ []) → AllNeat qs → run d ins ≡ (d0, []) → Takes low d0 (drop at ss) at t → Ending t
       → joined (through ps (drop at ss)) (d ∷ qs) ins .0 ≡ fin .0 → wrote ws w (joined (through ps (drop at ss)) (d ∷ qs) ins .1) ≡ fin .1
       → Holds (set (ps ++ d ∷ qs) f (t .device)) ws (frontAfter f (t .sent)) (t .at) w (t .sent)
   unfolding Small
-  after first ps qs d d0 ws f at w ins t l a z ne h x (quiet {d = e} {k} p) u v = stays first ps qs d d0 e ws f at k w ins l a z ((λ q. absurd (true≢false (sym q ∙ p))), ne) h x u v
-  after first ps qs d d0 ws f at w ins t l a z ne h x (sent {r} {k} {c} {n} few) u v =
+  after low ps qs d d0 ws f at w ins t l a z ne h x (quiet {d = e} {k} p) u v = stays low ps qs d d0 e ws f at k w ins l a z ((λ q. absurd (true≢false (sym q ∙ p))), ne) h x u v
+  after low ps qs d d0 ws f at w ins t l a z ne h x (sent {r} {k} {c} {n} few) u v =
       let m : joined (through ps (drop at ss)) (d ∷ qs) ins ≡ joined (through (ps ++ (passer r ∷ [])) (drop k ss)) qs (headerStates c n) =
-      takes-on first ps qs d d0 ins (drop at ss) at (stopped (passer r) k (Header c n)) a z h x ∙ sym (moves-on ps (passer r) qs (headerStates c n) (x .rest)) ∙ ap (λ (y : List ℕ). joined (through (ps ++ (passer r ∷ [])) y) qs (headerStates c n)) (sym (left at k (x .own) (x .rest) (x .whole) (x .far))) in
+      takes-on low ps qs d d0 ins (drop at ss) at (stopped (passer r) k (Header c n)) a z h x ∙ sym (moves-on ps (passer r) qs (headerStates c n) (x .rest)) ∙ ap (λ (y : List ℕ). joined (through (ps ++ (passer r ∷ [])) y) qs (headerStates c n)) (sym (left at k (x .own) (x .rest) (x .whole) (x .far))) in
       record {
         ps = ps ++ (passer r ∷ []);
         qs = qs;
@@ -174,24 +176,16 @@ module _ (ss : List ℕ) (fin : List Device × (List ℕ × ℕ)) where
 
   -- ---- the turn of a device, by what comes next
 
-  nothing-in : (d : Device) → run d [] ≡ (d, [])
-  unfolding run
-  nothing-in d = refl
-
-  first-none : (f : ℕ) (ps : List Device) → length ps ≡ f → eqb f 0 ≡ true → ps ≡ []
-  first-none f ps l e = no-more ps (l ∙ eqb-true f 0 e)
-
   HoldsTaken : List Device → List Device → Device → List ℕ → ℕ → ℕ → Taken → Type 0
   HoldsTaken ps qs d ws f w t = Holds (set (ps ++ d ∷ qs) f (t .device)) ws (frontAfter f (t .sent)) (t .at) w (t .sent)
 
   fronts : (ps qs : List Device) (d : Device) (ws : List ℕ) (f at w : ℕ) (rest : List ℕ) → drop at ss ≡ rest → length ps ≡ f → AllPass ps → AllNeat (d ∷ qs)
       → ((s : ℕ) (xs : List ℕ) → rest ≡ s ∷ xs → ltb s 2 ≡ true → f ≡ 0)
       → joined (through ps (drop at ss)) (d ∷ qs) [] .0 ≡ fin .0 → wrote ws w (joined (through ps (drop at ss)) (d ∷ qs) [] .1) ≡ fin .1
-      → HoldsTaken ps qs d ws f w (frontTaken (eqb f 0) d rest at)
+      → HoldsTaken ps qs d ws f w (frontTaken d rest at)
   unfolding HoldsTaken Small
-  fronts ps qs d ws f at w [] e l a ne z u v =
-      stays (eqb f 0) ps qs d d d ws f at at w [] l a (first-none f ps l) ne (nothing-in d) (takes-none (eqb f 0) d (drop at ss) at) u v
-  fronts ps qs d ws f at w (s ∷ xs) e l a ne z u v = go (passes d) refl (ltb s 2) refl
+  fronts ps qs d ws f at w [] e l a ne z u v = stays false ps qs d d d ws f at at w [] l a (λ x. absurd (true≢false (sym x))) ne (run-nil stepRecord d) (takes-none false d (drop at ss) at) u v
+  fronts ps qs d ws f at w (s ∷ xs) e l a ne z u v = go (ltb s 2) refl (passes d) refl
     where
       passing : d ≡ passer (d .registers) → Holds (set (ps ++ d ∷ qs) f d) ws (f + 1) at w (One 0)
       passing g =
@@ -208,33 +202,33 @@ module _ (ss : List ℕ) (fin : List Device × (List ℕ × ℕ)) where
             out = sym (ap (λ (b : Whole). wrote ws w (b .1)) m) ∙ v;
           }
 
-      taking : Ending (untilSent (eqb f 0) d (s ∷ xs) at) → HoldsTaken ps qs d ws f w (untilSent (eqb f 0) d (s ∷ xs) at)
-      taking end =
-          after (eqb f 0) ps qs d d ws f at w [] (untilSent (eqb f 0) d (s ∷ xs) at) l a (first-none f ps l) (ne .1) (nothing-in d)
-          (subst (λ (r : List ℕ). Takes (eqb f 0) d r at (untilSent (eqb f 0) d (s ∷ xs) at)) (sym e) (takes (eqb f 0) d (s ∷ xs) at)) end u v
-
-      go : (p : Bool) → passes d ≡ p → (low : Bool) → ltb s 2 ≡ low → HoldsTaken ps qs d ws f w (cond (p && not low) (stopped d at (One 0)) (untilSent (eqb f 0) d (s ∷ xs) at))
-      go true g false h = passing (ne .0 g)
-      go false g low h = taking (endings (eqb f 0) d (s ∷ xs) at g)
-      go true g true h =
-          taking (subst (λ (b : Bool). Ending (untilSent b d (s ∷ xs) at)) (sym (eq-eqb f 0 (z s xs refl h))) (ending-low d s xs at h))
+      go : (low : Bool) → ltb s 2 ≡ low → (p : Bool) → passes d ≡ p
+          → HoldsTaken ps qs d ws f w (cond low (roamTaken d (roamed (phaseOf (d .place)) (s ∷ xs) at)) (cond p (stopped d at (One 0)) (highTaken d (s ∷ xs) at)))
+      go true h p g =
+          let t = roamTaken d (roamed (phaseOf (d .place)) (s ∷ xs) at) in
+          after true ps qs d d ws f at w [] t l a (λ _. no-more ps (l ∙ z s xs refl h)) (ne .1) (run-nil stepRecord d)
+          (subst (λ (r : List ℕ). Takes true d r at t) (sym e) (takes-low d s xs at h)) (ending-low d s xs at h) u v
+      go false h true g = passing (ne .0 g)
+      go false h false g =
+          after false ps qs d d ws f at w [] (highTaken d (s ∷ xs) at) l a (λ x. absurd (true≢false (sym x))) (ne .1) (run-nil stepRecord d)
+          (subst (λ (r : List ℕ). Takes false d r at (highTaken d (s ∷ xs) at)) (sym e) (takes d (s ∷ xs) at)) (endings d (s ∷ xs) at g) u v
 
   -- the front device's turn, whatever is under way
   serves : (ps qs : List Device) (d : Device) (ws : List ℕ) (f at w : ℕ) (p : Sent) → length ps ≡ f → AllPass ps → AllNeat (d ∷ qs) → Small p
       → ((s : ℕ) (xs : List ℕ) → drop at ss ≡ s ∷ xs → owed p ≡ 0 → ltb s 2 ≡ true → f ≡ 0)
       → joined (through ps (drop at ss)) (d ∷ qs) (underWay p) .0 ≡ fin .0 → wrote ws w (joined (through ps (drop at ss)) (d ∷ qs) (underWay p) .1) ≡ fin .1
-      → HoldsTaken ps qs d ws f w (deviceTaken (eqb f 0) d p (drop at ss) at)
+      → HoldsTaken ps qs d ws f w (deviceTaken d p (drop at ss) at)
   unfolding HoldsTaken Small
   serves ps qs d ws f at w Nothing l a ne k z u v = fronts ps qs d ws f at w (drop at ss) refl l a ne (λ s xs e h. z s xs e refl h) u v
   serves ps qs d ws f at w (One b) l a ne k z u v = fronts ps qs d ws f at w (drop at ss) refl l a ne (λ s xs e h. z s xs e refl h) u v
   serves ps qs d ws f at w (Header c n) l a ne k z u v =
-      after false ps qs d (sliceStart d c n) ws f at w (headerStates c n) (untilSent false (sliceStart d c n) (drop at ss) at) l a (λ e. absurd (true≢false (sym e))) (ne .1) (run-header d c n k) (takes false (sliceStart d c n) (drop at ss) at) (endings false (sliceStart d c n) (drop at ss) at refl) u v
+      after false ps qs d (sliceStart d c n) ws f at w (headerStates c n) (highTaken (sliceStart d c n) (drop at ss) at) l a (λ e. absurd (true≢false (sym e))) (ne .1) (run-header d c n k) (takes (sliceStart d c n) (drop at ss) at) (endings (sliceStart d c n) (drop at ss) at refl) u v
 
   -- ---- the cursor is aimed
   reset : (ys : List Device) (ws : List ℕ) (f at w : ℕ) → Holds ys ws f at w Nothing → Holds ys ws 0 at w Nothing
-  unfolding Small through
+  unfolding Small chain
   reset ys ws f at w h =
-      let m : joined (through (h .ps) (drop at ss)) (h .qs) [] ≡ through ys (drop at ss) = sym (through-append (h .ps) (h .qs) (drop at ss)) ∙ ap (λ (b : List Device). through b (drop at ss)) (sym (h .split)) in
+      let m : joined (through (h .ps) (drop at ss)) (h .qs) [] ≡ through ys (drop at ss) = sym (chain-devices stepRecord (h .ps) (h .qs) (drop at ss)) ∙ ap (λ (b : List Device). through b (drop at ss)) (sym (h .split)) in
       record {
         ps = [];
         qs = ys;
@@ -294,7 +288,7 @@ module _ (ss : List ℕ) (fin : List Device × (List ℕ × ℕ)) where
       ∙ ap (λ (n : ℕ). (putAll (putAll ws w xs) (putEnd (length ws) w k) ys, putEnd n (putEnd (length ws) w k) (length ys))) (sym (length-put ws w xs))
 
   last-out : (a : Whole) (q : List ℕ) → joined a [] q ≡ (a .0 ++ [], q ++ a .1)
-  unfolding through
+  unfolding chain
   last-out a q = refl
 
   leaves : (ys : List Device) (ws : List ℕ) (f at w : ℕ) (c : Command) (n : ℕ) → (h : Holds ys ws f at w (Header c n)) → h .qs ≡ [] → Holds ys (putAll ws w (headerStates c n)) f at (putEnd (length ws) w 24) Nothing
@@ -381,7 +375,7 @@ module _ (ss : List ℕ) (fin : List Device × (List ℕ × ℕ)) where
   device-holds ys ws n f i at w p g h e j (d ∷ qs) q l =
       let sp : ys ≡ h .ps ++ d ∷ qs = h .split ∙ ap (λ (b : List Device). h .ps ++ b) q in
       let dd : getD ys i blank ≡ d = ap (λ (k : ℕ). getD ys k blank) j ∙ ap (λ (b : List Device). getD b f blank) sp ∙ getD-at (h .ps) d qs blank f (h .count) in
-      let t : Taken = deviceTaken (eqb f 0) d p (drop at ss) at in
+      let t : Taken = deviceTaken d p (drop at ss) at in
       let served : Holds (set (h .ps ++ d ∷ qs) f (t .device)) ws (frontAfter f (t .sent)) (t .at) w (t .sent) =
       serves (h .ps) qs d ws f at w p (h .count) (h .passing) (subst AllNeat q (h .neat)) (h .small) (λ s xs r k u. low-front n f i at w p g s xs (e ∙ ap (λ (y : List ℕ). aimed n f at w p y) r) k u)
       (ap (λ (b : List Device). joined (through (h .ps) (drop at ss)) b (underWay p) .0) (sym q) ∙ h .devices) (ap (λ (b : List Device). wrote ws w (joined (through (h .ps) (drop at ss)) b (underWay p) .1)) (sym q) ∙ h .out) in
@@ -415,18 +409,13 @@ module _ (ss : List ℕ) (fin : List Device × (List ℕ × ℕ)) where
           (line-holds ys ws n f i at w p g h (no-more (h .qs) (omega (arith, long, h .count, ltb-false f n q))))
 
   -- ---- the end
-  through-none : (ds : List Device) → through ds [] ≡ (ds, [])
-  unfolding through run
-  through-none [] = refl
-  through-none (d ∷ ds) = ap (λ (r : Whole). (d ∷ r .0, r .1)) (through-none ds)
-
   abbrev Ended : List Device → List ℕ → ℕ → Type 0
   Ended ys ws w = (ys ≡ fin .0) × ((ws, w) ≡ fin .1)
 
   ends-empty : (ys : List Device) (ws : List ℕ) (f at w : ℕ) → Holds ys ws f at w Nothing → drop at ss ≡ [] → w ≤ length ws → Ended ys ws w
   unfolding putAll
   ends-empty ys ws f at w h e l =
-      let m : joined (through (h .ps) (drop at ss)) (h .qs) [] ≡ (h .ps ++ h .qs, []) = ap (λ (r : List ℕ). joined (through (h .ps) r) (h .qs) []) e ∙ ap (λ (a : Whole). joined a (h .qs) []) (through-none (h .ps)) ∙ ap (λ (b : Whole). (h .ps ++ b .0, b .1)) (through-none (h .qs)) in (
+      let m : joined (through (h .ps) (drop at ss)) (h .qs) [] ≡ (h .ps ++ h .qs, []) = ap (λ (r : List ℕ). joined (through (h .ps) r) (h .qs) []) e ∙ ap (λ (a : Whole). joined a (h .qs) []) (chain-nil stepRecord (h .ps)) ∙ ap (λ (b : Whole). (h .ps ++ b .0, b .1)) (chain-nil stepRecord (h .qs)) in (
         h .split ∙ sym (ap (λ (b : Whole). b .0) m) ∙ h .devices,
         ap (λ (k : ℕ). (ws, k)) (full-or-not (length ws) w 0 (λ (k : ℕ). w ≡ k) (λ g. omega arith) (λ g. absurd (omega (arith, g, l)))) ∙ sym (ap (λ (b : Whole). wrote ws w (b .1)) m) ∙ h .out,
       )
@@ -496,7 +485,7 @@ all-neat (d ∷ ds) h = (fits-neat d (both d ds h .0), all-neat ds (both d ds h 
 -- a run by its front: the devices, what is written, and where it ends are the plain chain's
 pub front-run-same : (ds : List Device) (ss os : List ℕ) → 0 < length ds → length ds < 1024 → AllNeat ds
     → (frontRun ds ss os .devices ≡ through ds ss .0) × (frontRun ds ss os .out ≡ putAll os 0 (through ds ss .1)) × (frontRun ds ss os .cursor .written ≡ putEnd (length os) 0 (length (through ds ss .1)))
-unfolding frontRun through Small
+unfolding frontRun chain Small
 front-run-same ds ss os some few ne =
     let fin : List Device × (List ℕ × ℕ) = (through ds ss .0, (putAll os 0 (through ds ss .1), putEnd (length os) 0 (length (through ds ss .1)))) in
     let all = turns-all ss fin (enough ss) (length ds) (length os) (started ds ss os) some few (good-start ds ss os some) (near-start ds ss few)

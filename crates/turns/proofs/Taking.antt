@@ -1,42 +1,43 @@
 -- What a device takes in one turn is a run of it over those states. A device that is not passing sends nothing, or a header once, and passes
--- then. High states go through passing devices as they are.
+-- then. High states go through passing devices as they are. By induction on the states at hand.
 use mathlib.Core.Path.{_≡_, refl, ap, sym, _∙_, subst}
-use mathlib.Core.Bool.{Bool, true, false, not, _&&_, cond, true≢false}
+use mathlib.Core.Bool.{Bool, true, false, cond, true≢false}
 use mathlib.Core.List.{List, [], _∷_, _++_, append-nil}
-use Prim.Native.Nat.{ℕ, _+_, _-_, _*_, _/_, _%_, _<_}
+use Prim.Native.Nat.{ℕ, _+_, _/_, _%_, _<_, _≤_}
 use native.Mathlib.Nat.{mod-lt}
 use native.Mathlib.Omega.{arith}
 use lib.Dec.{ltb, eqb}
-use lib.ListN.{length}
+use lib.ListN.{length, getD, drop, drop-of-length-le}
+use borrow.Author.Tests.{lt-ltb, le-ltb}
+use Rattle.machine.specs.Machine.{chain}
+use Rattle.machine.specs.Machine as machine
+use Rattle.machine.proofs.Machine.{run-nil}
 use Rattle.parts.specs.Parts.{partOf, fieldWidth, fieldLimit}
 use Rattle.parts.specs.declared.command.Command.{Command}
-use Rattle.parts.specs.declared.command.Command.the-variants.{Individual, Calibration, Global, Configuration}
-use Rattle.device.specs.Phases.{phaseOf, heard, rising, opened, opening, counting}
-use Rattle.device.specs.Held.{took, stored, fault, raised}
+use Rattle.phases.specs.Phases.{phaseOf, heard, headed}
+use Rattle.registers.specs.Held.{took, stored, fault, raised}
 use Rattle.device.specs.Step.{step, stepHigh, moved, sending, sliceLength, sentStates, at}
-use Rattle.device.specs.Run.{run}
-use Rattle.device.specs.declared.phase.Phase.{Phase}
-use Rattle.device.specs.declared.phase.Phase.the-variants.{Hunting, Opening, Counting, Slice, Passing, Lost}
-use Rattle.device.specs.declared.phase.Sent.{Sent}
-use Rattle.device.specs.declared.phase.Sent.the-variants.{Nothing, One, Header}
-use Rattle.device.specs.declared.registers.Registers.{Registers}
+use Rattle.device.specs.Run.{stepRecord, run}
+use Rattle.phases.specs.declared.phase.Phase.{Phase}
+use Rattle.phases.specs.declared.phase.Phase.the-variants.{Hunting, Opening, Counting, Slice, Passing, Lost}
+use Rattle.phases.specs.declared.phase.Sent.{Sent}
+use Rattle.phases.specs.declared.phase.Sent.the-variants.{Nothing, One, Header}
+use Rattle.registers.specs.declared.registers.Registers.{Registers}
 use Rattle.device.specs.declared.device.Device.{Device}
 use Rattle.device.specs.declared.device.Stepped.{Stepped}
-use Rattle.intake.specs.Intake.{stopped, unlessSent}
+use Rattle.phases.proofs.Places.{Small}
+use Rattle.intake.specs.Intake.{stopped, unlessSent, highTaken}
 use Rattle.intake.specs.declared.states.Taken.{Taken}
+use Rattle.intake.proofs.Lines.{drop-on, high-end}
+use Rattle.intake.proofs.Phases.{high-low-at}
 use Rattle.calls.specs.Chain.{through}
-use Rattle.turns.specs.Front.{isPassing, passes, untilSent}
+use Rattle.turns.specs.Front.{isPassing, passes, roams, roamStep, roamed, roamTaken, frontTaken, sliceStart, deviceTaken, afterHeader, lowTaken}
+use Rattle.turns.specs.declared.states.Roamed.{Roamed}
+use Rattle.turns.proofs.Phases.{step-low, step-roams, heard-small, roamStep-small, headed-quiet, roamed-quiet, roamed-low}
 
 pub by-test : {A : Type 0} (t : Bool) (x y : A) (P : A → Type 0) → P x → P y → P (cond t x y)
 by-test true x y P a b = a
 by-test false x y P a b = b
-
--- a chain is its front part and then the rest
-pub through-append : (ps qs : List Device) (ss : List ℕ)
-    → through (ps ++ qs) ss ≡ (through ps ss .0 ++ through qs (through ps ss .1) .0, through qs (through ps ss .1) .1)
-unfolding through
-through-append [] qs ss = refl
-through-append (d ∷ ps) qs ss = ap (λ (r : List Device × List ℕ). (run d ss .0 ∷ r .0, r .1)) (through-append ps qs (run d ss .1))
 
 -- ---- high states go through passing devices
 
@@ -52,7 +53,7 @@ pub data AllPass : List Device → Type 0 where
   also : {r : Registers} {ds : List Device} → AllPass ds → AllPass (passer r ∷ ds)
 
 pass-one : (r : Registers) (s : ℕ) (ss : List ℕ) → ltb s 2 ≡ false → run (passer r) (s ∷ ss) ≡ (run (passer r) ss .0, s ∷ run (passer r) ss .1)
-unfolding run
+unfolding machine.run stepRecord
 pass-one r s ss e = rw e refl
 
 pass-all : (r : Registers) (hs ss : List ℕ) → High hs → run (passer r) (hs ++ ss) ≡ (run (passer r) ss .0, hs ++ run (passer r) ss .1)
@@ -60,7 +61,7 @@ pass-all r [] ss none = refl
 pass-all r (s ∷ hs) ss (also e h) = pass-one r s (hs ++ ss) e ∙ ap (λ (x : Device × List ℕ). (x .0, s ∷ x .1)) (pass-all r hs ss h)
 
 pub through-high : (ps : List Device) (hs ss : List ℕ) → AllPass ps → High hs → through ps (hs ++ ss) ≡ (through ps ss .0, hs ++ through ps ss .1)
-unfolding through
+unfolding chain
 through-high [] hs ss none h = refl
 through-high (d ∷ ps) hs ss (also {r} a) h =
     ap (λ (x : Device × List ℕ). (x .0 ∷ through ps (x .1) .0, through ps (x .1) .1)) (pass-all r hs ss h)
@@ -68,72 +69,93 @@ through-high (d ∷ ps) hs ss (also {r} a) h =
 
 -- ---- what a device takes is a run of it over the states before `at`
 
-pub record Takes (first : Bool) (d : Device) (ss : List ℕ) (k : ℕ) (t : Taken) : Type 0 where
+-- low states may be among them, or not
+pub record Takes (low : Bool) (d : Device) (ss : List ℕ) (k : ℕ) (t : Taken) : Type 0 where
   pub own : List ℕ
   pub rest : List ℕ
   pub whole : ss ≡ own ++ rest
-  pub high : first ≡ false → High own
+  pub high : low ≡ false → High own
   pub far : t .at ≡ k + length own
   pub runs : run d own ≡ (t .device, sentStates (t .sent))
 
 run-step : (d : Device) (s : ℕ) (ss : List ℕ)
     → run d (s ∷ ss) ≡ (run (step d s .device) ss .0, sentStates (step d s .sent) ++ run (step d s .device) ss .1)
-unfolding run
+unfolding machine.run stepRecord
 run-step d s ss = refl
 
-run-none : (d : Device) → run d [] ≡ (d, [])
-unfolding run
-run-none d = refl
+pub takes-none : (low : Bool) (d : Device) (ss : List ℕ) (k : ℕ) → Takes low d ss k (stopped d k Nothing)
+takes-none low d ss k = record { own = []; rest = ss; whole = refl; high = λ _. none; far = omega arith; runs = run-nil stepRecord d }
 
-pub takes-none : (first : Bool) (d : Device) (ss : List ℕ) (k : ℕ) → Takes first d ss k (stopped d k Nothing)
-takes-none first d ss k = record { own = []; rest = ss; whole = refl; high = λ _. none; far = omega arith; runs = run-none d }
-
-takes-sent : (first : Bool) (d : Device) (s : ℕ) (ss : List ℕ) (k : ℕ) (x : Sent) → step d s .sent ≡ x → (first ≡ false → ltb s 2 ≡ false)
-    → Takes first d (s ∷ ss) k (stopped (step d s .device) (k + 1) x)
-takes-sent first d s ss k x e h =
-    record {
-      own = s ∷ [];
-      rest = ss;
-      whole = refl;
-      high = λ f. also (h f) none;
-      far = omega arith;
-      runs = run-step d s [] ∙ ap (λ (y : Device × List ℕ). (y .0, sentStates (step d s .sent) ++ y .1)) (run-none (step d s .device))
-          ∙ ap (λ (y : Sent). (step d s .device, sentStates y ++ [])) e ∙ ap (λ (xs : List ℕ). (step d s .device, xs)) (append-nil (sentStates x));
-    }
-
--- the device sent at s, or goes on
-takes-step : (first : Bool) (d : Device) (s : ℕ) (ss : List ℕ) (k : ℕ) (x : Sent) → step d s .sent ≡ x → (first ≡ false → ltb s 2 ≡ false)
-    → Takes first (step d s .device) ss (k + 1) (untilSent first (step d s .device) ss (k + 1))
-    → Takes first d (s ∷ ss) k (unlessSent x (untilSent first (step d s .device) ss (k + 1)) (stopped (step d s .device) (k + 1) x))
-takes-step first d s ss k Nothing e h r =
+-- the device goes on at s, and sends nothing
+takes-on : (low : Bool) (d : Device) (s : ℕ) (ss : List ℕ) (k : ℕ) (x : Stepped) (t : Taken) → step d s ≡ x → x .sent ≡ Nothing → (low ≡ false → ltb s 2 ≡ false)
+    → Takes low (x .device) ss (k + 1) t → Takes low d (s ∷ ss) k t
+takes-on low d s ss k x t e n h r =
     record {
       own = s ∷ r .own;
       rest = r .rest;
       whole = ap (λ (xs : List ℕ). s ∷ xs) (r .whole);
       high = λ f. also (h f) (r .high f);
       far = omega (arith, r .far);
-      runs = run-step d s (r .own) ∙ ap (λ (x : Sent). (run (step d s .device) (r .own) .0, sentStates x ++ run (step d s .device) (r .own) .1)) e ∙ r .runs;
+      runs = run-step d s (r .own)
+          ∙ ap (λ (y : Stepped). (run (y .device) (r .own) .0, sentStates (y .sent) ++ run (y .device) (r .own) .1)) e
+          ∙ ap (λ (y : Sent). (run (x .device) (r .own) .0, sentStates y ++ run (x .device) (r .own) .1)) n
+          ∙ r .runs;
     }
-takes-step first d s ss k (One b) e h r = takes-sent first d s ss k (One b) e h
-takes-step first d s ss k (Header c n) e h r = takes-sent first d s ss k (Header c n) e h
 
--- a state that does not stop a device: high, or the first device's
-not-stopped : (first : Bool) (s : ℕ) → (ltb s 2 && not first) ≡ false → first ≡ false → ltb s 2 ≡ false
-not-stopped first s e f = go (ltb s 2) (subst (λ (b : Bool). (ltb s 2 && not b) ≡ false) f e)
-  where
-    go : (t : Bool) → (t && true) ≡ false → t ≡ false
-    go true h = h
-    go false h = refl
+-- the device sends at s
+takes-sent : (d : Device) (s : ℕ) (ss : List ℕ) (k : ℕ) (x : Sent) → step d s .sent ≡ x → ltb s 2 ≡ false
+    → Takes false d (s ∷ ss) k (stopped (step d s .device) (k + 1) x)
+takes-sent d s ss k x e h =
+    record {
+      own = s ∷ [];
+      rest = ss;
+      whole = refl;
+      high = λ _. also h none;
+      far = omega arith;
+      runs = run-step d s [] ∙ ap (λ (y : Device × List ℕ). (y .0, sentStates (step d s .sent) ++ y .1)) (run-nil stepRecord (step d s .device))
+          ∙ ap (λ (y : Sent). (step d s .device, sentStates y ++ [])) e ∙ ap (λ (xs : List ℕ). (step d s .device, xs)) (append-nil (sentStates x));
+    }
 
-pub takes : (first : Bool) (d : Device) (ss : List ℕ) (k : ℕ) → Takes first d ss k (untilSent first d ss k)
-unfolding untilSent
-takes first d [] k = takes-none first d [] k
-takes first d (s ∷ ss) k = go (takes first (step d s .device) ss (k + 1)) (ltb s 2 && not first) refl
+takes-step : (d : Device) (s : ℕ) (ss : List ℕ) (k : ℕ) (x : Sent) → step d s .sent ≡ x → ltb s 2 ≡ false
+    → Takes false (step d s .device) ss (k + 1) (highTaken (step d s .device) ss (k + 1))
+    → Takes false d (s ∷ ss) k (unlessSent x (highTaken (step d s .device) ss (k + 1)) (stopped (step d s .device) (k + 1) x))
+takes-step d s ss k Nothing e h r = takes-on false d s ss k (step d s) (highTaken (step d s .device) ss (k + 1)) refl e (λ _. h) r
+takes-step d s ss k (One b) e h r = takes-sent d s ss k (One b) e h
+takes-step d s ss k (Header c n) e h r = takes-sent d s ss k (Header c n) e h
+
+-- high states
+pub takes : (d : Device) (ss : List ℕ) (k : ℕ) → Takes false d ss k (highTaken d ss k)
+unfolding highTaken
+takes d [] k = takes-none false d [] k
+takes d (s ∷ ss) k = go (takes (step d s .device) ss (k + 1)) (ltb s 2) refl
   where
-    go : Takes first (step d s .device) ss (k + 1) (untilSent first (step d s .device) ss (k + 1)) → (t : Bool) → (ltb s 2 && not first) ≡ t
-        → Takes first d (s ∷ ss) k (cond t (stopped d k Nothing) (unlessSent (step d s .sent) (untilSent first (step d s .device) ss (k + 1)) (stopped (step d s .device) (k + 1) (step d s .sent))))
-    go r true h = takes-none first d (s ∷ ss) k
-    go r false h = takes-step first d s ss k (step d s .sent) refl (not-stopped first s h) r
+    go : Takes false (step d s .device) ss (k + 1) (highTaken (step d s .device) ss (k + 1)) → (t : Bool) → ltb s 2 ≡ t
+        → Takes false d (s ∷ ss) k (cond t (stopped d k Nothing) (unlessSent (step d s .sent) (highTaken (step d s .device) ss (k + 1)) (stopped (step d s .device) (k + 1) (step d s .sent))))
+    go r true h = takes-none false d (s ∷ ss) k
+    go r false h = takes-step d s ss k (step d s .sent) refl h r
+
+-- states at which the phase alone goes on
+abbrev gone : Registers → Roamed → Taken
+gone r q = stopped (at r (q .phase)) (q .at) Nothing
+
+takes-roamed : (r : Registers) (p : Phase) (ss : List ℕ) (k : ℕ) → Small p → Takes true (at r p) ss k (gone r (roamed p ss k))
+unfolding roamed
+takes-roamed r p [] k h = takes-none true (at r p) [] k
+takes-roamed r p (s ∷ ss) k h = go (takes-roamed r (roamStep p s) ss (k + 1) (roamStep-small p s h)) (roams p s) refl
+  where
+    go : Takes true (at r (roamStep p s)) ss (k + 1) (gone r (roamed (roamStep p s) ss (k + 1))) → (t : Bool) → roams p s ≡ t
+        → Takes true (at r p) (s ∷ ss) k (gone r (cond t (roamed (roamStep p s) ss (k + 1)) (record { phase = p; at = k })))
+    go x true e =
+        takes-on true (at r p) s ss k (moved r (roamStep p s)) (gone r (roamed (roamStep p s) ss (k + 1))) (step-roams r p s h e) refl (λ f. absurd (true≢false f)) x
+    go x false e = takes-none true (at r p) (s ∷ ss) k
+
+-- and so does any device, from a low state on
+pub takes-low : (d : Device) (s : ℕ) (ss : List ℕ) (k : ℕ) → ltb s 2 ≡ true → Takes true d (s ∷ ss) k (roamTaken d (roamed (phaseOf (d .place)) (s ∷ ss) k))
+takes-low d s ss k e =
+    let p = heard (phaseOf (d .place)) s in
+    subst (λ (q : Roamed). Takes true d (s ∷ ss) k (roamTaken d q)) (sym (roamed-low (phaseOf (d .place)) s ss k e))
+    (takes-on true d s ss k (moved (d .registers) p) (gone (d .registers) (roamed p ss (k + 1))) (step-low d s e) refl (λ f. absurd (true≢false f))
+    (takes-roamed (d .registers) p ss (k + 1) (heard-small (phaseOf (d .place)) s)))
 
 -- ---- a device that is not passing sends nothing, or a header once, and is passing then
 
@@ -150,25 +172,13 @@ passes-at r (Slice c count taken) e = refl
 passes-at r Passing e = absurd (true≢false e)
 passes-at r Lost e = refl
 
-abbrev Quiet : Phase → Type 0
-Quiet p = isPassing p ≡ false
-
 raised-lt : (n flag : ℕ) → raised n flag < 1024
 raised-lt n flag = by-test (eqb flag 0) (n % 1024) ((n + 1) % 1024) (λ (x : ℕ). x < 1024) (mod-lt n (omega arith)) (mod-lt (n + 1) (omega arith))
 
-opened-quiet : (x : ℕ) → Quiet (opened x)
-opened-quiet x =
-    by-test (eqb x 0) (Counting Individual 1) (cond (eqb x 21) (Counting Calibration 1) (cond (eqb x 42) (Counting Global 1) (cond (eqb x 63) (Counting Configuration 1) Lost))) Quiet refl
-    (by-test (eqb x 21) (Counting Calibration 1) (cond (eqb x 42) (Counting Global 1) (cond (eqb x 63) (Counting Configuration 1) Lost)) Quiet refl
-    (by-test (eqb x 42) (Counting Global 1) (cond (eqb x 63) (Counting Configuration 1) Lost) Quiet refl
-    (by-test (eqb x 63) (Counting Configuration 1) Lost Quiet refl refl)))
-
 fine-high : (r : Registers) (p : Phase) (s : ℕ) → isPassing p ≡ false → Fine (stepHigh r p s)
-fine-high r (Hunting w) s e = on (rising w (s % 2)) (by-test (eqb w 0xE8) (Opening (2 + s % 2)) Lost Quiet refl refl)
-fine-high r (Opening a) s e =
-    on (opening a (s % 2)) (by-test (ltb (a * 2 + s % 2) 64) (Opening (a * 2 + s % 2)) (opened (a * 2 + s % 2 - 64)) Quiet refl (opened-quiet (a * 2 + s % 2 - 64)))
-fine-high r (Counting c a) s e =
-    on (counting c a (s % 2)) (by-test (ltb (a * 2 + s % 2) 1024) (Counting c (a * 2 + s % 2)) (Slice c ((a * 2 + s % 2) % 1024) 0) Quiet refl refl)
+fine-high r (Hunting w) s e = on (headed (Hunting w) (s % 2)) (headed-quiet (Hunting w) (s % 2) e)
+fine-high r (Opening a) s e = on (headed (Opening a) (s % 2)) (headed-quiet (Opening a) (s % 2) e)
+fine-high r (Counting c a) s e = on (headed (Counting c a) (s % 2)) (headed-quiet (Counting c a) (s % 2) e)
 fine-high r (Slice c n t) s e =
     let q : Registers = took r (t / fieldWidth (partOf (r .part)) c) (s % 2) (fieldLimit (partOf (r .part)) c) in
     by-test (ltb (t + 1) (sliceLength r c)) (moved q (Slice c n (t + 1))) (sending (stored q c) Passing (Header c (raised n (fault q c)))) Fine (on (Slice c n (t + 1)) refl) (ends (raised-lt n (fault q c)))
@@ -188,21 +198,57 @@ pub data Ending : Taken → Type 0 where
   quiet : {d : Device} {k : ℕ} → passes d ≡ false → Ending (stopped d k Nothing)
   sent : {r : Registers} {k : ℕ} {c : Command} {n : ℕ} → n < 1024 → Ending (stopped (passer r) k (Header c n))
 
-fine-ending : (first : Bool) (st : Stepped) (ss : List ℕ) (k : ℕ) → Fine st → ((d : Device) → passes d ≡ false → Ending (untilSent first d ss k))
-    → Ending (unlessSent (st .sent) (untilSent first (st .device) ss k) (stopped (st .device) k (st .sent)))
-fine-ending first _ ss k (on {r} p e) rec = rec (at r p) (passes-at r p e)
-fine-ending first _ ss k (ends h) rec = sent h
+fine-ending : (st : Stepped) (ss : List ℕ) (k : ℕ) → Fine st → ((d : Device) → passes d ≡ false → Ending (highTaken d ss k))
+    → Ending (unlessSent (st .sent) (highTaken (st .device) ss k) (stopped (st .device) k (st .sent)))
+fine-ending _ ss k (on {r} p e) rec = rec (at r p) (passes-at r p e)
+fine-ending _ ss k (ends h) rec = sent h
 
-pub endings : (first : Bool) (d : Device) (ss : List ℕ) (k : ℕ) → passes d ≡ false → Ending (untilSent first d ss k)
-unfolding untilSent
-endings first d [] k e = quiet e
-endings first d (s ∷ ss) k e =
-    by-test (ltb s 2 && not first) (stopped d k Nothing) (unlessSent (step d s .sent) (untilSent first (step d s .device) ss (k + 1)) (stopped (step d s .device) (k + 1) (step d s .sent))) Ending
-    (quiet e) (fine-ending first (step d s) ss (k + 1) (fine-step d s e) (λ d′ e′. endings first d′ ss (k + 1) e′))
+pub endings : (d : Device) (ss : List ℕ) (k : ℕ) → passes d ≡ false → Ending (highTaken d ss k)
+unfolding highTaken
+endings d [] k e = quiet e
+endings d (s ∷ ss) k e =
+    by-test (ltb s 2) (stopped d k Nothing) (unlessSent (step d s .sent) (highTaken (step d s .device) ss (k + 1)) (stopped (step d s .device) (k + 1) (step d s .sent))) Ending
+    (quiet e) (fine-ending (step d s) ss (k + 1) (fine-step d s e) (λ d′ e′. endings d′ ss (k + 1) e′))
 
--- the first device at a low state, passing or not
-pub ending-low : (d : Device) (s : ℕ) (ss : List ℕ) (k : ℕ) → ltb s 2 ≡ true → Ending (untilSent true d (s ∷ ss) k)
-unfolding untilSent
+-- any device at a low state, passing or not
+pub ending-low : (d : Device) (s : ℕ) (ss : List ℕ) (k : ℕ) → ltb s 2 ≡ true → Ending (roamTaken d (roamed (phaseOf (d .place)) (s ∷ ss) k))
 ending-low d s ss k e =
-    subst (λ (t : Bool). Ending (cond (t && false) (stopped d k Nothing) (unlessSent (step d s .sent) (untilSent true (step d s .device) ss (k + 1)) (stopped (step d s .device) (k + 1) (step d s .sent))))) (sym e)
-    (fine-ending true (step d s) ss (k + 1) (fine-low d s e) (λ d′ e′. endings true d′ ss (k + 1) e′))
+    let p = heard (phaseOf (d .place)) s in
+    subst (λ (q : Roamed). Ending (roamTaken d q)) (sym (roamed-low (phaseOf (d .place)) s ss k e))
+    (quiet (passes-at (d .registers) (roamed p ss (k + 1) .phase) (roamed-quiet p ss (k + 1) refl)))
+
+-- ---- the device of a turn, by the next state
+
+pub device-end : (d : Device) (p : Sent) (ss : List ℕ) (i : ℕ) → length ss ≤ i → highTaken (afterHeader d p) (drop i ss) i ≡ deviceTaken d p (drop i ss) i
+device-end d (Header c n) ss i h = refl
+device-end d Nothing ss i h = high-end d ss i i h ∙ ap (λ (xs : List ℕ). frontTaken d xs i) (sym (drop-of-length-le ss h))
+device-end d (One b) ss i h = high-end d ss i i h ∙ ap (λ (xs : List ℕ). frontTaken d xs i) (sym (drop-of-length-le ss h))
+
+-- at a state s, by whether it is low and the device passes
+abbrev frontBy : Device → List ℕ → ℕ → Bool → Bool → Taken
+frontBy d xs i low passing = cond low (roamTaken d (roamed (phaseOf (d .place)) xs i)) (cond passing (stopped d i (One 0)) (highTaken d xs i))
+
+front-by : (d : Device) (ss : List ℕ) (i : ℕ) (low passing : Bool) → i < length ss → ltb (getD ss i 0) 2 ≡ low → passes d ≡ passing
+    → frontBy d (drop i ss) i low passing ≡ frontTaken d (drop i ss) i
+front-by d ss i low passing h e g =
+    ap (λ (t : Bool). frontBy d (drop i ss) i t passing) (sym e)
+    ∙ ap (λ (t : Bool). frontBy d (drop i ss) i (ltb (getD ss i 0) 2) t) (sym g)
+    ∙ ap (λ (xs : List ℕ). frontBy d xs i (ltb (getD ss i 0) 2) (passes d)) (drop-on ss i h)
+    ∙ ap (λ (xs : List ℕ). frontTaken d xs i) (sym (drop-on ss i h))
+
+pub device-low : (d : Device) (p : Sent) (ss : List ℕ) (i : ℕ) → i < length ss → getD ss i 0 < 2 → lowTaken (afterHeader d p) p (drop i ss) i ≡ deviceTaken d p (drop i ss) i
+device-low d (Header c n) ss i h l = sym (high-low-at (sliceStart d c n) ss i h l)
+device-low d Nothing ss i h l = front-by d ss i true (passes d) h (lt-ltb (getD ss i 0) 2 l) refl
+device-low d (One b) ss i h l = front-by d ss i true (passes d) h (lt-ltb (getD ss i 0) 2 l) refl
+
+pub device-passes : (d : Device) (p : Sent) (ss : List ℕ) (i : ℕ) → i < length ss → 2 ≤ getD ss i 0 → passes (afterHeader d p) ≡ true
+    → stopped (afterHeader d p) i (One 0) ≡ deviceTaken d p (drop i ss) i
+device-passes d (Header c n) ss i h l e = absurd (true≢false (sym e))
+device-passes d Nothing ss i h l e = front-by d ss i false true h (le-ltb (getD ss i 0) 2 l) e
+device-passes d (One b) ss i h l e = front-by d ss i false true h (le-ltb (getD ss i 0) 2 l) e
+
+pub device-high : (d : Device) (p : Sent) (ss : List ℕ) (i : ℕ) → i < length ss → 2 ≤ getD ss i 0 → passes (afterHeader d p) ≡ false
+    → highTaken (afterHeader d p) (drop i ss) i ≡ deviceTaken d p (drop i ss) i
+device-high d (Header c n) ss i h l e = refl
+device-high d Nothing ss i h l e = front-by d ss i false false h (le-ltb (getD ss i 0) 2 l) e
+device-high d (One b) ss i h l e = front-by d ss i false false h (le-ltb (getD ss i 0) 2 l) e

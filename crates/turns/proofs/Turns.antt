@@ -1,23 +1,28 @@
 -- Each turn keeps the cursor in range and takes a run nearer to its end: it takes a state, or moves the front on, or the header under way is
 -- taken. The measure is 2048 for each state left, 1024 for a header under way, and the devices after the front.
 use mathlib.Core.Path.{_≡_, refl, ap, sym, _∙_, subst}
-use mathlib.Core.Bool.{Bool, true, false, not, _&&_, cond, true≢false}
+use mathlib.Core.Bool.{Bool, true, false, cond, true≢false}
 use mathlib.Core.List.{List, [], _∷_}
 use Prim.Native.Nat.{ℕ, zero, suc, _+_, _-_, _*_, _<_, _≤_}
 use native.Mathlib.Omega.{arith}
-use lib.Dec.{eqb, ltb, leb}
+use lib.Dec.{ltb, leb}
 use lib.ListN.{length, getD, drop, length-set, length-drop}
-use borrow.Author.Tests.{ltb-true, ltb-false, leb-true, le-leb, eq-eqb}
+use borrow.Author.Tests.{ltb-true, ltb-false, leb-true, le-leb}
+use Rattle.phases.specs.Phases.{phaseOf, heard}
 use Rattle.device.specs.Step.{step}
-use Rattle.device.specs.declared.phase.Sent.{Sent}
-use Rattle.device.specs.declared.phase.Sent.the-variants.{Nothing, One, Header}
+use Rattle.phases.specs.declared.phase.Phase.{Phase}
+use Rattle.phases.specs.declared.phase.Sent.{Sent}
+use Rattle.phases.specs.declared.phase.Sent.the-variants.{Nothing, One, Header}
 use Rattle.device.specs.declared.device.Device.{Device}
-use Rattle.intake.specs.Intake.{stopped, unlessSent}
+use Rattle.intake.specs.Intake.{stopped, unlessSent, highTaken}
+use Rattle.intake.proofs.Phases.{high-cons}
 use Rattle.intake.specs.declared.states.Taken.{Taken}
 use Rattle.calls.specs.Chain.{blank}
 use Rattle.turns.specs.declared.cursor.Cursor.{Cursor}
-use Rattle.turns.specs.Front.{passes, untilSent, frontTaken, sliceStart, deviceTaken, putEnd, highs, indexOf, cursor, facing, aimed, frontAfter, leaving, isFirst, lineCursor, lineOut, deviceTurn, within, turned, turnedOut, Running, turnAt, turning, turns, started, begun, enough, Turned, turnTaken, cursorTo, cursorAfter, lineAfter, lineRoom, halted}
+use Rattle.turns.specs.declared.states.Roamed.{Roamed}
+use Rattle.turns.specs.Front.{passes, roamed, roamTaken, frontTaken, sliceStart, deviceTaken, putEnd, highs, indexOf, cursor, facing, aimed, frontAfter, leaving, lineCursor, lineOut, deviceTurn, within, turned, turnedOut, Running, turnAt, turning, turns, started, begun, enough, Turned, turnTaken, cursorTo, cursorAfter, lineAfter, lineRoom, halted}
 use Rattle.turns.proofs.Lines.{highs-within, length-put}
+use Rattle.turns.proofs.Phases.{roamed-low, roamed-along}
 use Rattle.turns.proofs.Taking.{by-test}
 
 pub no-way : false ≡ true → ⊥
@@ -96,35 +101,42 @@ record Far (ss : List ℕ) (k : ℕ) (t : Taken) : Type 0 where
   pub owes : k + owed (t .sent) ≤ t .at
   pub ends : t .at ≤ k + length ss
 
-until-far : (first : Bool) (d : Device) (ss : List ℕ) (k : ℕ) → Far ss k (untilSent first d ss k)
-unfolding untilSent
-until-far first d [] k = record { owes = omega arith; ends = omega arith }
-until-far first d (s ∷ ss) k =
-    let next : Far ss (k + 1) (untilSent first (step d s .device) ss (k + 1)) = until-far first (step d s .device) ss (k + 1) in
-    by-test (ltb s 2 && not first) (stopped d k Nothing) (unlessSent (step d s .sent) (untilSent first (step d s .device) ss (k + 1)) (stopped (step d s .device) (k + 1) (step d s .sent))) (Far (s ∷ ss) k)
+high-far : (d : Device) (ss : List ℕ) (k : ℕ) → Far ss k (highTaken d ss k)
+unfolding highTaken
+high-far d [] k = record { owes = omega arith; ends = omega arith }
+high-far d (s ∷ ss) k =
+    let next : Far ss (k + 1) (highTaken (step d s .device) ss (k + 1)) = high-far (step d s .device) ss (k + 1) in
+    by-test (ltb s 2) (stopped d k Nothing) (unlessSent (step d s .sent) (highTaken (step d s .device) ss (k + 1)) (stopped (step d s .device) (k + 1) (step d s .sent))) (Far (s ∷ ss) k)
     (record { owes = omega arith; ends = omega arith })
-    (by-sent (step d s .sent) (untilSent first (step d s .device) ss (k + 1)) (step d s .device) (k + 1) (Far (s ∷ ss) k)
+    (by-sent (step d s .sent) (highTaken (step d s .device) ss (k + 1)) (step d s .device) (k + 1) (Far (s ∷ ss) k)
     (record { owes = omega (arith, next .owes); ends = omega (arith, next .ends) }) (λ x. record { owes = omega (arith, owed-one x); ends = omega arith }))
 
--- a state that does not stop the device is taken
-pub until-on : (first : Bool) (d : Device) (s : ℕ) (ss : List ℕ) (k : ℕ) → (ltb s 2 && not first) ≡ false → k + 1 ≤ untilSent first d (s ∷ ss) k .at
-unfolding untilSent
-until-on first d s ss k e =
-    subst (λ (u : Bool). k + 1 ≤ cond u (stopped d k Nothing) (unlessSent (step d s .sent) (untilSent first (step d s .device) ss (k + 1)) (stopped (step d s .device) (k + 1) (step d s .sent))) .at) (sym e)
-    (by-sent (step d s .sent) (untilSent first (step d s .device) ss (k + 1)) (step d s .device) (k + 1) (λ (t : Taken). k + 1 ≤ t .at) (omega (arith, until-far first (step d s .device) ss (k + 1) .owes)) (λ x. omega arith))
+-- a high state is taken
+high-on : (d : Device) (s : ℕ) (ss : List ℕ) (k : ℕ) → ltb s 2 ≡ false → k + 1 ≤ highTaken d (s ∷ ss) k .at
+high-on d s ss k e =
+    subst (λ (t : Taken). k + 1 ≤ t .at) (sym (high-cons d s ss k e))
+    (by-sent (step d s .sent) (highTaken (step d s .device) ss (k + 1)) (step d s .device) (k + 1) (λ (t : Taken). k + 1 ≤ t .at) (omega (arith, high-far (step d s .device) ss (k + 1) .owes)) (λ x. omega arith))
 
-front-far : (first : Bool) (d : Device) (ss : List ℕ) (k : ℕ) → Far ss k (frontTaken first d ss k)
-front-far first d [] k = record { owes = omega arith; ends = omega arith }
-front-far first d (s ∷ ss) k =
-    by-test (passes d && not (ltb s 2)) (stopped d k (One 0)) (untilSent first d (s ∷ ss) k) (Far (s ∷ ss) k) (record { owes = omega arith; ends = omega arith }) (until-far first d (s ∷ ss) k)
+-- and a low one
+low-on : (p : Phase) (s : ℕ) (ss : List ℕ) (k : ℕ) → ltb s 2 ≡ true → k + 1 ≤ roamed p (s ∷ ss) k .at
+low-on p s ss k e = subst (λ (q : Roamed). k + 1 ≤ q .at) (sym (roamed-low p s ss k e)) (roamed-along (heard p s) ss (k + 1) .starts)
 
-device-far : (first : Bool) (d : Device) (p : Sent) (ss : List ℕ) (k : ℕ) → Far ss k (deviceTaken first d p ss k)
-device-far first d Nothing ss k = front-far first d ss k
-device-far first d (One b) ss k = front-far first d ss k
-device-far first d (Header c n) ss k = until-far false (sliceStart d c n) ss k
+roam-far : (d : Device) (ss : List ℕ) (k : ℕ) → Far ss k (roamTaken d (roamed (phaseOf (d .place)) ss k))
+roam-far d ss k = let a = roamed-along (phaseOf (d .place)) ss k in record { owes = omega (arith, a .starts); ends = a .ends }
 
-device-at : (first : Bool) (d : Device) (p : Sent) (ss : List ℕ) (k : ℕ) → k ≤ length ss → deviceTaken first d p (drop k ss) k .at ≤ length ss
-device-at first d p ss k h = omega (arith, device-far first d p (drop k ss) k .ends, length-drop k ss)
+front-far : (d : Device) (ss : List ℕ) (k : ℕ) → Far ss k (frontTaken d ss k)
+front-far d [] k = record { owes = omega arith; ends = omega arith }
+front-far d (s ∷ ss) k =
+    by-test (ltb s 2) (roamTaken d (roamed (phaseOf (d .place)) (s ∷ ss) k)) (cond (passes d) (stopped d k (One 0)) (highTaken d (s ∷ ss) k)) (Far (s ∷ ss) k) (roam-far d (s ∷ ss) k)
+    (by-test (passes d) (stopped d k (One 0)) (highTaken d (s ∷ ss) k) (Far (s ∷ ss) k) (record { owes = omega arith; ends = omega arith }) (high-far d (s ∷ ss) k))
+
+device-far : (d : Device) (p : Sent) (ss : List ℕ) (k : ℕ) → Far ss k (deviceTaken d p ss k)
+device-far d Nothing ss k = front-far d ss k
+device-far d (One b) ss k = front-far d ss k
+device-far d (Header c n) ss k = high-far (sliceStart d c n) ss k
+
+device-at : (d : Device) (p : Sent) (ss : List ℕ) (k : ℕ) → k ≤ length ss → deviceTaken d p (drop k ss) k .at ≤ length ss
+device-at d p ss k h = omega (arith, device-far d p (drop k ss) k .ends, length-drop k ss)
 
 -- ---- a run that turns well
 pub record Good (n : ℕ) (ss : List ℕ) (room : ℕ) (r : Running) : Type 0 where
@@ -182,9 +194,9 @@ turnWithin d c ss room = cond (ltb (c .front) (c .count)) (deviceTurn d c ss) (l
 
 within-fit : (d : Device) (c : Cursor) (ss : List ℕ) (room : ℕ) → 0 < c .count → c .at ≤ length ss → c .written ≤ room → Fit (c .count) ss room (turnWithin d c ss room .cursor)
 within-fit d c ss room h a b =
-    let t : Taken = deviceTaken (isFirst c) d (c .pending) (drop (c .at) ss) (c .at) in
+    let t : Taken = deviceTaken d (c .pending) (drop (c .at) ss) (c .at) in
     by-test (ltb (c .front) (c .count)) (deviceTurn d c ss) (lineTurn d c ss room) (λ (u : Turned). Fit (c .count) ss room (u .cursor))
-    (aimed-fit (c .count) (frontAfter (c .front) (t .sent)) (t .at) (c .written) room (t .sent) ss h (device-at (isFirst c) d (c .pending) ss (c .at) a) b)
+    (aimed-fit (c .count) (frontAfter (c .front) (t .sent)) (t .at) (c .written) room (t .sent) ss h (device-at d (c .pending) ss (c .at) a) b)
     (line-fit (c .pending) c ss room h a b)
 
 -- a cursor within the states and the room
@@ -205,7 +217,7 @@ pub turned-device : (d : Device) (c : Cursor) (ss : List ℕ) (room : ℕ) → t
 unfolding turned
 turned-device d c ss room = go (ltb (c .front) (c .count))
   where
-    go : (t : Bool) → cond t (deviceTaken (isFirst c) d (c .pending) (drop (c .at) ss) (c .at)) (stopped d (c .at) Nothing) .device
+    go : (t : Bool) → cond t (deviceTaken d (c .pending) (drop (c .at) ss) (c .at)) (stopped d (c .at) Nothing) .device
         ≡ cond t (deviceTurn d c ss) (record { device = d; cursor = lineAfter c ss room }) .device
     go true = refl
     go false = refl
@@ -215,7 +227,7 @@ unfolding turned
 turned-cursor d c ss room = go (ltb (c .front) (c .count))
   where
     go : (t : Bool)
-        → cond t (cursorTo c (cond t (deviceTaken (isFirst c) d (c .pending) (drop (c .at) ss) (c .at)) (stopped d (c .at) Nothing) .at) (cond t (deviceTaken (isFirst c) d (c .pending) (drop (c .at) ss) (c .at)) (stopped d (c .at) Nothing) .sent) ss) (lineAfter c ss room)
+        → cond t (cursorTo c (cond t (deviceTaken d (c .pending) (drop (c .at) ss) (c .at)) (stopped d (c .at) Nothing) .at) (cond t (deviceTaken d (c .pending) (drop (c .at) ss) (c .at)) (stopped d (c .at) Nothing) .sent) ss) (lineAfter c ss room)
         ≡ cond t (deviceTurn d c ss) (record { device = d; cursor = lineAfter c ss room }) .cursor
     go true = refl
     go false = refl
@@ -261,7 +273,7 @@ lives n f i at w (One b) g [] e h = no-way (sym (ap (λ (c : Cursor). c .going) 
 lives n f i at w (One b) g (s ∷ ss) e h = tt
 lives n f i at w (Header c k) g rest e h = tt
 
-module _ (first : Bool) (d : Device) (n f at w : ℕ) (ss : List ℕ) (far : at ≤ length ss) (few : n < 1024) where
+module _ (d : Device) (n f at w : ℕ) (ss : List ℕ) (far : at ≤ length ss) (few : n < 1024) where
   Nearer : ℕ → Taken → Type 0
   Nearer o t = measure (length ss) n (aimed n (frontAfter f (t .sent)) (t .at) w (t .sent) (drop (t .at) ss)) < 2048 * (length ss - at) + 1024 * o + (n - f)
 
@@ -282,33 +294,25 @@ module _ (first : Bool) (d : Device) (n f at w : ℕ) (ss : List ℕ) (far : at 
   some-left : (s : ℕ) (rest : List ℕ) → drop at ss ≡ s ∷ rest → at + 1 + length rest ≡ length ss
   some-left s rest e = omega (arith, far, sym (length-drop at ss) ∙ ap length e)
 
-  -- a passing device moves the front on at a high state; any other takes it, and a low one is the first device's
-  front-nearer : (s : ℕ) (rest : List ℕ) → drop at ss ≡ s ∷ rest → f < n → (ltb s 2 ≡ true → first ≡ true) → Nearer 0 (frontTaken first d (s ∷ rest) at)
-  front-nearer s rest e l own = go (passes d && not (ltb s 2)) refl
+  -- a passing device moves the front on at a high state; any other state is taken
+  front-nearer : (s : ℕ) (rest : List ℕ) → drop at ss ≡ s ∷ rest → f < n → Nearer 0 (frontTaken d (s ∷ rest) at)
+  front-nearer s rest e l = go (ltb s 2) refl (passes d)
     where
-      not-low : (a b : Bool) → (a && not b) ≡ true → b ≡ false
-      not-low true true h = absurd (true≢false (sym h))
-      not-low true false h = refl
-      not-low false b h = absurd (true≢false (sym h))
+      go : (low : Bool) → ltb s 2 ≡ low → (p : Bool)
+          → Nearer 0 (cond low (roamTaken d (roamed (phaseOf (d .place)) (s ∷ rest) at)) (cond p (stopped d at (One 0)) (highTaken d (s ∷ rest) at)))
+      go true h p =
+          nearer-on (roamTaken d (roamed (phaseOf (d .place)) (s ∷ rest) at)) (low-on (phaseOf (d .place)) s rest at h) (omega (arith, some-left s rest e, roam-far d (s ∷ rest) at .ends))
+      go false h true = moves-on s rest e h l
+      go false h false = nearer-on (highTaken d (s ∷ rest) at) (high-on d s rest at h) (omega (arith, some-left s rest e, high-far d (s ∷ rest) at .ends))
 
-      taken : (b f : Bool) → (b ≡ true → f ≡ true) → (b && not f) ≡ false
-      taken true f h = ap not (h refl)
-      taken false f h = refl
-
-      go : (t : Bool) → (passes d && not (ltb s 2)) ≡ t → Nearer 0 (cond t (stopped d at (One 0)) (untilSent first d (s ∷ rest) at))
-      go true h = moves-on s rest e (not-low (passes d) (ltb s 2) h) l
-      go false h =
-          nearer-on (untilSent first d (s ∷ rest) at) (until-on first d s rest at (taken (ltb s 2) first own)) (omega (arith, some-left s rest e, until-far first d (s ∷ rest) at .ends))
-
-  device-nearer : (p : Sent) (rest : List ℕ) → drop at ss ≡ rest → Live p rest → f < n → ((s : ℕ) (xs : List ℕ) → rest ≡ s ∷ xs → owed p ≡ 0 → ltb s 2 ≡ true → first ≡ true)
-      → Nearer (owed p) (deviceTaken first d p (drop at ss) at)
+  device-nearer : (p : Sent) (rest : List ℕ) → drop at ss ≡ rest → Live p rest → f < n → Nearer (owed p) (deviceTaken d p (drop at ss) at)
   unfolding Live
-  device-nearer Nothing [] e v l own = absurd v
-  device-nearer Nothing (s ∷ rest) e v l own = subst (λ (r : List ℕ). Nearer 0 (frontTaken first d r at)) (sym e) (front-nearer s rest e l (own s rest refl refl))
-  device-nearer (One b) [] e v l own = absurd v
-  device-nearer (One b) (s ∷ rest) e v l own = subst (λ (r : List ℕ). Nearer 0 (frontTaken first d r at)) (sym e) (front-nearer s rest e l (own s rest refl refl))
-  device-nearer (Header c k) rest e v l own =
-      nearer 1 (untilSent false (sliceStart d c k) (drop at ss) at) (until-far false (sliceStart d c k) (drop at ss) at .owes) (device-at first d (Header c k) ss at far) refl
+  device-nearer Nothing [] e v l = absurd v
+  device-nearer Nothing (s ∷ rest) e v l = subst (λ (r : List ℕ). Nearer 0 (frontTaken d r at)) (sym e) (front-nearer s rest e l)
+  device-nearer (One b) [] e v l = absurd v
+  device-nearer (One b) (s ∷ rest) e v l = subst (λ (r : List ℕ). Nearer 0 (frontTaken d r at)) (sym e) (front-nearer s rest e l)
+  device-nearer (Header c k) rest e v l =
+      nearer 1 (highTaken (sliceStart d c k) (drop at ss) at) (high-far (sliceStart d c k) (drop at ss) at .owes) (device-at d (Header c k) ss at far) refl
 
 high-turns : (s : ℕ) (rest : List ℕ) → ltb s 2 ≡ false → 1 ≤ highs (s ∷ rest)
 unfolding highs
@@ -354,8 +358,7 @@ turned-nearer d n f i at w p g ss room far h few q v = go (ltb f n) refl
   where
     go : (t : Bool) → ltb f n ≡ t → measure (length ss) n (cond t (deviceTurn d (cursor n f i at w p g) ss) (lineTurn d (cursor n f i at w p g) ss room) .cursor) < measure (length ss) n (cursor n f i at w p g)
     go true e =
-        device-nearer (eqb f 0) d n f at w ss far few p (drop at ss) refl (lives n f i at w p g (drop at ss) q v) (ltb-true f n e)
-        (λ s xs r k t. eq-eqb f 0 (low-front n f i at w p g s xs (q ∙ ap (λ (y : List ℕ). aimed n f at w p y) r) k t))
+        device-nearer d n f at w ss far few p (drop at ss) refl (lives n f i at w p g (drop at ss) q v) (ltb-true f n e)
     go false e = line-nearer n f i at w p g ss (drop at ss) room far h few refl q v (ltb-false f n e)
 
 pub nearer-next : (n : ℕ) (ss : List ℕ) (room : ℕ) (r : Running) → 0 < n → n < 1024 → Good n ss room r → r .cursor .going ≡ true

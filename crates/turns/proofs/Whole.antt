@@ -17,7 +17,8 @@ use Rattle.turns.specs.Entry.{entryUnder, runUnder, runEnd}
 use Rattle.turns.proofs.Lines.{put-over, put-end-all}
 use Rattle.turns.proofs.Turns.{no-way, Good, measure, good-start, good-next, nearer-next, turns-on, turns-stop, near-start}
 use Rattle.turns.proofs.Same.{all-neat, front-run-same}
-use Rattle.turns.proofs.Room.{Accepted, accepted-run, room-enough}
+use Rattle.calls.proofs.Accepted.{Accepted, accepted-run}
+use Rattle.turns.proofs.Room.{room-enough}
 
 pub record Going (n : ℕ) (ss : List ℕ) (room t : ℕ) (s : Running) : Type 0 where
   pub good : Good n ss room s

@@ -4,18 +4,18 @@
 use Prim.Native.Nat.{ℕ, zero, suc, _+_, _*_, _%_}
 use mathlib.Core.Bool.{Bool, true, false, not, _&&_, _||_, cond}
 use mathlib.Core.List.{List, [], _∷_}
-use lib.Dec.{eqb, ltb, leb}
+use lib.Dec.{ltb, leb}
 use lib.ListN.{length, getD, set, take, drop}
 use Rattle.parts.specs.Wire.{header, statesOf}
 use Rattle.parts.specs.declared.command.Command.{Command}
-use Rattle.device.specs.Phases.{phaseOf, heard, inHeader, headed}
-use Rattle.device.specs.Step.{step, at}
-use Rattle.device.specs.declared.phase.Phase.{Phase}
-use Rattle.device.specs.declared.phase.Phase.the-variants.{Hunting, Opening, Counting, Slice, Passing, Lost}
-use Rattle.device.specs.declared.phase.Sent.{Sent}
-use Rattle.device.specs.declared.phase.Sent.the-variants.{Nothing, One, Header}
+use Rattle.phases.specs.Phases.{phaseOf, heard, inHeader, headed}
+use Rattle.device.specs.Step.{at}
+use Rattle.phases.specs.declared.phase.Phase.{Phase}
+use Rattle.phases.specs.declared.phase.Phase.the-variants.{Hunting, Opening, Counting, Slice, Passing, Lost}
+use Rattle.phases.specs.declared.phase.Sent.{Sent}
+use Rattle.phases.specs.declared.phase.Sent.the-variants.{Nothing, One, Header}
 use Rattle.device.specs.declared.device.Device.{Device}
-use Rattle.intake.specs.Intake.{stopped, unlessSent, takenFrom}
+use Rattle.intake.specs.Intake.{stopped, highTaken}
 use Rattle.intake.specs.declared.states.Taken.{Taken}
 use Rattle.calls.specs.Chain.{blank}
 use Rattle.turns.specs.declared.cursor.Cursor.{Cursor}
@@ -45,13 +45,6 @@ isLost Lost = true
 abbrev pub passes : Device → Bool
 passes d = isPassing (phaseOf (d .place))
 
--- states until the device sends or they end; low ones are the first device's alone, and any other stops before one
-unfoldable pub untilSent : Bool → Device → List ℕ → ℕ → Taken
-untilSent first d [] i = stopped d i Nothing
-untilSent first d (s ∷ ss) i =
-    cond (ltb s 2 && not first) (stopped d i Nothing)
-    (unlessSent (step d s .sent) (untilSent first (step d s .device) ss (i + 1)) (stopped (step d s .device) (i + 1) (step d s .sent)))
-
 -- a phase goes on at a state without a register being touched: at any low one, and at a high one unless it is of the device's slice or passed on
 abbrev pub roams : Phase → ℕ → Bool
 roams p s = ltb s 2 || (inHeader p || isLost p)
@@ -69,25 +62,34 @@ roamed p (s ∷ ss) i = cond (roams p s) (roamed (roamStep p s) ss (i + 1)) (rec
 abbrev pub roamTaken : Device → Roamed → Taken
 roamTaken d q = stopped (at (d .registers) (q .phase)) (q .at) Nothing
 
--- a batch of the first device's states: from a low one on as long as its phase alone goes on, or as `take` takes them
-abbrev pub batchTaken : Device → List ℕ → ℕ → Taken
-batchTaken d [] i = stopped d i Nothing
-batchTaken d (s ∷ ss) i = cond (ltb s 2) (roamTaken d (roamed (phaseOf (d .place)) (s ∷ ss) i)) (takenFrom d (s ∷ ss) i)
-
--- the front device, no header being under way. A passing one takes no high state: `One 0` says that the front moves on
-abbrev pub frontTaken : Bool → Device → List ℕ → ℕ → Taken
-frontTaken first d [] i = stopped d i Nothing
-frontTaken first d (s ∷ ss) i = cond (passes d && not (ltb s 2)) (stopped d i (One 0)) (untilSent first d (s ∷ ss) i)
+-- the front device, no header being under way: from a low state on as long as its phase alone goes on; from a high one on until it sends, a
+-- low one or the end. A passing device takes no high state: `One 0` says that the front moves on
+abbrev pub frontTaken : Device → List ℕ → ℕ → Taken
+frontTaken d [] i = stopped d i Nothing
+frontTaken d (s ∷ ss) i =
+    cond (ltb s 2) (roamTaken d (roamed (phaseOf (d .place)) (s ∷ ss) i)) (cond (passes d) (stopped d i (One 0)) (highTaken d (s ∷ ss) i))
 
 -- after a header any device stands before the first bit of its slice
 abbrev pub sliceStart : Device → Command → ℕ → Device
 sliceStart d c n = at (d .registers) (Slice c n 0)
 
 -- what the device of a turn takes: by the header under way, or by the next state
-abbrev pub deviceTaken : Bool → Device → Sent → List ℕ → ℕ → Taken
-deviceTaken first d (Header c n) ss i = untilSent false (sliceStart d c n) ss i
-deviceTaken first d Nothing ss i = frontTaken first d ss i
-deviceTaken first d (One s) ss i = frontTaken first d ss i
+abbrev pub deviceTaken : Device → Sent → List ℕ → ℕ → Taken
+deviceTaken d (Header c n) ss i = highTaken (sliceStart d c n) ss i
+deviceTaken d Nothing ss i = frontTaken d ss i
+deviceTaken d (One s) ss i = frontTaken d ss i
+
+-- the device after the header that is under way, if one is
+abbrev pub afterHeader : Device → Sent → Device
+afterHeader d (Header c n) = sliceStart d c n
+afterHeader d Nothing = d
+afterHeader d (One s) = d
+
+-- such a device at a low state, which after a header it leaves to the first device
+abbrev pub lowTaken : Device → Sent → List ℕ → ℕ → Taken
+lowTaken d (Header c n) ss i = stopped d i Nothing
+lowTaken d Nothing ss i = roamTaken d (roamed (phaseOf (d .place)) ss i)
+lowTaken d (One s) ss i = roamTaken d (roamed (phaseOf (d .place)) ss i)
 
 -- ---- the cursor
 
@@ -152,14 +154,10 @@ pub record Turned : Type 0 where
   pub device : Device
   pub cursor : Cursor
 
--- it is the turn of the first device
-abbrev pub isFirst : Cursor → Bool
-isFirst c = eqb (c .front) 0
-
 -- what the device of a turn takes: the front device what is its own, and none takes anything where all pass
 abbrev pub turnTaken : Device → Cursor → List ℕ → Taken
 turnTaken d c ss =
-    cond (ltb (c .front) (c .count)) (deviceTaken (isFirst c) d (c .pending) (drop (c .at) ss) (c .at)) (stopped d (c .at) Nothing)
+    cond (ltb (c .front) (c .count)) (deviceTaken d (c .pending) (drop (c .at) ss) (c .at)) (stopped d (c .at) Nothing)
 
 -- the cursor after the front device took the states before a place and sent
 abbrev pub cursorTo : Cursor → ℕ → Sent → List ℕ → Cursor
@@ -168,7 +166,7 @@ cursorTo c at s ss = aimed (c .count) (frontAfter (c .front) s) at (c .written) 
 -- the front device's turn
 abbrev pub deviceTurn : Device → Cursor → List ℕ → Turned
 deviceTurn d c ss =
-    let t : Taken = deviceTaken (isFirst c) d (c .pending) (drop (c .at) ss) (c .at) in
+    let t : Taken = deviceTaken d (c .pending) (drop (c .at) ss) (c .at) in
     record { device = t .device; cursor = cursorTo c (t .at) (t .sent) ss }
 
 -- the cursor after k states left the chain, the next state being at a place

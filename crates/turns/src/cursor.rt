@@ -3,7 +3,7 @@ ghost use mathlib.Core.Path.{_≡_};
 ghost use lib.ListN.{drop};
 ghost use Prim.Native.Nat.{_<_, _+_, _^_};
 ghost use Rattle.turns.specs.Front.{indexOf, facing, aimed, frontAfter, halted};
-use device::Sent;
+use phases::Sent;
 
 pub struct Cursor {
     // The number of devices.
@@ -32,28 +32,18 @@ pub fn aim(
 ) -> Cursor
     ensures { λ r. ⌜ r ≡ aimed count front at written pending (drop at (now (states .entry))) ⌝ }
 {
-    match pending {
-        Sent::Nothing => face(count, front, at, written, states),
-        Sent::One(_) => face(count, front, at, written, states),
-        Sent::Header {
-            command,
-            count: sum,
-        } => {
-            let index = index_of(count, front);
-            Cursor {
-                count: count,
-                front: front,
-                index: index,
-                at: at,
-                written: written,
-                pending: Sent::Header {
-                    command: command,
-                    count: sum,
-                },
-                going: true,
-            }
-        }
+    if let Sent::Header { .. } = pending {
+        return Cursor {
+            count,
+            front,
+            index: index_of(count, front),
+            at,
+            written,
+            pending,
+            going: true,
+        };
     }
+    face(count, front, at, written, states)
 }
 
 // By the next state: a low one is the first device's.
@@ -63,33 +53,32 @@ pub fn face(count: usize, front: usize, at: usize, written: usize, states: &[u8]
     if at < states.len() {
         if states[at] < 2 {
             Cursor {
-                count: count,
+                count,
                 front: 0,
                 index: 0,
-                at: at,
-                written: written,
+                at,
+                written,
                 pending: Sent::Nothing,
                 going: true,
             }
         } else {
-            let index = index_of(count, front);
             Cursor {
-                count: count,
-                front: front,
-                index: index,
-                at: at,
-                written: written,
+                count,
+                front,
+                index: index_of(count, front),
+                at,
+                written,
                 pending: Sent::Nothing,
                 going: true,
             }
         }
     } else {
         Cursor {
-            count: count,
-            front: front,
+            count,
+            front,
             index: 0,
-            at: at,
-            written: written,
+            at,
+            written,
             pending: Sent::Nothing,
             going: false,
         }
@@ -124,10 +113,6 @@ pub fn front_after(front: usize, sent: Sent) -> usize
 {
     match sent {
         Sent::Nothing => front,
-        Sent::One(_) => front + 1,
-        Sent::Header {
-            command: _,
-            count: _,
-        } => front + 1,
+        _ => front + 1,
     }
 }

@@ -32,16 +32,10 @@ fn enter_under(refusal: u8, n: usize, states: &[u8]) -> Entry
 {
     if refusal == 0 {
         let cursor = crate::cursor::face(n, 0, 0, 0, states);
-        Entry {
-            refusal: refusal,
-            cursor: cursor,
-        }
+        Entry { refusal, cursor }
     } else {
         let cursor = crate::cursor::halt();
-        Entry {
-            refusal: refusal,
-            cursor: cursor,
-        }
+        Entry { refusal, cursor }
     }
 }
 
@@ -52,11 +46,11 @@ pub fn answer(refusal: u8, n: usize) -> Ran
     if refusal != 0 {
         return Ran {
             returned: 0,
-            refusal: refusal,
+            refusal,
         };
     }
     Ran {
         returned: n,
-        refusal: refusal,
+        refusal,
     }
 }

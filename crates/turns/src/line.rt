@@ -1,15 +1,13 @@
 // What leaves the chain: the 24 states of a header, and the high states that every device passes.
 ghost use mathlib.Core.Path.{_≡_};
-ghost use mathlib.Core.Bool.{cond};
 ghost use Prim.Native.Nat.{_<_, _≤_, _+_, _/_, _%_};
-ghost use lib.Dec.{leb};
 ghost use lib.ListN.{length, drop, take};
 ghost use Rattle.parts.specs.Wire.{header, statesOf};
-ghost use Rattle.device.specs.declared.phase.Sent.the-variants.{Nothing};
+ghost use Rattle.phases.specs.declared.phase.Sent.the-variants.{Nothing};
 ghost use Rattle.turns.specs.Front.{putAll, putEnd, highs, aimed, passedTo, lineCursor, lineOut};
 use crate::cursor::Cursor;
-use device::Sent;
 use parts::Command;
+use phases::Sent;
 
 // A header that the last device sent, or the high states.
 pub fn line(cursor: Cursor, states: &[u8], returned: &mut [u8]) -> Cursor
@@ -17,11 +15,10 @@ pub fn line(cursor: Cursor, states: &[u8], returned: &mut [u8]) -> Cursor
     ensures { λ r. ⌜ (r ≡ lineCursor (cursor .pending) cursor (now (states .entry)) (length (now (returned .entry)))) × (now (returned .exit) ≡ lineOut cursor (now (states .entry)) (now (returned .entry))) ⌝ }
 {
     let pending = cursor.pending;
-    match pending {
-        Sent::Nothing => pass(cursor, states, returned),
-        Sent::One(_) => pass(cursor, states, returned),
-        Sent::Header { command, count } => leave(cursor, command, count, states, returned),
+    if let Sent::Header { command, count } = pending {
+        return leave(cursor, command, count, states, returned);
     }
+    pass(cursor, states, returned)
 }
 
 // A header leaves the chain.
@@ -59,19 +56,13 @@ fn append(returned: &mut [u8], from: usize, states: &[u8]) -> usize
     requires { ⌜ from ≤ length (now returned) ⌝ }
     ensures { λ r. ⌜ (r ≡ putEnd (length (now (returned .entry))) from (length (now (states .entry)))) × (now (returned .exit) ≡ putAll (now (returned .entry)) from (now (states .entry))) ⌝ }
 {
-    let n = smaller(states.len(), returned.len() - from);
+    let n = intake::smaller(states.len(), returned.len() - from);
     let mut i: usize = 0;
     while i < n {
         returned[from + i] = states[i];
         i += 1;
     }
     from + n
-}
-
-fn smaller(a: usize, b: usize) -> usize
-    ensures { λ r. ⌜ r ≡ cond (leb a b) a b ⌝ }
-{
-    if a <= b { a } else { b }
 }
 
 // The 24 states of a header: SYNC at low load, command and count at high.

@@ -5,8 +5,8 @@ ghost use lib.ListN.{length};
 ghost use Rattle.turns.specs.Front.{turnTaken, cursorAfter, turnedOut};
 use crate::cursor::Cursor;
 use device::Device;
-use device::Sent;
 use intake::Taken;
+use phases::Sent;
 
 // What the device of the turn takes.
 pub fn take_turn(device: Device, cursor: Cursor, states: &[u8]) -> Taken
@@ -15,11 +15,11 @@ pub fn take_turn(device: Device, cursor: Cursor, states: &[u8]) -> Taken
     let at = cursor.at;
     if cursor.front < cursor.count {
         let pending = cursor.pending;
-        return crate::states::device_take(device, cursor.front == 0, pending, states, at);
+        return crate::states::device_take(device, pending, states, at);
     }
     Taken {
-        device: device,
-        at: at,
+        device,
+        at,
         sent: Sent::Nothing,
     }
 }

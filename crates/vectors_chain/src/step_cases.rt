@@ -1,8 +1,8 @@
 // One device, stepped by value: rules that no number of document 01 shows. Each frame is given as its bytes, SYNC at low load.
 ghost use Prim.Native.Nat.{_≤_};
 use device::Device;
-use device::Place;
-use device::Sent;
+use phases::Place;
+use phases::Sent;
 
 // What a device is seen to do: the refusal of a step, or 0; its phase; its configuration; its waiting global byte; how many states it
 // sent on, and the count of the last header among them.

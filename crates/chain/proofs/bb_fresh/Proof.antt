@@ -1,5 +1,5 @@
--- `chain::bb_fresh` meets its contract: a walk of its MIR, by hand. Each turn of the loop stores a fresh record, whatever was there.
-use Rattle.calls.proofs.Walk.{_≡_, refl, sym, _∙_, ap, subst, ℕ, zero, suc, _+_, _*_, _<_, _^_, arith, Bool, List, [], _∷_, length, URA, fullShare, Ty, named, mut, w8, w16, w64, tyInt, tyBool, tyPtr, tyRef, vbool, vint, vptr, Val, SProp, ent, emp, via, fst∗, Lft, GName, Share, ftrue, fat, flft, Memory, Routine, Heap, Out, Env, Wp, WpFn, Tables, afterSeq, afterBlock, afterTurn, atReturn, Atoms, fmOf, Given, Item, ‵, _⊛_, ⋆, anyQ, atRet, _$_, _∵_, !, qed, by, move, drop, split, join, rewrite, fsplit, fjoin, suffices, frame, done, whole, sub, look-in, look, store, store-raw, init, forget, stop, hop, fld, from, load, lit, of-opd, and-then, no-more, bin, assigns, assigns-last, land, stays, leaves-loop, exec, returns, enter, alloc1, alloc0, params1, pass1, pass0, free1, free0, Fun, givenOf, tables, tablesOf, yes, owns, pointee, Is, uint-vals, uint-tells, uint-makes, RefT, sliceTy, sliceVal, MutSlice, Room, finally, slice-vals, mut-slice-tells, row, plain, u8, u16, onEntry, tripleOf, Contract, Triple, cited, nothing, owned, heard, says, Stays, gave-slice, stay-dropped, walkOf, ends-at, walked, goes-gave-slice, goes-dropped, word, byte, loop, id⊢}
+-- `chain::bb_fresh` meets its contract: a walk of its MIR, by hand. The loop is proofs/Loop's; each record is made by `fresh`, whatever was there.
+use Rattle.calls.proofs.Walk.{_≡_, refl, sym, _∙_, ap, subst, ℕ, _<_, _^_, List, [], _∷_, length, URA, fullShare, named, w8, w16, w64, tyInt, tyBool, tyPtr, vint, Val, SProp, ent, emp, via, fst∗, Lft, GName, Share, ftrue, fat, flft, Memory, Routine, Heap, Out, Env, Wp, WpFn, Tables, afterSeq, afterBlock, afterTurn, atReturn, Atoms, fmOf, Given, Item, ‵, _⊛_, ⋆, anyQ, atRet, _$_, _∵_, !, qed, by, move, drop, split, join, rewrite, fsplit, fjoin, suffices, frame, done, whole, sub, look-in, look, init, forget, stop, fld, from, load, of-opd, and-then, no-more, assigns, land, exec, returns, enter, alloc1, alloc0, params1, pass1, pass0, Fun, givenOf, tables, tablesOf, yes, owns, Is, uint-vals, uint-tells, uint-makes, RefT, sliceVal, MutSlice, Room, finally, slice-vals, mut-slice-tells, row, plain, u8, u16, onEntry, tripleOf, Contract, Triple, cited, nothing, owned, heard, says, Stays, gave-slice, stay-dropped, walkOf, ends-at, walked, goes-gave-slice, goes-dropped, word, byte, loop, id⊢}
 use denote.Struct.Laws as LL
 use Rattle.device.specs.declared.device.Device.{Device}
 use Rattle.device.proofs.device.Device.Laws.{mir as dev}
@@ -9,9 +9,11 @@ use Rattle.calls.specs.Changes.{span, freshSpan}
 use Rattle.calls.proofs.Judged.{fresh-refusal-found}
 use Rattle.chain.proofs.Sweep.{fresh-within, fresh-swept}
 use Rattle.calls.specs.declared.changes.Span.{Span}
-use Rattle.calls.proofs.Dev.{D, val, vals, tells, lawful, place-fits, place-at, size, out, into}
-use Rattle.calls.proofs.Lent.{ref, sl, Open, opened, final, hold, free, Again, again, loops, calls-plain, closes}
-use Rattle.chain.proofs.Sweep.{sweep, sweep-none, sweep-next, length-sweep, turnsOf, Within, at-next, at-first, test-yes, test-no}
+use Rattle.calls.proofs.Dev.{D, val, tells, lawful}
+use Rattle.calls.proofs.Lent.{ref, sl, opened, final, hold, free, calls-plain, closes}
+use Rattle.chain.proofs.Sweep.{sweep-none, length-sweep, turnsOf, Within, at-first}
+use Rattle.chain.proofs.Loop.{sliceD, sval, SIs, Locals, local, Swept, Goes, Storing, At, Tested, Stores, Leaves, free-all, sweeps}
+use package.mir.Syntax.{place, copy, Body, seq, call}
 use Rattle.calls.proofs.changes.Span as Sp
 use Rattle.calls.proofs.changes.Span.Laws as Sp′
 use Rattle.device.proofs.device.Device.fresh as step
@@ -27,15 +29,6 @@ use Rattle.chain.proofs.bb_fresh as bb-fresh
 use Rattle.chain.proofs.bb_fresh.Statement as stated
 use Rattle.chain.proofs.bb_fresh.Code as code
 use Rattle.chain.proofs.bb_fresh.Code.Mir as m
-
-abbrev sliceD : Ty
-sliceD = sliceTy (tyRef (named 0) mut (pointee (D .written)))
-
-abbrev sval : Span → Val
-sval = LL.val Sp.the-type Sp′.the-laws
-
-abbrev SIs : Span → Type 0
-SIs s = Is Sp.the-row s (LL.vals Sp.the-type Sp′.the-laws s)
 
 abbrev stayed : Stays (bb-fresh.ended .signature .params) (bb-fresh.ended .kept)
 stayed = (gave-slice (0 ∷ []) tt (plain (λ _. D)), (stay-dropped (plain (λ _. u16)) yes, tt))
@@ -68,6 +61,12 @@ module _ {M : Type 1} (𝓤 : URA M) (H : Heap 𝓤) (A : Atoms 𝓤) (W : Given
   abbrev last : List Device
   last = freshAfter part xs
 
+  abbrev lent : Swept
+  lent = record { lifetime = κ; share = q; block = b; start = o; name = γ; records = xs; span = S; change = f }
+
+  within : Within S (length xs)
+  within = fresh-within part xs
+
   last-length : length last ≡ length xs
   last-length = ap length (sym (fresh-swept part xs)) ∙ length-sweep f (S .from) (turnsOf S) xs
 
@@ -77,94 +76,67 @@ module _ {M : Type 1} (𝓤 : URA M) (H : Heap 𝓤) (A : Atoms 𝓤) (W : Given
       suffices ! _ (ends-at 𝓤 H A bb-fresh.ended stayed (bb-fresh.clauses 𝓤 H A mem run) W (((κ, tt), (q, tt), tt, x, at), tt) (vint w8 num) num (last, (tt, tt)) (last-length, (tt, tt))) $ says ! (refl, refl) $
       nothing ! $ move ! (2 ∷ 0 ∷ []) $ join ! $ frame ! $ nothing ! $ nothing ! $ fjoin ! $ move ! (1 ∷ 0 ∷ []) $ fjoin ! $ frame ! $ owned ! u8 (Is u8) (uint-makes 𝓤 H A W w8) num _ (refl, g) $ done !
 
-  module _ (𝓣 : Tables 𝓤 H) (g : Room D (length xs)) (s-is : SIs S) (d-is : Is D (freshDevice part) (vals (freshDevice part))) (part-fits : part < 2 ^ 16) (l₀ l₁ l₂ l₃ l₄ l₅ l₆ l₇ l₈ l₉ : ℕ) where
+  module _ (𝓣 : Tables 𝓤 H) (known : Triple 𝓤 (𝓣 .C #step) (StepC 𝓤 H A mem run)) (g : Room D (length xs)) (s-is : SIs S) (part-fits : part < 2 ^ 16) (l₀ l₁ l₂ l₃ l₄ l₅ l₆ l₇ l₈ l₉ : ℕ) where
     abbrev E : Env 𝓤 H
-    E = (byte, l₀) ∷ (sliceD, l₁) ∷ (tyInt w16, l₂) ∷ (Sp′.mir, l₃) ∷ (dev, l₄) ∷ (word, l₅) ∷ (word, l₆) ∷ (tyBool, l₇) ∷ (word, l₈) ∷ (tyPtr, l₉) ∷ []
+    E = (byte, l₀) ∷ (sliceD, l₁) ∷ (tyInt w16, l₂) ∷ (Sp′.mir, l₃) ∷ (word, l₄) ∷ (word, l₅) ∷ (tyBool, l₆) ∷ (dev, l₇) ∷ (word, l₈) ∷ (tyPtr, l₉) ∷ []
 
-    -- before turn k, [the row; open; _9, _8, _7, _6, _5, _4, _3, _2, _1, _0]
-    abbrev At : ℕ → List (Item 𝓤)
-    At k = ‵ (row D fullShare (sweep f (S .from) k xs) b o) ∷ ‵ (Open D κ q γ xs b o) ∷
-        free tyPtr l₉ (free word l₈ (free tyBool l₇ (free word l₆ (hold word l₅ (vint w64 (S .from + k)) (hold dev l₄ (val (freshDevice part)) (hold Sp′.mir l₃ (sval S) (hold (tyInt w16) l₂ (vint w16 part) (hold sliceD l₁ (sliceVal (b, o) (length xs)) (free byte l₀ [])))))))))
+    abbrev L : Locals 𝓤 H E
+    L = record { index = local 4 l₄ refl; span = local 3 l₃ refl; chain = local 1 l₁ refl; test = local 6 l₆ refl; offset = local 8 l₈ refl; address = local 9 l₉ refl; made = local 7 l₇ refl }
 
-    abbrev Ok : ℕ → ℕ → Type 0
-    Ok t k = k + t ≡ turnsOf S
+    -- the locals that the loop leaves alone
+    abbrev Γ : List (Item 𝓤)
+    Γ = free word l₅ (hold (tyInt w16) l₂ (vint w16 part) (free byte l₀ []))
+
+    abbrev Calling : Body
+    Calling = seq (call #step (copy (place 2 []) ∷ []) (place 7 [])) (Storing L)
 
     abbrev Left : Out → SProp 𝓤
-    Left = afterBlock 𝓤 H (afterSeq 𝓤 H (Wp 𝓤 H (𝓣 .C) (𝓣 .Λ) E m.t-6 (atReturn 𝓤 H E Post)) (atReturn 𝓤 H E Post))
+    Left = afterBlock 𝓤 H (afterSeq 𝓤 H (Wp 𝓤 H (𝓣 .C) (𝓣 .Λ) E m.t-5 (atReturn 𝓤 H E Post)) (atReturn 𝓤 H E Post))
 
-    within : Within S (length xs)
-    within = fresh-within part xs
+    make : (k : ℕ) (X : SProp 𝓤) → Goes lent k → Stores W 𝓣 L lent Γ Left k X → ent 𝓤 (⋆ 𝓤 H A (Tested L lent Γ k)) (Wp 𝓤 H (𝓣 .C) (𝓣 .Λ) E (Calling) (afterTurn 𝓤 H X Left))
+    make k X small stores =
+        qed W (Tested L lent Γ k) ∵ exec ! (𝓣 .C) (𝓣 .Λ) E Calling (anyQ (afterTurn 𝓤 H X Left)) $
+        calls-plain ! (fmOf 𝓤 H (W .laws) 𝓣) (step.signature .params) (step.signature .result) (step.ended .kept) (step.clauses 𝓤 H A mem run) known
+        (part, tt) (vint w16 part ∷ [], tt) (uint-makes 𝓤 H A W w16, tt) ((refl, part-fits), tt) tt (id⊢ 𝓤 _) val tells
+        (and-then ! (load ! (from ! (stop !)) (look ! 19 refl)) (no-more !))
+        (λ r ws is′. heard ! (r ≡ freshDevice part) (λ e.
+        land ! (from ! (stop !)) (init ! 14 refl (lawful 𝓤 H A W .typed r _ is′ .0)) $ by ! (stores r is′ e)))
 
-    more : (k : ℕ) (X : SProp 𝓤) → S .from + k < S .to → ent 𝓤 (⋆ 𝓤 H A (At (suc k))) X → ent 𝓤 (⋆ 𝓤 H A (At k)) (Wp 𝓤 H (𝓣 .C) (𝓣 .Λ) E m.turn-1 (afterTurn 𝓤 H X Left))
-    unfolding afterTurn
-    more k X small then =
-        let ys : List Device = sweep f (S .from) k xs in
-        let i : ℕ = S .from + k in
-        let near : i < length xs = omega (arith, small, within .far) in
-        let l : i < length ys = subst (λ (z : ℕ). i < z) (sym (length-sweep f (S .from) k xs)) near in
-        let at-fits : i * size < 2 ^ 64 = place-fits i (length xs) near (g .1) in
-        let next-fits : i + 1 < 2 ^ 64 = omega (arith, near, g .0) in
-        qed W (At k) ∵ exec ! (𝓣 .C) (𝓣 .Λ) E m.turn-1 (anyQ (afterTurn 𝓤 H X Left)) $
-        assigns ! (bin ! (load ! (from ! (stop !)) (look ! 10 refl)) (load ! (from ! (fld ! refl (stop !))) (look-in ! 14 (sub ! 2 refl (whole !)))) tt) (from ! (stop !)) (init ! 6 refl (tt, tt)) $
-        rewrite ! 6 (λ (t : Bool). ‵ (fat fullShare tyBool l₇ 0 (vbool t))) (test-yes i (S .to) small) refl $
-        stays ! (load ! (from ! (stop !)) (look ! 6 refl)) $
-        assigns ! (bin ! (load ! (from ! (stop !)) (look ! 10 refl)) (lit ! tt) (record { fits = at-fits })) (from ! (stop !)) (init ! 4 refl (tt, record { fits = at-fits })) $
-        assigns ! (bin ! (load ! (from ! (fld ! refl (stop !))) (look-in ! 18 (sub ! 0 refl (whole !)))) (load ! (from ! (stop !)) (look ! 4 refl)) tt) (from ! (stop !)) (init ! 2 refl (tt, tt)) $
-        rewrite ! 2 (λ (p : ℕ). ‵ (fat fullShare tyPtr l₉ 0 (vptr b p))) (place-at o i) refl $
-        out ! ys i b o l (λ _.
-        assigns ! (of-opd ! (load ! (from ! (stop !)) (look ! 13 refl))) (from ! (hop ! (look ! 3 refl) (stop !))) (store-raw ! 0 refl (lawful 𝓤 H A W .typed (freshDevice part) _ d-is .0)) $
-        into ! ys i (freshDevice part) b o l d-is $
-        rewrite ! 0 (λ (zs : List Device). ‵ (row D fullShare zs b o)) (sweep-next f (S .from) k xs) refl $
-        assigns-last ! (bin ! (load ! (from ! (stop !)) (look ! 10 refl)) (lit ! tt) (record { fits = next-fits })) (from ! (stop !)) (store ! 10 refl (tt, record { fits = next-fits })) $
-        forget ! 2 refl $ forget ! 4 refl $ forget ! 6 refl $
-        rewrite ! 10 (λ (j : ℕ). ‵ (fat fullShare word l₅ 0 (vint w64 j))) (at-next (S .from) k) refl $ by ! then)
-
-    ends : (X : SProp 𝓤) (k : ℕ) → k ≡ turnsOf S → ent 𝓤 (⋆ 𝓤 H A (At k)) (Wp 𝓤 H (𝓣 .C) (𝓣 .Λ) E m.turn-1 (afterTurn 𝓤 H X Left))
-    unfolding afterTurn
-    ends X k e =
-        qed W (At k) ∵ exec ! (𝓣 .C) (𝓣 .Λ) E m.turn-1 (anyQ (afterTurn 𝓤 H X Left)) $
-        assigns ! (bin ! (load ! (from ! (stop !)) (look ! 10 refl)) (load ! (from ! (fld ! refl (stop !))) (look-in ! 14 (sub ! 2 refl (whole !)))) tt) (from ! (stop !)) (init ! 6 refl (tt, tt)) $
-        rewrite ! 6 (λ (t : Bool). ‵ (fat fullShare tyBool l₇ 0 (vbool t))) (test-no (S .from + k) (S .to) (omega (arith, e, within .order))) refl $
-        leaves-loop ! (load ! (from ! (stop !)) (look ! 6 refl)) $ exec ! (𝓣 .C) (𝓣 .Λ) E m.t-6 (atRet E Post) $
-        rewrite ! 0 (λ (zs : List Device). ‵ (row D fullShare zs b o)) (ap (λ (j : ℕ). sweep f (S .from) j xs) e ∙ (fresh-swept part xs)) refl $
-        assigns ! (of-opd ! (load ! (from ! (fld ! refl (stop !))) (look-in ! 14 (sub ! 0 refl (whole !))))) (from ! (stop !)) (init ! 20 refl (tt, record { fits = num-fits })) $
+    ends : ent 𝓤 (⋆ 𝓤 H A (At L lent Γ (turnsOf S))) (Leaves 𝓤 Left)
+    ends =
+        qed W (At L lent Γ (turnsOf S)) ∵ exec ! (𝓣 .C) (𝓣 .Λ) E m.t-5 (atRet E Post) $
+        rewrite ! 0 (λ (zs : List Device). ‵ (row D fullShare zs b o)) (fresh-swept part xs) refl $
+        assigns ! (of-opd ! (load ! (from ! (fld ! refl (stop !))) (look-in ! 4 (sub ! 0 refl (whole !))))) (from ! (stop !)) (init ! 20 refl (tt, record { fits = num-fits })) $
         final ! tt D xs last last-length b o $
-        returns ! (look ! 20 refl) $ forget ! 6 refl $ forget ! 10 refl $ forget ! 12 refl $ forget ! 14 refl $ forget ! 16 refl $ forget ! 18 refl $ forget ! 20 refl $
-        move ! (20 ∷ 21 ∷ []) $ free1 ! $ move ! (18 ∷ 19 ∷ []) $ free1 ! $ move ! (16 ∷ 17 ∷ []) $ free1 ! $ move ! (14 ∷ 15 ∷ []) $ free1 ! $ move ! (12 ∷ 13 ∷ []) $ free1 ! $ move ! (10 ∷ 11 ∷ []) $ free1 ! $ move ! (8 ∷ 9 ∷ []) $ free1 ! $ move ! (6 ∷ 7 ∷ []) $ free1 ! $ move ! (4 ∷ 5 ∷ []) $ free1 ! $ move ! (2 ∷ 3 ∷ []) $ free1 ! $ free0 ! $ by ! (exits num-fits)
+        returns ! (look ! 20 refl) $ forget ! 2 refl $ forget ! 4 refl $ forget ! 6 refl $ forget ! 18 refl $ forget ! 20 refl $
+        move ! (20 ∷ 21 ∷ 6 ∷ 7 ∷ 18 ∷ 19 ∷ 4 ∷ 5 ∷ 2 ∷ 3 ∷ 16 ∷ 17 ∷ 8 ∷ 9 ∷ 14 ∷ 15 ∷ 10 ∷ 11 ∷ 12 ∷ 13 ∷ []) $
+        free-all ! E $ by ! (exits num-fits)
       where
         num-fits : num < 2 ^ 8
         num-fits = LL.owed Sp.the-type Sp′.the-laws S _ s-is .0 .1
 
-    turns : (t k : ℕ) → Ok t k → ent 𝓤 (⋆ 𝓤 H A (At k)) (Wp 𝓤 H (𝓣 .C) (𝓣 .Λ) E m.turn-1 (afterTurn 𝓤 H (Again 𝓤 H A Ok At t) Left))
-    turns zero k e = ends (Again 𝓤 H A Ok At zero) k (omega (arith, e))
-    turns (suc t) k e = more k (Again 𝓤 H A Ok At (suc t)) (omega (arith, e, within .order)) (again 𝓤 H A Ok At (suc t) t (suc k) (omega arith) (omega (arith, e)))
-
-    enters : ent 𝓤 (⋆ 𝓤 H A (At 0)) (Wp 𝓤 H (𝓣 .C) (𝓣 .Λ) E (loop m.turn-1) Left)
-    enters = loops 𝓤 H A Ok At W 𝓣 E m.turn-1 Left turns (turnsOf S) 0 (omega arith)
+    enters : ent 𝓤 (⋆ 𝓤 H A (At L lent Γ 0)) (Wp 𝓤 H (𝓣 .C) (𝓣 .Λ) E (loop m.turn-1) Left)
+    enters = sweeps W 𝓣 L lent g within Γ Left (Calling) make ends
 
   walk : (𝓣 : Tables 𝓤 H) → Triple 𝓤 (𝓣 .C #step) (StepC 𝓤 H A mem run) → Triple 𝓤 (𝓣 .C #spans) (SpansC 𝓤 H A mem run) → Room D (length xs) → part < 2 ^ 16
       → ent 𝓤 (onEntry 𝓤 H A bb-fresh.signature (κ, tt) (q, tt) x at) (WpFn 𝓤 H (𝓣 .C) (𝓣 .Λ) code.function (sliceVal (b, o) (length xs) ∷ vint w16 part ∷ []) Post)
   walk 𝓣 known known-span g part-fits =
       qed W ((‵ (flft κ q) ⊛ ‵ ftrue) ∷ ‵ (owns (MutSlice (named 0) κ D ∷ u16 ∷ []) x at) ∷ []) ∵ enter ! (𝓣 .C) (𝓣 .Λ) code.function (sliceVal (b, o) (length xs) ∷ vint w16 part ∷ []) _ $
-      alloc1 ! (λ l₀. alloc1 ! {τ = sliceD} (λ l₁. alloc1 ! (λ l₂. alloc1 ! {τ = Sp′.mir} (λ l₃. alloc1 ! {τ = dev} (λ l₄. alloc1 ! (λ l₅. alloc1 ! (λ l₆. alloc1 ! (λ l₇. alloc1 ! (λ l₈. alloc1 ! (λ l₉. alloc0 ! $ params1 ! $
+      alloc1 ! (λ l₀. alloc1 ! {τ = sliceD} (λ l₁. alloc1 ! (λ l₂. alloc1 ! {τ = Sp′.mir} (λ l₃. alloc1 ! (λ l₄. alloc1 ! (λ l₅. alloc1 ! (λ l₆. alloc1 ! {τ = dev} (λ l₇. alloc1 ! (λ l₈. alloc1 ! (λ l₉. alloc0 ! $ params1 ! $
       pass1 ! (init ! 16 refl (tt, (tt, (record { fits = g .0 }, tt)))) $ pass1 ! (init ! 14 refl (tt, record { fits = part-fits })) $ pass0 ! $
       move ! (20 ∷ 21 ∷ []) $ split ! $ move ! (1 ∷ []) $ drop ! $ move ! (1 ∷ []) $ fsplit ! $ move ! (1 ∷ []) $ drop ! $ opened ! tt D xs b o $
-      assigns ! (of-opd ! (load ! (from ! (fld ! refl (stop !))) (look-in ! 18 (sub ! 1 refl (whole !))))) (from ! (stop !)) (init ! 8 refl (tt, record { fits = g .0 })) $
+      assigns ! (of-opd ! (load ! (from ! (fld ! refl (stop !))) (look-in ! 18 (sub ! 1 refl (whole !))))) (from ! (stop !)) (init ! 10 refl (tt, record { fits = g .0 })) $
       calls-plain ! (fmOf 𝓤 H (W .laws) 𝓣) (spans.signature .params) (spans.signature .result) (spans.ended .kept) (spans.clauses 𝓤 H A mem run) known-span (part, (length xs, tt)) (vint w16 part ∷ [], (vint w64 (length xs) ∷ [], tt)) (uint-makes 𝓤 H A W w16, (uint-makes 𝓤 H A W w64, tt)) ((refl, part-fits), ((refl, g .0), tt)) tt (id⊢ 𝓤 _) sval (LL.tells Sp.the-type Sp′.the-laws)
-      (and-then ! (load ! (from ! (stop !)) (look ! 17 refl)) (and-then ! (load ! (from ! (stop !)) (look ! 9 refl)) (no-more !))) (λ r ws is′. heard ! (r ≡ freshSpan part (length xs)) (λ e′.
+      (and-then ! (load ! (from ! (stop !)) (look ! 17 refl)) (and-then ! (load ! (from ! (stop !)) (look ! 11 refl)) (no-more !))) (λ r ws is′. heard ! (r ≡ freshSpan part (length xs)) (λ e′.
       let is-S : r ≡ S = e′ ∙ ap (λ (z : ℕ). span z 0 (length xs)) (fresh-refusal-found part (length xs)) in
       let s-is : SIs S = subst SIs is-S is′ in
       land ! (from ! (stop !)) (init ! 14 refl (LL.lawful Sp.the-type Sp′.the-laws 𝓤 H A W .typed r _ is′ .0)) $
       rewrite ! 14 (λ (u : Span). ‵ (fat fullShare Sp′.mir l₃ 0 (sval u))) is-S refl $
-      calls-plain ! (fmOf 𝓤 H (W .laws) 𝓣) (step.signature .params) (step.signature .result) (step.ended .kept) (step.clauses 𝓤 H A mem run) known (part, tt) (vint w16 part ∷ [], tt) (uint-makes 𝓤 H A W w16, tt) ((refl, part-fits), tt) tt (id⊢ 𝓤 _) val tells
-      (and-then ! (load ! (from ! (stop !)) (look ! 17 refl)) (no-more !)) (λ d ws d-is′. heard ! (d ≡ freshDevice part) (λ e″.
-      let d-is : Is D (freshDevice part) (vals (freshDevice part)) = subst (λ (u : Device). Is D u (vals u)) e″ d-is′ in
-      land ! (from ! (stop !)) (init ! 12 refl (lawful 𝓤 H A W .typed d _ d-is′ .0)) $
-      rewrite ! 12 (λ (u : Device). ‵ (fat fullShare dev l₄ 0 (val u))) e″ refl $
-      assigns ! (of-opd ! (load ! (from ! (fld ! refl (stop !))) (look-in ! 14 (sub ! 1 refl (whole !))))) (from ! (stop !)) (init ! 10 refl (tt, record { fits = LL.owed Sp.the-type Sp′.the-laws S _ s-is .1 .0 .1 })) $
-      rewrite ! 10 (λ (j : ℕ). ‵ (fat fullShare word l₅ 0 (vint w64 j))) (at-first (S .from)) refl $
+      assigns ! (of-opd ! (load ! (from ! (fld ! refl (stop !))) (look-in ! 14 (sub ! 1 refl (whole !))))) (from ! (stop !)) (init ! 12 refl (tt, record { fits = LL.owed Sp.the-type Sp′.the-laws S _ s-is .1 .0 .1 })) $
+      rewrite ! 12 (λ (j : ℕ). ‵ (fat fullShare word l₄ 0 (vint w64 j))) (at-first (S .from)) refl $
       rewrite ! 0 (λ (zs : List Device). ‵ (row D fullShare zs b o)) (sym (sweep-none f (S .from) xs)) refl $
-      forget ! 8 refl $ by ! (enters 𝓣 g s-is d-is part-fits l₀ l₁ l₂ l₃ l₄ l₅ l₆ l₇ l₈ l₉)))))))))))))))
+      forget ! 10 refl $
+      move ! (0 ∷ 1 ∷ 12 ∷ 13 ∷ 14 ∷ 15 ∷ 18 ∷ 19 ∷ 8 ∷ 9 ∷ 4 ∷ 5 ∷ 2 ∷ 3 ∷ 6 ∷ 7 ∷ []) $ by ! (enters 𝓣 known g s-is part-fits l₀ l₁ l₂ l₃ l₄ l₅ l₆ l₇ l₈ l₉)))))))))))))
 
 pub bb-fresh-spec : {M : Type 1} → stated.statement M
 unfolding code.routine tablesOf

@@ -12,7 +12,7 @@ use Rattle.turns.specs.declared.cursor.Cursor.{Cursor}
 use Rattle.turns.specs.declared.entry.Entry.{Entry}
 use Rattle.turns.specs.declared.entry.Ran.{Ran}
 use Rattle.calls.specs.declared.judging.Judged.{Judged}
-use Rattle.device.specs.declared.phase.Sent.{Sent}
+use Rattle.phases.specs.declared.phase.Sent.{Sent}
 use Rattle.intake.specs.declared.states.Taken.{Taken}
 use Rattle.turns.specs.Front.{Running, nowAt, turnTaken, cursorAfter, turned, turnedOut, turning, enough}
 use Rattle.calls.specs.Judging.{unjudged, judgedFrom, runRows}
@@ -28,8 +28,8 @@ use Rattle.calls.proofs.judging.Judged as J
 use Rattle.calls.proofs.judging.Judged.Laws as J′
 use Rattle.intake.proofs.states.Taken as S
 use Rattle.intake.proofs.states.Taken.Laws as S′
-use Rattle.device.proofs.phase.Sent as N
-use Rattle.device.proofs.phase.Sent.Laws as N′
+use Rattle.phases.proofs.phase.Sent as N
+use Rattle.phases.proofs.phase.Sent.Laws as N′
 use Rattle.calls.proofs.Judged.{run-refusal-found}
 use Rattle.turns.proofs.Turns.{Good, turned-device, turned-cursor}
 use Rattle.turns.proofs.Whole.{Stands, stands-next, stands-zero, stands-end, stands-start, run-same}

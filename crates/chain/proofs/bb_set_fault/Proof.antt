@@ -1,9 +1,9 @@
--- `chain::bb_set_fault` meets its contract: a walk of its MIR, by hand. Records are judged once; the loop takes one turn, at the device named, or none.
-use Rattle.calls.proofs.Walk.{_≡_, refl, sym, _∙_, ap, subst, ℕ, zero, suc, _+_, _-_, _*_, _<_, _^_, arith, Bool, not, eqb, List, [], _∷_, length, getD, set, URA, fullShare, Ty, named, erased, mut, imm, w8, w64, tyBool, tyPtr, tyRef, vbool, vint, vptr, Val, SProp, ent, emp, via, fst∗, Lft, GName, Share, ftrue, fat, flft, Memory, Routine, Heap, Out, Env, Wp, WpFn, Tables, afterSeq, afterBlock, afterTurn, atReturn, Atoms, fmOf, Given, Item, ‵, raw, _⊛_, ⋆, anyQ, atRet, _$_, _∵_, !, qed, by, move, use1, drop, split, join, rewrite, fsplit, fjoin, suffices, frame, done, whole, sub, look-in, agg, look, look-raw, store, store-raw, init, forget, stop, hop, fld, from, load, lit, of-opd, and-then, no-more, bin, addr, assigns, assigns-last, land, stays, leaves-loop, exec, returns, enter, alloc1, alloc0, params1, pass1, pass0, free1, free0, Fun, givenOf, tables, tablesOf, yes, owns, pointee, Is, uint-vals, uint-tells, uint-makes, RefT, sliceTy, sliceVal, MutSlice, Room, finally, slice-vals, mut-slice-tells, row, plain, u8, usize, onEntry, tripleOf, Contract, Triple, cited, nothing, owned, heard, says, Stays, gave-slice, stay-dropped, walkOf, ends-at, walked, goes-gave-slice, goes-dropped, word, byte, loop, id⊢}
+-- `chain::bb_set_fault` meets its contract: a walk of its MIR, by hand. Records are judged once; the loop is proofs/Loop's, and takes one turn, at
+-- the device named, or none. The record is made by `with_fault` of the one that stands there.
+use Rattle.calls.proofs.Walk.{_≡_, refl, sym, _∙_, ap, subst, ℕ, _-_, _<_, _^_, not, eqb, List, [], _∷_, length, URA, fullShare, named, w8, w64, tyBool, tyPtr, vint, Val, SProp, ent, emp, via, fst∗, Lft, GName, Share, ftrue, fat, flft, Memory, Routine, Heap, Out, Env, Wp, WpFn, Tables, afterSeq, afterBlock, afterTurn, atReturn, Atoms, fmOf, Given, Item, ‵, raw, _⊛_, ⋆, anyQ, atRet, _$_, _∵_, !, qed, by, move, use1, drop, split, join, rewrite, fsplit, fjoin, suffices, frame, done, whole, sub, look-in, agg, look, init, forget, stop, hop, fld, from, load, of-opd, and-then, no-more, addr, assigns, land, exec, returns, enter, alloc1, alloc0, params1, pass1, pass0, Fun, givenOf, tables, tablesOf, yes, owns, Is, uint-vals, uint-tells, uint-makes, RefT, sliceTy, sliceVal, MutSlice, Room, finally, slice-vals, mut-slice-tells, row, plain, u8, usize, onEntry, tripleOf, Contract, Triple, cited, nothing, owned, heard, says, Stays, gave-slice, stay-dropped, walkOf, ends-at, walked, goes-gave-slice, goes-dropped, word, byte, loop, id⊢}
 use denote.Struct.Laws as LL
 use Rattle.device.specs.declared.device.Device.{Device}
 use Rattle.device.proofs.device.Device.Laws.{mir as dev}
-use Rattle.calls.specs.Chain.{blank}
 use Rattle.bits.specs.Bits.{digit}
 use Rattle.device.specs.Step.{faulted}
 use Rattle.calls.specs.Calls.{faultRefusal, faultAfter}
@@ -16,9 +16,11 @@ use Rattle.calls.proofs.judging.Judged as J
 use Rattle.calls.proofs.judging.Judged.Laws as J′
 use Rattle.calls.proofs.Judges.{jval, jvals, jtells, jmade, JudgeC, to-judge, asks-judge}
 use Rattle.calls.specs.declared.changes.Span.{Span}
-use Rattle.calls.proofs.Dev.{D, val, vals, tells, made, lawful, place-fits, place-at, size, out, into, back}
-use Rattle.calls.proofs.Lent.{ref, sl, Open, opened, final, lends-shared, returned-shared, hold, free, Again, again, loops, calls-plain, calls-val, closes}
-use Rattle.chain.proofs.Sweep.{sweep, sweep-none, sweep-next, length-sweep, turnsOf, Within, at-next, at-first, test-yes, test-no}
+use Rattle.calls.proofs.Dev.{D, val, vals, tells, made, lawful}
+use Rattle.calls.proofs.Lent.{ref, sl, opened, final, lends-shared, returned-shared, hold, free, calls-plain, calls-val, closes}
+use Rattle.chain.proofs.Sweep.{sweep-none, length-sweep, turnsOf, Within, at-first}
+use Rattle.chain.proofs.Loop.{sliceD, refI, sval, SIs, Locals, Source, local, Swept, found-at, Goes, Reading, Storing, At, Tested, Read, Unread, Stores, Leaves, free-all, read, sweeps}
+use package.mir.Syntax.{place, copy, Body, seq, call}
 use Rattle.calls.proofs.changes.Span as Sp
 use Rattle.calls.proofs.changes.Span.Laws as Sp′
 use Rattle.calls.proofs.with_fault as step
@@ -38,18 +40,6 @@ use Rattle.chain.proofs.bb_set_fault as bb-set-fault
 use Rattle.chain.proofs.bb_set_fault.Statement as stated
 use Rattle.chain.proofs.bb_set_fault.Code as code
 use Rattle.chain.proofs.bb_set_fault.Code.Mir as m
-
-abbrev sliceD : Ty
-sliceD = sliceTy (tyRef (named 0) mut (pointee (D .written)))
-
-abbrev refI : Ty
-refI = tyRef erased imm (pointee (D .written))
-
-abbrev sval : Span → Val
-sval = LL.val Sp.the-type Sp′.the-laws
-
-abbrev SIs : Span → Type 0
-SIs s = Is Sp.the-row s (LL.vals Sp.the-type Sp′.the-laws s)
 
 abbrev stayed : Stays (bb-set-fault.ended .signature .params) (bb-set-fault.ended .kept)
 stayed = (gave-slice (0 ∷ []) tt (plain (λ _. D)), (stay-dropped (plain (λ _. usize)) yes, (stay-dropped (plain (λ _. u8)) yes, (stay-dropped (plain (λ _. u8)) yes, tt))))
@@ -82,6 +72,12 @@ module _ {M : Type 1} (𝓤 : URA M) (H : Heap 𝓤) (A : Atoms 𝓤) (W : Given
   abbrev last : List Device
   last = faultAfter xs device kind (not (eqb flag 0))
 
+  abbrev lent : Swept
+  lent = record { lifetime = κ; share = q; block = b; start = o; name = γ; records = xs; span = S; change = f }
+
+  within : Within S (length xs)
+  within = fault-within xs device kind
+
   last-length : length last ≡ length xs
   last-length = ap length (sym (fault-swept xs device kind (not (eqb flag 0)))) ∙ length-sweep f (S .from) (turnsOf S) xs
 
@@ -95,75 +91,49 @@ module _ {M : Type 1} (𝓤 : URA M) (H : Heap 𝓤) (A : Atoms 𝓤) (W : Given
     abbrev E : Env 𝓤 H
     E = (byte, l₀) ∷ (sliceD, l₁) ∷ (word, l₂) ∷ (byte, l₃) ∷ (byte, l₄) ∷ (J′.mir, l₅) ∷ (Sp′.mir, l₆) ∷ (word, l₇) ∷ (refI, l₈) ∷ (sliceTy refI, l₉) ∷ (word, l₁₀) ∷ (tyBool, l₁₁) ∷ (dev, l₁₂) ∷ (word, l₁₃) ∷ (tyPtr, l₁₄) ∷ (dev, l₁₅) ∷ (word, l₁₆) ∷ (tyPtr, l₁₇) ∷ []
 
-    -- before turn k, [the row; open; _17, _16, _15, _14, _13, _12, _11, _10, _9, _8, _7, _6, _5, _4, _3, _2, _1, _0]
-    abbrev At : ℕ → List (Item 𝓤)
-    At k = ‵ (row D fullShare (sweep f (S .from) k xs) b o) ∷ ‵ (Open D κ q γ xs b o) ∷
-        free tyPtr l₁₇ (free word l₁₆ (free dev l₁₅ (free tyPtr l₁₄ (free word l₁₃ (free dev l₁₂ (free tyBool l₁₁ (free word l₁₀ (free (sliceTy refI) l₉ (free refI l₈ (hold word l₇ (vint w64 (S .from + k)) (hold Sp′.mir l₆ (sval S) (free J′.mir l₅ (hold byte l₄ (vint w8 flag) (hold byte l₃ (vint w8 kind) (hold word l₂ (vint w64 device) (hold sliceD l₁ (sliceVal (b, o) (length xs)) (free byte l₀ [])))))))))))))))))
+    abbrev L : Locals 𝓤 H E
+    L = record { index = local 7 l₇ refl; span = local 6 l₆ refl; chain = local 1 l₁ refl; test = local 11 l₁₁ refl; offset = local 16 l₁₆ refl; address = local 17 l₁₇ refl; made = local 12 l₁₂ refl }
 
-    abbrev Ok : ℕ → ℕ → Type 0
-    Ok t k = k + t ≡ turnsOf S
+    abbrev R : Source 𝓤 H E
+    R = record { found = local 15 l₁₅ refl; address = local 14 l₁₄ refl; offset = local 13 l₁₃ refl }
+
+    -- the locals that the loop leaves alone
+    abbrev Γ : List (Item 𝓤)
+    Γ = free word l₁₀ (free (sliceTy refI) l₉ (free refI l₈ (free J′.mir l₅ (hold byte l₄ (vint w8 flag) (hold byte l₃ (vint w8 kind) (hold word l₂ (vint w64 device) (free byte l₀ [])))))))
+
+    abbrev Calling : Body
+    Calling = seq (call #step (copy (place 15 []) ∷ copy (place 3 []) ∷ copy (place 4 []) ∷ []) (place 12 [])) (Storing L)
 
     abbrev Left : Out → SProp 𝓤
     Left = afterBlock 𝓤 H (afterSeq 𝓤 H (Wp 𝓤 H (𝓣 .C) (𝓣 .Λ) E m.t-8 (atReturn 𝓤 H E Post)) (atReturn 𝓤 H E Post))
 
-    within : Within S (length xs)
-    within = fault-within xs device kind
+    make : (k : ℕ) (X : SProp 𝓤) → Goes lent k → Stores W 𝓣 L lent (Unread R Γ) Left k X → ent 𝓤 (⋆ 𝓤 H A (Tested L lent (Unread R Γ) k)) (Wp 𝓤 H (𝓣 .C) (𝓣 .Λ) E (Reading L R Calling) (afterTurn 𝓤 H X Left))
+    make k X small stores =
+        let d : Device = found-at lent k in
+        read W 𝓣 L lent g within R Γ k (afterTurn 𝓤 H X Left) Calling small (λ is.
+        qed W (Tested L lent (Read R Γ (found-at lent k)) k) ∵ exec ! (𝓣 .C) (𝓣 .Λ) E Calling (anyQ (afterTurn 𝓤 H X Left)) $
+        calls-plain ! (fmOf 𝓤 H (W .laws) 𝓣) (step.signature .params) (step.signature .result) (step.ended .kept) (step.clauses 𝓤 H A mem run) known
+        (d, (kind, (flag, tt))) (vals d, (vint w8 kind ∷ [], (vint w8 flag ∷ [], tt))) (made 𝓤 H A, (uint-makes 𝓤 H A W w8, (uint-makes 𝓤 H A W w8, tt)))
+        (is, ((refl, kind-fits), ((refl, flag-fits), tt))) tt (id⊢ 𝓤 _) val tells
+        (and-then ! (load ! (from ! (stop !)) (look ! 17 refl)) (and-then ! (load ! (from ! (stop !)) (look ! 33 refl)) (and-then ! (load ! (from ! (stop !)) (look ! 31 refl)) (no-more !))))
+        (λ r ws is′. heard ! (r ≡ f d) (λ e.
+        land ! (from ! (stop !)) (init ! 14 refl (lawful 𝓤 H A W .typed r _ is′ .0)) $ forget ! 16 refl $ by ! (stores r is′ e))))
 
-    more : (k : ℕ) (X : SProp 𝓤) → S .from + k < S .to → ent 𝓤 (⋆ 𝓤 H A (At (suc k))) X → ent 𝓤 (⋆ 𝓤 H A (At k)) (Wp 𝓤 H (𝓣 .C) (𝓣 .Λ) E m.turn-1 (afterTurn 𝓤 H X Left))
-    unfolding afterTurn
-    more k X small then =
-        let ys : List Device = sweep f (S .from) k xs in
-        let i : ℕ = S .from + k in
-        let near : i < length xs = omega (arith, small, within .far) in
-        let l : i < length ys = subst (λ (z : ℕ). i < z) (sym (length-sweep f (S .from) k xs)) near in
-        let at-fits : i * size < 2 ^ 64 = place-fits i (length xs) near (g .1) in
-        let next-fits : i + 1 < 2 ^ 64 = omega (arith, near, g .0) in
-        qed W (At k) ∵ exec ! (𝓣 .C) (𝓣 .Λ) E m.turn-1 (anyQ (afterTurn 𝓤 H X Left)) $
-        assigns ! (bin ! (load ! (from ! (stop !)) (look ! 22 refl)) (load ! (from ! (fld ! refl (stop !))) (look-in ! 24 (sub ! 2 refl (whole !)))) tt) (from ! (stop !)) (init ! 14 refl (tt, tt)) $
-        rewrite ! 14 (λ (t : Bool). ‵ (fat fullShare tyBool l₁₁ 0 (vbool t))) (test-yes i (S .to) small) refl $
-        stays ! (load ! (from ! (stop !)) (look ! 14 refl)) $
-        assigns ! (bin ! (load ! (from ! (stop !)) (look ! 22 refl)) (lit ! tt) (record { fits = at-fits })) (from ! (stop !)) (init ! 10 refl (tt, record { fits = at-fits })) $
-        assigns ! (bin ! (load ! (from ! (fld ! refl (stop !))) (look-in ! 34 (sub ! 0 refl (whole !)))) (load ! (from ! (stop !)) (look ! 10 refl)) tt) (from ! (stop !)) (init ! 8 refl (tt, tt)) $
-        rewrite ! 8 (λ (p : ℕ). ‵ (fat fullShare tyPtr l₁₄ 0 (vptr b p))) (place-at o i) refl $
-        out ! ys i b o l (λ is.
-        assigns ! (of-opd ! (load ! (from ! (hop ! (look ! 9 refl) (stop !))) (look-raw ! 0 refl))) (from ! (stop !)) (init ! 7 refl (lawful 𝓤 H A W .typed (getD ys i blank) _ is .0)) $
-        back ! ys i b o l is $
-        calls-plain ! (fmOf 𝓤 H (W .laws) 𝓣) (step.signature .params) (step.signature .result) (step.ended .kept) (step.clauses 𝓤 H A mem run) known (getD ys i blank, (kind, (flag, tt))) (vals (getD ys i blank), (vint w8 kind ∷ [], (vint w8 flag ∷ [], tt))) (made 𝓤 H A, (uint-makes 𝓤 H A W w8, (uint-makes 𝓤 H A W w8, tt))) (is, ((refl, kind-fits), ((refl, flag-fits), tt))) tt (id⊢ 𝓤 _) val tells
-        (and-then ! (load ! (from ! (stop !)) (look ! 7 refl)) (and-then ! (load ! (from ! (stop !)) (look ! 31 refl)) (and-then ! (load ! (from ! (stop !)) (look ! 29 refl)) (no-more !)))) (λ r ws is′. heard ! (r ≡ f (getD ys i blank)) (λ e.
-        land ! (from ! (stop !)) (init ! 12 refl (lawful 𝓤 H A W .typed r _ is′ .0)) $
-        assigns ! (bin ! (load ! (from ! (stop !)) (look ! 22 refl)) (lit ! tt) (record { fits = at-fits })) (from ! (stop !)) (init ! 4 refl (tt, record { fits = at-fits })) $
-        assigns ! (bin ! (load ! (from ! (fld ! refl (stop !))) (look-in ! 34 (sub ! 0 refl (whole !)))) (load ! (from ! (stop !)) (look ! 4 refl)) tt) (from ! (stop !)) (init ! 2 refl (tt, tt)) $
-        rewrite ! 2 (λ (p : ℕ). ‵ (fat fullShare tyPtr l₁₇ 0 (vptr b p))) (place-at o i) refl $
-        out ! ys i b o l (λ _.
-        assigns ! (of-opd ! (load ! (from ! (stop !)) (look ! 13 refl))) (from ! (hop ! (look ! 3 refl) (stop !))) (store-raw ! 0 refl (lawful 𝓤 H A W .typed r _ is′ .0)) $
-        into ! ys i r b o l is′ $
-        rewrite ! 0 (λ (zs : List Device). ‵ (row D fullShare zs b o)) (ap (set ys i) e ∙ sweep-next f (S .from) k xs) refl $
-        assigns-last ! (bin ! (load ! (from ! (stop !)) (look ! 22 refl)) (lit ! tt) (record { fits = next-fits })) (from ! (stop !)) (store ! 22 refl (tt, record { fits = next-fits })) $
-        forget ! 2 refl $ forget ! 4 refl $ forget ! 6 refl $ forget ! 8 refl $ forget ! 10 refl $ forget ! 12 refl $ forget ! 14 refl $
-        rewrite ! 22 (λ (j : ℕ). ‵ (fat fullShare word l₇ 0 (vint w64 j))) (at-next (S .from) k) refl $ by ! then))))
-
-    ends : (X : SProp 𝓤) (k : ℕ) → k ≡ turnsOf S → ent 𝓤 (⋆ 𝓤 H A (At k)) (Wp 𝓤 H (𝓣 .C) (𝓣 .Λ) E m.turn-1 (afterTurn 𝓤 H X Left))
-    unfolding afterTurn
-    ends X k e =
-        qed W (At k) ∵ exec ! (𝓣 .C) (𝓣 .Λ) E m.turn-1 (anyQ (afterTurn 𝓤 H X Left)) $
-        assigns ! (bin ! (load ! (from ! (stop !)) (look ! 22 refl)) (load ! (from ! (fld ! refl (stop !))) (look-in ! 24 (sub ! 2 refl (whole !)))) tt) (from ! (stop !)) (init ! 14 refl (tt, tt)) $
-        rewrite ! 14 (λ (t : Bool). ‵ (fat fullShare tyBool l₁₁ 0 (vbool t))) (test-no (S .from + k) (S .to) (omega (arith, e, within .order))) refl $
-        leaves-loop ! (load ! (from ! (stop !)) (look ! 14 refl)) $ exec ! (𝓣 .C) (𝓣 .Λ) E m.t-8 (atRet E Post) $
-        rewrite ! 0 (λ (zs : List Device). ‵ (row D fullShare zs b o)) (ap (λ (j : ℕ). sweep f (S .from) j xs) e ∙ (fault-swept xs device kind (not (eqb flag 0)))) refl $
-        assigns ! (of-opd ! (load ! (from ! (fld ! refl (stop !))) (look-in ! 24 (sub ! 0 refl (whole !))))) (from ! (stop !)) (init ! 36 refl (tt, record { fits = num-fits })) $
+    ends : ent 𝓤 (⋆ 𝓤 H A (At L lent (Unread R Γ) (turnsOf S))) (Leaves 𝓤 Left)
+    ends =
+        qed W (At L lent (Unread R Γ) (turnsOf S)) ∵ exec ! (𝓣 .C) (𝓣 .Λ) E m.t-8 (atRet E Post) $
+        rewrite ! 0 (λ (zs : List Device). ‵ (row D fullShare zs b o)) (fault-swept xs device kind (not (eqb flag 0))) refl $
+        assigns ! (of-opd ! (load ! (from ! (fld ! refl (stop !))) (look-in ! 4 (sub ! 0 refl (whole !))))) (from ! (stop !)) (init ! 36 refl (tt, record { fits = num-fits })) $
         final ! tt D xs last last-length b o $
-        returns ! (look ! 36 refl) $ forget ! 14 refl $ forget ! 22 refl $ forget ! 24 refl $ forget ! 28 refl $ forget ! 30 refl $ forget ! 32 refl $ forget ! 34 refl $ forget ! 36 refl $
-        move ! (36 ∷ 37 ∷ []) $ free1 ! $ move ! (34 ∷ 35 ∷ []) $ free1 ! $ move ! (32 ∷ 33 ∷ []) $ free1 ! $ move ! (30 ∷ 31 ∷ []) $ free1 ! $ move ! (28 ∷ 29 ∷ []) $ free1 ! $ move ! (26 ∷ 27 ∷ []) $ free1 ! $ move ! (24 ∷ 25 ∷ []) $ free1 ! $ move ! (22 ∷ 23 ∷ []) $ free1 ! $ move ! (20 ∷ 21 ∷ []) $ free1 ! $ move ! (18 ∷ 19 ∷ []) $ free1 ! $ move ! (16 ∷ 17 ∷ []) $ free1 ! $ move ! (14 ∷ 15 ∷ []) $ free1 ! $ move ! (12 ∷ 13 ∷ []) $ free1 ! $ move ! (10 ∷ 11 ∷ []) $ free1 ! $ move ! (8 ∷ 9 ∷ []) $ free1 ! $ move ! (6 ∷ 7 ∷ []) $ free1 ! $ move ! (4 ∷ 5 ∷ []) $ free1 ! $ move ! (2 ∷ 3 ∷ []) $ free1 ! $ free0 ! $ by ! (exits num-fits)
+        returns ! (look ! 36 refl) $ forget ! 2 refl $ forget ! 4 refl $ forget ! 6 refl $ forget ! 30 refl $ forget ! 32 refl $ forget ! 34 refl $ forget ! 36 refl $
+        move ! (36 ∷ 37 ∷ 6 ∷ 7 ∷ 34 ∷ 35 ∷ 32 ∷ 33 ∷ 30 ∷ 31 ∷ 28 ∷ 29 ∷ 4 ∷ 5 ∷ 2 ∷ 3 ∷ 26 ∷ 27 ∷ 24 ∷ 25 ∷ 22 ∷ 23 ∷ 8 ∷ 9 ∷ 14 ∷ 15 ∷ 20 ∷ 21 ∷ 18 ∷ 19 ∷ 16 ∷ 17 ∷ 10 ∷ 11 ∷ 12 ∷ 13 ∷ []) $
+        free-all ! E $ by ! (exits num-fits)
       where
         num-fits : num < 2 ^ 8
         num-fits = LL.owed Sp.the-type Sp′.the-laws S _ s-is .0 .1
 
-    turns : (t k : ℕ) → Ok t k → ent 𝓤 (⋆ 𝓤 H A (At k)) (Wp 𝓤 H (𝓣 .C) (𝓣 .Λ) E m.turn-1 (afterTurn 𝓤 H (Again 𝓤 H A Ok At t) Left))
-    turns zero k e = ends (Again 𝓤 H A Ok At zero) k (omega (arith, e))
-    turns (suc t) k e = more k (Again 𝓤 H A Ok At (suc t)) (omega (arith, e, within .order)) (again 𝓤 H A Ok At (suc t) t (suc k) (omega arith) (omega (arith, e)))
-
-    enters : ent 𝓤 (⋆ 𝓤 H A (At 0)) (Wp 𝓤 H (𝓣 .C) (𝓣 .Λ) E (loop m.turn-1) Left)
-    enters = loops 𝓤 H A Ok At W 𝓣 E m.turn-1 Left turns (turnsOf S) 0 (omega arith)
+    enters : ent 𝓤 (⋆ 𝓤 H A (At L lent (Unread R Γ) 0)) (Wp 𝓤 H (𝓣 .C) (𝓣 .Λ) E (loop m.turn-1) Left)
+    enters = sweeps W 𝓣 L lent g within (Unread R Γ) Left (Reading L R Calling) make ends
 
   walk : (𝓣 : Tables 𝓤 H) → Triple 𝓤 (𝓣 .C #step) (StepC 𝓤 H A mem run) → Triple 𝓤 (𝓣 .C #judge) (JudgeC 𝓤 H A mem run) → Triple 𝓤 (𝓣 .C #spans) (SpansC 𝓤 H A mem run) → Room D (length xs) → device < 2 ^ 64 → kind < 2 ^ 8 → flag < 2 ^ 8
       → ent 𝓤 (onEntry 𝓤 H A bb-set-fault.signature (κ, tt) (q, tt) x at) (WpFn 𝓤 H (𝓣 .C) (𝓣 .Λ) code.function (sliceVal (b, o) (length xs) ∷ vint w64 device ∷ vint w8 kind ∷ vint w8 flag ∷ []) Post)
@@ -190,7 +160,8 @@ module _ {M : Type 1} (𝓤 : URA M) (H : Heap 𝓤) (A : Atoms 𝓤) (W : Given
       assigns ! (of-opd ! (load ! (from ! (fld ! refl (stop !))) (look-in ! 24 (sub ! 1 refl (whole !))))) (from ! (stop !)) (init ! 22 refl (tt, record { fits = LL.owed Sp.the-type Sp′.the-laws S _ s-is .1 .0 .1 })) $
       rewrite ! 22 (λ (j : ℕ). ‵ (fat fullShare word l₇ 0 (vint w64 j))) (at-first (S .from)) refl $
       rewrite ! 0 (λ (zs : List Device). ‵ (row D fullShare zs b o)) (sym (sweep-none f (S .from) xs)) refl $
-      forget ! 16 refl $ forget ! 18 refl $ forget ! 20 refl $ forget ! 26 refl $ by ! (enters 𝓣 known g s-is device-fits kind-fits flag-fits l₀ l₁ l₂ l₃ l₄ l₅ l₆ l₇ l₈ l₉ l₁₀ l₁₁ l₁₂ l₁₃ l₁₄ l₁₅ l₁₆ l₁₇))))))))))))))))))))))))
+      forget ! 16 refl $ forget ! 18 refl $ forget ! 20 refl $ forget ! 26 refl $
+      move ! (0 ∷ 1 ∷ 22 ∷ 23 ∷ 24 ∷ 25 ∷ 34 ∷ 35 ∷ 14 ∷ 15 ∷ 4 ∷ 5 ∷ 2 ∷ 3 ∷ 12 ∷ 13 ∷ []) $ by ! (enters 𝓣 known g s-is device-fits kind-fits flag-fits l₀ l₁ l₂ l₃ l₄ l₅ l₆ l₇ l₈ l₉ l₁₀ l₁₁ l₁₂ l₁₃ l₁₄ l₁₅ l₁₆ l₁₇))))))))))))))))))))))))
 
 pub bb-set-fault-spec : {M : Type 1} → stated.statement M
 unfolding code.routine tablesOf

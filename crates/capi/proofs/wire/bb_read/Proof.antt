@@ -8,9 +8,6 @@ use Rattle.capi.proofs.wire.bb_read.Tie as tie
 told-by-requires : tie.Need-told-by-requires
 told-by-requires c κs = search needs
 
-tail-of-requires : tie.Need-tail-of-requires
-tail-of-requires c κs = search needs
-
 read-requires : tie.Need-read-requires
 read-requires c κs = search needs
 
@@ -24,14 +21,15 @@ same-length-2 : tie.Need-same-length-2
 same-length-2 c = search needs
 
 returns : tie.Need-returns
-returns c = rw (← c .before .before .before .before .before .before .before .before .before .told-by .ensures, ← c .before .before .before .before .before .before .before .before .tail-of .ensures) (c .of-read .ensures ∙ ap ofRead (c .before .before .before .before .before .read .ensures .0), c .before .before .before .before .before .read .ensures .1)
+returns c =
+    let r = c .before .before .before .before .before in
+    rw (← r .before .before .before .told-by .ensures) (c .of-read .ensures ∙ ap ofRead (r .read .ensures .0), r .read .ensures .1)
 
 pub bb-read-spec : {M : Type 1} → statement M
 bb-read-spec =
     tie.close
     (tie.spec
     told-by-requires
-    tail-of-requires
     read-requires
     of-read-requires
     same-length

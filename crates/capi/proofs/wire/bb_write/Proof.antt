@@ -8,9 +8,6 @@ use Rattle.capi.proofs.wire.bb_write.Tie as tie
 told-by-requires : tie.Need-told-by-requires
 told-by-requires c κs = search needs
 
-tail-of-requires : tie.Need-tail-of-requires
-tail-of-requires c κs = search needs
-
 write-requires : tie.Need-write-requires
 write-requires c κs = search needs
 
@@ -21,14 +18,15 @@ same-length : tie.Need-same-length
 same-length c = search needs
 
 returns : tie.Need-returns
-returns c = rw (← c .before .before .before .before .before .before .told-by .ensures, ← c .before .before .before .before .before .tail-of .ensures) (c .of-written .ensures ∙ ap ofWritten (c .before .before .before .write .ensures .0), c .before .before .before .write .ensures .1)
+returns c =
+    let w = c .before .before .before in
+    rw (← w .before .before .told-by .ensures) (c .of-written .ensures ∙ ap ofWritten (w .write .ensures .0), w .write .ensures .1)
 
 pub bb-write-spec : {M : Type 1} → statement M
 bb-write-spec =
     tie.close
     (tie.spec
     told-by-requires
-    tail-of-requires
     write-requires
     of-written-requires
     same-length

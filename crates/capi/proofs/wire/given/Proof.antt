@@ -1,6 +1,7 @@
 -- `capi::given` meets its contract. Assumes nothing.
-use mathlib.Core.Path.{_∙_}
-use Rattle.capi.proofs.Cases.{given-listed}
+use mathlib.Core.Path.{_≡_, refl, _∙_}
+use Rattle.frames.proofs.Cases.{read-no-byte}
+use Rattle.capi.specs.Answers.{given, listed}
 use borrow.Author.Needs.{needs}
 use Rattle.capi.proofs.wire.given.Statement.{statement}
 use Rattle.capi.proofs.wire.given.Tie as tie
@@ -12,7 +13,7 @@ listed-requires : tie.Need-listed-requires
 listed-requires c κs = search needs
 
 returns : tie.Need-returns
-returns c = c .listed .ensures ∙ given-listed (c .before .before .args .read) (c .before .match .keys2)
+returns c = c .listed .ensures ∙ read-no-byte (λ r. listed r ≡ given r) (λ n. refl) (λ n. refl) (λ n. refl) (c .before .before .args .read) (c .before .match .keys2)
 
 cast-result : tie.Need-cast-result
 cast-result c = search needs

@@ -1,5 +1,7 @@
 -- `capi::listed` meets its contract. Assumes nothing.
-use Rattle.capi.proofs.Cases.{listed-none}
+use mathlib.Core.Path.{_≡_, refl}
+use Rattle.frames.proofs.Cases.{read-no-list}
+use Rattle.capi.specs.Answers.{listed}
 use borrow.Author.Needs.{needs}
 use Rattle.capi.proofs.wire.listed.Statement.{statement}
 use Rattle.capi.proofs.wire.listed.Tie as tie
@@ -11,7 +13,7 @@ enum-known-read-2 : tie.Need-enum-known-read-2
 enum-known-read-2 c = search needs
 
 returns : tie.Need-returns
-returns c = listed-none (c .before .args .read) (c .match .keys3)
+returns c = read-no-list (λ r. 0 ≡ listed r) (λ b. refl) (λ n. refl) (c .before .args .read) (c .match .keys3)
 
 returns-2 : tie.Need-returns-2
 returns-2 c = search needs

@@ -1,7 +1,7 @@
 -- `capi::of_read` meets its contract. Assumes nothing.
-use mathlib.Core.Path.{ap, _∙_}
-use Rattle.capi.specs.Answers.{accepted}
-use Rattle.capi.proofs.Cases.{accepted-given}
+use mathlib.Core.Path.{_≡_, refl, ap, _∙_}
+use Rattle.frames.proofs.Cases.{read-no-refusal}
+use Rattle.capi.specs.Answers.{accepted, given, ofRead}
 use borrow.Author.Needs.{needs}
 use Rattle.capi.proofs.wire.of_read.Statement.{statement}
 use Rattle.capi.proofs.wire.of_read.Tie as tie
@@ -16,7 +16,11 @@ accept-requires : tie.Need-accept-requires
 accept-requires c κs = search needs
 
 returns : tie.Need-returns
-returns c = c .accept .ensures ∙ ap accepted (c .before .given .ensures) ∙ accepted-given (c .before .before .before .args .read) (c .before .before .match .keys2)
+returns c =
+    let k = c .before .before in
+    c .accept .ensures
+    ∙ ap accepted (c .before .given .ensures)
+    ∙ read-no-refusal (λ r. accepted (given r) ≡ ofRead r) (λ b. refl) (λ n. refl) (λ n. refl) (k .before .args .read) (k .match .keys2)
 
 refuse-requires : tie.Need-refuse-requires
 refuse-requires c κs = search needs

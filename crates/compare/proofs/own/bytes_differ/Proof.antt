@@ -1,3 +1,4 @@
+-- From the front: the places before i are the same, so the lists differ first at i or after it.
 use mathlib.Core.Path.{_≡_}
 use Prim.Native.Nat.{_+_, _≤_, _-_, _<_}
 use native.Mathlib.Omega.{arith}
@@ -14,6 +15,12 @@ Inv-loop bytes held i₀ i = (i ≤ length bytes) × (differsAt bytes held ≡ i
 abbrev μ-loop : tie.MeasureT-loop
 μ-loop bytes held i₀ i = length bytes - i
 
+-- the place of a turn stands in the device's list
+within : (t : tie.In-loop Inv-loop μ-loop) → t .before .loop .i < length (t .before .before .args .t2)
+within t =
+    let n : length (t .before .before .args .t2) ≡ 3 = search needs in
+    omega (arith, t .loop-test .taken)
+
 loop-holds : tie.Need-loop-holds Inv-loop μ-loop
 loop-holds c = (search needs, differs-start _ _)
 
@@ -24,7 +31,10 @@ array-read-if1 : tie.Need-array-read-if1 Inv-loop μ-loop
 array-read-if1 c = search needs
 
 returns : tie.Need-returns Inv-loop μ-loop
-returns c = let p = c .before .before .before .before .args in let i = c .before .before .before .loop .i in let e = c .before .before .before .loop .inv .1 in let t = c .before .before .loop-test .taken in let n : length (p .t2) ≡ 3 = search needs in let k : i < length (p .t2) = omega arith in omega (arith, e, differs-here (p .bytes .now) (p .t2) i t k (c .if1 .taken))
+returns c =
+    let t = c .before .before in
+    let p = t .before .before .args in
+    omega (arith, t .before .loop .inv .1, differs-here (p .bytes .now) (p .t2) (t .before .loop .i) (t .loop-test .taken) (within t) (c .if1 .taken))
 
 add-i : tie.Need-add-i Inv-loop μ-loop
 add-i c = search needs
@@ -33,10 +43,16 @@ loop-less : tie.Need-loop-less Inv-loop μ-loop
 loop-less c = search needs
 
 loop-again : tie.Need-loop-again Inv-loop μ-loop
-loop-again c = let p = c .before .before .before .before .args in let i = c .before .before .before .loop .i in let e = c .before .before .before .loop .inv .1 in let t = c .before .before .loop-test .taken in let n : length (p .t2) ≡ 3 = search needs in let k : i < length (p .t2) = omega arith in (search needs, omega (arith, e, differs-next (p .bytes .now) (p .t2) i t k (c .if1 .left)))
+loop-again c =
+    let t = c .before .before in
+    let p = t .before .before .args in
+    (search needs, omega (arith, t .before .loop .inv .1, differs-next (p .bytes .now) (p .t2) (t .before .loop .i) (t .loop-test .taken) (within t) (c .if1 .left)))
 
 returns-2 : tie.Need-returns-2 Inv-loop μ-loop
-returns-2 c = omega (arith, c .before .loop .inv .1, differs-end (c .before .before .args .bytes .now) (drop (c .before .loop .i) (c .before .before .args .t2)) (c .before .loop .i) (c .loop-test .left))
+returns-2 c =
+    let l = c .before .loop in
+    let p = c .before .before .args in
+    omega (arith, l .inv .1, differs-end (p .bytes .now) (drop (l .i) (p .t2)) (l .i) (c .loop-test .left))
 
 pub bytes-differ-spec : {M : Type 1} → statement M
 bytes-differ-spec =

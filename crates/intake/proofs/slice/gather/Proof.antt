@@ -3,13 +3,13 @@ use Prim.Native.Nat.{ℕ, _+_, _-_, _/_, _%_, _<_, _≤_}
 use lib.ListN.{length, getD, set, drop, length-set}
 use Rattle.intake.specs.Intake.{highTaken, collecting, filled}
 use Rattle.device.specs.Step.{at, sliceLength}
-use Rattle.device.specs.declared.phase.Phase.the-variants.{Slice}
+use Rattle.phases.specs.declared.phase.Phase.the-variants.{Slice}
 use Rattle.parts.specs.Parts.{partOf, fieldWidth, fieldLimit}
 use Rattle.intake.proofs.Slices.{Turned, turned, slot-width, slice-le, least-right, goes-more, goes-full}
 use Rattle.intake.proofs.Lines.{high-end}
 use native.Mathlib.Omega.{arith}
 use Rattle.intake.proofs.Phases.{high-low-at}
-use Rattle.device.proofs.Fields.{field-width-pos, field-limit-pos}
+use Rattle.registers.proofs.Fields.{field-width-pos, field-limit-pos}
 use native.Mathlib.Nat.{mod-lt}
 use borrow.Author.Needs.{needs}
 use Rattle.intake.proofs.slice.gather.Statement.{statement}

@@ -2,8 +2,9 @@
 use mathlib.Core.Path.{_≡_, sym, ap, ap₂, _∙_}
 use mathlib.Core.Bool.{true}
 use Prim.Native.Nat.{ℕ}
-use borrow.Author.Tests.{not-true, not-false}
-use Rattle.report.specs.Arguments.{parsed, valueOf, isPart, isCount}
+use borrow.Author.Tests.{not-true, not-false, ltb-true, ltb-false}
+use Rattle.tables.proofs.Tests.{by-way}
+use Rattle.report.specs.Arguments.{parsed, valueOf, isPart, countAccepted}
 use Rattle.report.specs.declared.arguments.Asked.the-variants as A
 use Rattle.report.proofs.Numerals as laws
 use borrow.Author.Needs.{needs}
@@ -56,33 +57,29 @@ returns-3 c =
     let k = c .before .before .before in
     let a = k .before .before .before .before .before .before .before .before .args in
     laws.judged-count (parsed (a .part .now)) (parsed (a .devices .now)) (part-known k)
-    (ap isCount (sym (c .before .before .parse2 .ensures) ∙ c .enum-told2 .given .1))
+    (ap countAccepted (sym (c .before .before .parse2 .ensures) ∙ c .enum-told2 .given .1))
 
 returns-4 : tie.Need-returns-4
 returns-4 c =
-    let k = c .before .before .before .before .before in
+    let n = c .before .before in
+    let k = n .before .before .before in
     let a = k .before .before .before .before .before .before .before .before .args in
+    let count = n .second .given .0 .0 in
+    let q = sym (n .before .before .parse2 .ensures) ∙ n .second .given .1 in
     laws.judged-count (parsed (a .part .now)) (parsed (a .devices .now)) (part-known k)
-    (ap isCount (sym (c .before .before .before .before .parse2 .ensures) ∙ c .before .before .second .given .1)
-    ∙ laws.count-low (c .before .before .second .given .0 .0) (c .if2 .taken))
+    (ap countAccepted q ∙ by-way (c .if2 .came) (λ w. laws.count-low count (w .taken)) (λ w. laws.count-high count (ltb-true 512 count (w .1 .taken))))
 
 returns-5 : tie.Need-returns-5
 returns-5 c =
-    let k = c .before .before .before .before .before .before in
+    let n = c .before .before .before in
+    let k = n .before .before .before in
     let a = k .before .before .before .before .before .before .before .before .args in
-    laws.judged-count (parsed (a .part .now)) (parsed (a .devices .now)) (part-known k)
-    (ap isCount (sym (c .before .before .before .before .before .parse2 .ensures) ∙ c .before .before .before .second .given .1)
-    ∙ laws.count-high (c .before .before .before .second .given .0 .0) (c .if3 .taken))
-
-returns-6 : tie.Need-returns-6
-returns-6 c =
-    let k = c .before .before .before .before .before .before in
-    let a = k .before .before .before .before .before .before .before .before .args in
+    let count = n .second .given .0 .0 in
     let p = sym (k .before .before .before .before .before .parse .ensures) ∙ k .before .before .before .first .given .1 in
-    let q = sym (c .before .before .before .before .before .parse2 .ensures) ∙ c .before .before .before .second .given .1 in
+    let q = sym (n .before .before .parse2 .ensures) ∙ n .second .given .1 in
     sym (ap₂ (λ (n m : ℕ). A.Chain n m) (ap valueOf p) (ap valueOf q))
     ∙ laws.judged-chain (parsed (a .part .now)) (parsed (a .devices .now)) (part-known k)
-    (ap isCount q ∙ laws.count-yes (c .before .before .before .second .given .0 .0) (c .before .if2 .left) (c .if3 .left))
+    (ap countAccepted q ∙ laws.count-yes count (c .before .if2 .left) (ltb-false 512 count (c .if3 .left)))
 
 pub ask-spec : {M : Type 1} → statement M
 ask-spec =
@@ -99,5 +96,4 @@ ask-spec =
     enum-told-2
     returns-3
     returns-4
-    returns-5
-    returns-6)
+    returns-5)

@@ -6,6 +6,8 @@ use Prim.Native.Nat.{ℕ, _+_, _-_, _*_, _≤_, min}
 use native.Mathlib.Omega.{arith}
 use lib.ListN.{length, getD, take, drop, drop-of-length-le}
 use lib.Seq.{take-all}
+use borrow.Author.Tests.{ltb-true, ltb-false}
+use Rattle.tables.proofs.Tests.{by-way}
 use Rattle.report.specs.Arguments.{digitsOnly, numeral}
 use Rattle.report.proofs.Numerals as laws
 use Rattle.report.proofs.arguments.parse.Statement.{statement}
@@ -32,15 +34,12 @@ returns-2 : tie.Need-returns-2 Inv-loop μ-loop
 returns-2 c =
     let l = c .before .before .before .loop in
     let s = c .before .before .before .before .before .before .args .text .now in
+    let byte : ℕ = getD s (l .i) 0 in
     laws.parsed-bad s (c .before .before .before .before .if1 .left)
-    (l .inv .1 ∙ laws.digitsOnly-drop s (l .i) (omega arith) ∙ ap (λ (b : Bool). b && digitsOnly (drop (l .i + 1) s)) (laws.digit-low (getD s (l .i) 0) (c .if2 .taken)))
-
-returns-3 : tie.Need-returns-3 Inv-loop μ-loop
-returns-3 c =
-    let l = c .before .before .before .before .loop in
-    let s = c .before .before .before .before .before .before .before .args .text .now in
-    laws.parsed-bad s (c .before .before .before .before .before .if1 .left)
-    (l .inv .1 ∙ laws.digitsOnly-drop s (l .i) (omega arith) ∙ ap (λ (b : Bool). b && digitsOnly (drop (l .i + 1) s)) (laws.digit-high (getD s (l .i) 0) (c .if3 .taken)))
+    (l .inv .1
+    ∙ laws.digitsOnly-drop s (l .i) (omega arith)
+    ∙ ap (λ (b : Bool). b && digitsOnly (drop (l .i + 1) s))
+    (by-way (c .if2 .came) (λ w. laws.digit-low byte (w .taken)) (λ w. laws.digit-high byte (ltb-true 57 byte (w .1 .taken)))))
 
 with-digit-requires : tie.Need-with-digit-requires Inv-loop μ-loop
 with-digit-requires c κs = tt
@@ -58,16 +57,16 @@ loop-again c =
       omega arith,
       l .inv .1
           ∙ laws.digitsOnly-drop s (l .i) (omega arith)
-          ∙ ap (λ (b : Bool). b && digitsOnly (drop (l .i + 1) s)) (laws.digit-yes (getD s (l .i) 0) (omega arith) (omega arith)),
+          ∙ ap (λ (b : Bool). b && digitsOnly (drop (l .i + 1) s)) (laws.digit-yes (getD s (l .i) 0) (omega arith) (ltb-false 57 (getD s (l .i) 0) (c .before .if3 .left))),
       c .with-digit .ensures
           ∙ ap (λ (v : ℕ). min (v * 10 + (getD s (l .i) 0 - 48)) 65535) (l .inv .2)
           ∙ laws.min-step (numeral (take (l .i) s)) (getD s (l .i) 0 - 48)
           ∙ ap (λ (v : ℕ). min v 65535) (sym (laws.numeral-take s (l .i) (omega arith))),
     )
 
-returns-4 : tie.Need-returns-4 Inv-loop μ-loop
+returns-3 : tie.Need-returns-3 Inv-loop μ-loop
 unfolding digitsOnly
-returns-4 c =
+returns-3 c =
     let l = c .before .loop in
     let s = c .before .before .before .before .args .text .now in
     laws.parsed-value s (l .value) (c .before .before .if1 .left)
@@ -84,9 +83,8 @@ parse-spec =
     loop-holds
     shared-slice-read-byte
     returns-2
-    returns-3
     with-digit-requires
     add-i
     loop-less
     loop-again
-    returns-4)
+    returns-3)

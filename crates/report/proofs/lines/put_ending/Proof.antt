@@ -1,9 +1,9 @@
 -- `report::put_ending` meets its contract. Assumes nothing.
-use mathlib.Core.Path.{sym, ap}
+use mathlib.Core.Path.{_≡_, refl, sym, ap}
 use mathlib.Core.List.{_∷_}
 use native.Mathlib.Omega.{arith}
-use Rattle.report.specs.Lines.{labelled, refusedText, newline, ending}
-use Rattle.report.proofs.Cases.{ending-accepted}
+use Rattle.report.specs.Lines.{labelled, refusedText, newline, acceptedText, ending}
+use Rattle.frames.proofs.Cases.{read-no-refusal}
 use Rattle.report.proofs.Putting as laws
 use borrow.Author.Needs.{needs}
 use Rattle.report.proofs.lines.put_ending.Statement.{statement}
@@ -25,7 +25,7 @@ returns : tie.Need-returns
 returns c =
     let p = c .before .before in
     let k = p .before .before .before in
-    laws.put-same (ending-accepted (k .before .before .args .answer) (k .match .keys2)) (p .put .ensures)
+    laws.put-same (read-no-refusal (λ r. acceptedText ≡ ending r) (λ b. refl) (λ n. refl) (λ n. refl) (k .before .before .args .answer) (k .match .keys2)) (p .put .ensures)
 
 slice-aggregate-put-labelled : tie.Need-slice-aggregate-put-labelled
 slice-aggregate-put-labelled c = search needs

@@ -4,21 +4,20 @@ use Prim.Native.Nat.{ℕ}
 use native.Mathlib.Omega.{arith}
 use lib.ListN.{getD}
 use Rattle.parts.specs.declared.command.Command.the-variants.{Individual}
-use Rattle.report.specs.Report.{restoreOrder}
-use borrow.Author.Needs.{needs}
+use Rattle.report.specs.Report.{laterCommands}
 use Rattle.report.proofs.reading.command_at.Statement.{statement}
 use Rattle.report.proofs.reading.command_at.Tie as tie
 
 returns : tie.Need-returns
-returns c = search needs
+returns c = rw (c .match .keys1)
 
 returns-2 : tie.Need-returns-2
-returns-2 c = search needs
+returns-2 c = rw (c .match .keys2)
 
 returns-3 : tie.Need-returns-3
 returns-3 c =
-    let last : 2 ≡ c .before .before .args .place = omega arith in
-    ap (λ (k : ℕ). getD restoreOrder k Individual) last
+    let last : 2 ≡ c .before .args .place = omega (arith, c .match .rest .1, c .match .rest .0 .1, c .before .pre) in
+    ap (λ (k : ℕ). getD laterCommands k Individual) last
 
 pub command-at-spec : {M : Type 1} → statement M
 command-at-spec = tie.close (tie.spec returns returns-2 returns-3)

@@ -4,8 +4,9 @@ use mathlib.Core.List.{List}
 use Prim.Native.Nat.{ℕ, _+_, _/_}
 use native.Mathlib.Omega.{arith}
 use lib.ListN.{take}
+use Rattle.frames.specs.Frames.{noTail}
 use Rattle.frames.specs.Reading.{read}
-use Rattle.report.specs.Report.{answerOf, noTail}
+use Rattle.report.specs.Report.{answerOf}
 use borrow.Author.Needs.{needs}
 use Rattle.report.proofs.reading.read_front.Statement.{statement}
 use Rattle.report.proofs.reading.read_front.Tie as tie

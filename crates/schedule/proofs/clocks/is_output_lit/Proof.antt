@@ -17,8 +17,10 @@ returns c = let a = c .before .before .before .args in
     ∙ sym (lit-on (partOf (a .part)) (a .configuration) (a .global) (a .value) (a .output) (a .subframe) (a .clock) (sym (c .before .before .is-subframe-on .ensures) ∙ c .before .if1 .taken))
 
 returns-2 : tie.Need-returns-2
-returns-2 c = let a = c .before .before .args in
-    sym (lit-off (partOf (a .part)) (a .configuration) (a .global) (a .value) (a .output) (a .subframe) (a .clock) (sym (c .before .is-subframe-on .ensures) ∙ c .if1 .left))
+returns-2 c =
+    let a = c .before .before .args in
+    let off = sym (c .before .is-subframe-on .ensures) ∙ c .if1 .left in
+    c .if1 .left ∙ sym (lit-off (partOf (a .part)) (a .configuration) (a .global) (a .value) (a .output) (a .subframe) (a .clock) off)
 
 pub is-output-lit-spec : {M : Type 1} → statement M
 is-output-lit-spec =

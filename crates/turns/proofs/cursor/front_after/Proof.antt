@@ -1,3 +1,4 @@
+use Rattle.turns.proofs.Cases.{frontAfter-sent}
 use borrow.Author.Needs.{needs}
 use Rattle.turns.proofs.cursor.front_after.Statement.{statement}
 use Rattle.turns.proofs.cursor.front_after.Tie as tie
@@ -5,36 +6,14 @@ use Rattle.turns.proofs.cursor.front_after.Tie as tie
 enum-told : tie.Need-enum-told
 enum-told c = search needs
 
-enum-told-2 : tie.Need-enum-told-2
-enum-told-2 c = search needs
-
 add-result : tie.Need-add-result
 add-result c = search needs
-
-enum-told-3 : tie.Need-enum-told-3
-enum-told-3 c = search needs
-
-add-result-2 : tie.Need-add-result-2
-add-result-2 c = search needs
 
 returns : tie.Need-returns
 returns c = search needs
 
 returns-2 : tie.Need-returns-2
-returns-2 c = rw (c .enum-told2 .given .1)
-
-returns-3 : tie.Need-returns-3
-returns-3 c = rw (c .enum-told3 .given .1)
+returns-2 c = frontAfter-sent (c .before .args .front) (c .before .args .sent) (c .match .keys2)
 
 pub front-after-spec : {M : Type 1} → statement M
-front-after-spec =
-    tie.close
-    (tie.spec
-    enum-told
-    enum-told-2
-    add-result
-    enum-told-3
-    add-result-2
-    returns
-    returns-2
-    returns-3)
+front-after-spec = tie.close (tie.spec enum-told add-result returns returns-2)

@@ -1,18 +1,12 @@
+use mathlib.Core.Path.{ap, _∙_}
+use mathlib.Core.List.{List}
+use Prim.Native.Nat.{ℕ}
+use lib.ListN.{length, drop}
+use Rattle.turns.specs.Front.{putAll}
+use Rattle.turns.proofs.Cases.{lineCursor-none, leaving-none}
 use borrow.Author.Needs.{needs}
 use Rattle.turns.proofs.line.line.Statement.{statement}
 use Rattle.turns.proofs.line.line.Tie as tie
-
-enum-told : tie.Need-enum-told
-enum-told c = search needs
-
-pass-requires : tie.Need-pass-requires
-pass-requires c κs = search needs
-
-enum-told-2 : tie.Need-enum-told-2
-enum-told-2 c = search needs
-
-pass-requires-2 : tie.Need-pass-requires-2
-pass-requires-2 c κs = search needs
 
 enum-known-pending : tie.Need-enum-known-pending
 enum-known-pending c = search needs
@@ -24,33 +18,25 @@ same-length : tie.Need-same-length
 same-length c = search needs
 
 returns : tie.Need-returns
-returns c = (rw (c .before .before .pass .ensures .0, c .before .before .before .before .enum-told .given .1), rw (c .before .before .pass .ensures .1, c .before .before .before .before .enum-told .given .1))
+returns c =
+    let l = c .before .before .leave .ensures in
+    let p = c .before .before .before .before .before .pending .given .1 in
+    (rw (l .0, p), rw (l .1, p))
+
+pass-requires : tie.Need-pass-requires
+pass-requires c κs = search needs
 
 same-length-2 : tie.Need-same-length-2
 same-length-2 c = search needs
 
 returns-2 : tie.Need-returns-2
-returns-2 c = (rw (c .before .before .pass2 .ensures .0, c .before .before .before .before .enum-told2 .given .1), rw (c .before .before .pass2 .ensures .1, c .before .before .before .before .enum-told2 .given .1))
-
-same-length-3 : tie.Need-same-length-3
-same-length-3 c = search needs
-
-returns-3 : tie.Need-returns-3
-returns-3 c = (rw (c .before .before .leave .ensures .0, c .before .before .before .before .before .pending .given .1), rw (c .before .before .leave .ensures .1, c .before .before .before .before .before .pending .given .1))
+returns-2 c =
+    let l = c .before .before .pass .ensures in
+    let m = c .before .before .before .before in
+    let a = m .before .before .before .args in (
+      l .0 ∙ lineCursor-none (a .cursor .pending) (a .cursor) (a .states .now) (length (a .returned .now)) (m .match .keys2),
+      l .1 ∙ ap (λ (xs : List ℕ). putAll (a .returned .now) (a .cursor .written) xs) (leaving-none (a .cursor .pending) (drop (a .cursor .at) (a .states .now)) (m .match .keys2)),
+    )
 
 pub line-spec : {M : Type 1} → statement M
-line-spec =
-    tie.close
-    (tie.spec
-    enum-told
-    pass-requires
-    enum-told-2
-    pass-requires-2
-    enum-known-pending
-    leave-requires
-    same-length
-    returns
-    same-length-2
-    returns-2
-    same-length-3
-    returns-3)
+line-spec = tie.close (tie.spec enum-known-pending leave-requires same-length returns pass-requires same-length-2 returns-2)

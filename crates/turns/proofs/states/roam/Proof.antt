@@ -1,4 +1,4 @@
-use Rattle.turns.proofs.Resuming.{roam-end, roam-stop, roam-next}
+use Rattle.turns.proofs.Phases.{roamed-end, roamed-stop, roamed-next}
 use Rattle.turns.specs.Front.{roamed}
 use mathlib.Core.Path.{_≡_, refl, sym, _∙_}
 use Prim.Native.Nat.{_-_}
@@ -24,7 +24,7 @@ roams-at-requires : tie.Need-roams-at-requires Inv-loop μ-loop
 roams-at-requires c κs = search needs
 
 returns : tie.Need-returns Inv-loop μ-loop
-returns c = let t = c .before .before .before .before in sym (t .loop .inv ∙ roam-stop (t .loop .p) (t .before .before .args .states .now) (t .loop .i) (t .loop .i) (c .before .before .before .loop-test .taken) (sym (c .before .roams-at .ensures) ∙ not-true _ (c .if1 .taken)))
+returns c = let t = c .before .before .before .before in sym (t .loop .inv ∙ roamed-stop (t .loop .p) (t .before .before .args .states .now) (t .loop .i) (t .loop .i) (c .before .before .before .loop-test .taken) (sym (c .before .roams-at .ensures) ∙ not-true _ (c .if1 .taken)))
 
 roam-step-requires : tie.Need-roam-step-requires Inv-loop μ-loop
 roam-step-requires c κs = search needs
@@ -36,10 +36,10 @@ loop-less : tie.Need-loop-less Inv-loop μ-loop
 loop-less c = search needs
 
 loop-again : tie.Need-loop-again Inv-loop μ-loop
-loop-again c = let t = c .before .before .before .before .before in rw (c .roam-step .ensures) (t .loop .inv ∙ roam-next (t .loop .p) (t .before .before .args .states .now) (t .loop .i) (t .loop .i) (c .before .before .before .before .loop-test .taken) (sym (c .before .before .roams-at .ensures) ∙ not-false _ (c .before .if1 .left)))
+loop-again c = let t = c .before .before .before .before .before in rw (c .roam-step .ensures) (t .loop .inv ∙ roamed-next (t .loop .p) (t .before .before .args .states .now) (t .loop .i) (t .loop .i) (c .before .before .before .before .loop-test .taken) (sym (c .before .before .roams-at .ensures) ∙ not-false _ (c .before .if1 .left)))
 
 returns-2 : tie.Need-returns-2 Inv-loop μ-loop
-returns-2 c = sym (c .before .loop .inv ∙ roam-end (c .before .loop .p) (c .before .before .before .args .states .now) (c .before .loop .i) (c .before .loop .i) (c .loop-test .left))
+returns-2 c = sym (c .before .loop .inv ∙ roamed-end (c .before .loop .p) (c .before .before .before .args .states .now) (c .before .loop .i) (c .before .loop .i) (c .loop-test .left))
 
 pub roam-spec : {M : Type 1} → statement M
 roam-spec = tie.close (tie.spec Inv-loop μ-loop loop-holds shared-slice-read-s roams-at-requires returns roam-step-requires add-i loop-less loop-again returns-2)

@@ -7,7 +7,7 @@ device-take-requires : tie.Need-device-take-requires
 device-take-requires c κs = search needs
 
 returns : tie.Need-returns
-returns c = rw (c .device-take .ensures, lt-ltb _ _ (c .before .before .if1 .taken))
+returns c = rw (c .device-take .ensures, lt-ltb _ _ (c .before .if1 .taken))
 
 returns-2 : tie.Need-returns-2
 returns-2 c = rw (le-ltb _ _ (c .if1 .left))

@@ -10,14 +10,16 @@ phase-of-requires c κs = search needs
 hear-requires : tie.Need-hear-requires
 hear-requires c κs = search needs
 
-stepped-to-requires : tie.Need-stepped-to-requires
-stepped-to-requires c κs = search needs
+sending-requires : tie.Need-sending-requires
+sending-requires c κs = search needs
 
 high-requires : tie.Need-high-requires
 high-requires c κs = search needs
 
 returns : tie.Need-returns
-returns c = rw (c .stepped-to .ensures, c .before .hear .ensures, c .before .before .before .phase-of .ensures, lt-ltb _ _ (c .before .before .if1 .taken))
+returns c =
+    let test = c .before .before in
+    rw (c .sending .ensures, c .before .hear .ensures, test .before .phase-of .ensures, lt-ltb _ _ (test .if1 .taken))
 
 returns-2 : tie.Need-returns-2
 returns-2 c = rw (le-ltb _ _ (c .before .if1 .left), sym (c .before .before .phase-of .ensures)) (c .high .ensures)
@@ -25,4 +27,10 @@ returns-2 c = rw (le-ltb _ _ (c .before .if1 .left), sym (c .before .before .pha
 pub advance-spec : {M : Type 1} → statement M
 advance-spec =
     tie.close
-    (tie.spec phase-of-requires hear-requires stepped-to-requires high-requires returns returns-2)
+    (tie.spec
+    phase-of-requires
+    hear-requires
+    sending-requires
+    high-requires
+    returns
+    returns-2)

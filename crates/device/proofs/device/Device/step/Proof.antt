@@ -1,3 +1,4 @@
+-- A record that is refused refuses its step; one that is not leaves it to the state; else the step is taken.
 use Rattle.device.specs.Step.{step}
 use native.Mathlib.Omega.{arith}
 use borrow.Author.Tests.{lt-ltb, le-ltb}
@@ -16,30 +17,56 @@ use Rattle.device.proofs.device.Device.step.Tie as tie
 judge-requires : tie.Need-judge-requires
 judge-requires c κs = search needs
 
+refused-with-requires : tie.Need-refused-with-requires
+refused-with-requires c κs = search needs
+
 returns : tie.Need-returns
-returns c = let a = c .before .before .args in
-    refused (refusedWith (a .self)) (taken (step (a .self) (a .state)))
-    (first-record (known (a .self .registers .part)) (fits (a .self)) (ltb (a .state) 4) (c .before .judge .result) (c .before .judge .ensures) (c .if1 .taken))
-    (c .if1 .taken)
+returns c =
+    let t = c .before in
+    let j = t .before .judge in
+    let d = t .before .before .args .self in
+    let s = t .before .before .args .state in
+    c .refused-with .ensures
+    ∙ refused (refusedWith d) (taken (step d s))
+    (first-record (known (d .registers .part)) (fits d) (ltb s 4) (j .result) (j .ensures) (t .if1 .taken))
+    (t .if1 .taken)
+
+refused-with-requires-2 : tie.Need-refused-with-requires-2
+refused-with-requires-2 c κs = search needs
 
 returns-2 : tie.Need-returns-2
-returns-2 c = let a = c .before .before .before .args in
-    let j = c .before .before .judge in
-    let e : 13 ≡ first (stepRefusals (a .self) (a .state)) =
-    ap (λ (t : Bool). cond t 0 13) (sym (le-ltb _ _ (c .if2 .taken)))
-    ∙ first-state (known (a .self .registers .part)) (fits (a .self)) (ltb (a .state) 4) (j .result) (j .ensures) (c .before .if1 .left) in
-    refused {n = 13} (refusedWith (a .self)) (taken (step (a .self) (a .state))) e (omega arith)
+returns-2 c =
+    let t = c .before in
+    let j = t .before .before .judge in
+    let d = t .before .before .before .args .self in
+    let s = t .before .before .before .args .state in
+    let e : 13 ≡ first (stepRefusals d s) =
+    ap (λ (b : Bool). cond b 0 13) (sym (le-ltb _ _ (t .if2 .taken)))
+    ∙ first-state (known (d .registers .part)) (fits d) (ltb s 4) (j .result) (j .ensures) (t .before .if1 .left) in
+    c .refused-with2 .ensures ∙ refused {n = 13} (refusedWith d) (taken (step d s)) e (omega arith)
 
 advance-requires : tie.Need-advance-requires
 advance-requires c κs = search needs
 
 returns-3 : tie.Need-returns-3
-returns-3 c = let a = c .before .before .before .before .before .args in
-    let j = c .before .before .before .before .judge in
-    let e : 0 ≡ first (stepRefusals (a .self) (a .state)) =
-    ap (λ (t : Bool). cond t 0 13) (sym (lt-ltb _ _ (c .before .before .if2 .left)))
-    ∙ first-state (known (a .self .registers .part)) (fits (a .self)) (ltb (a .state) 4) (j .result) (j .ensures) (c .before .before .before .if1 .left) in
-    accepted {n = 0} (refusedWith (a .self)) e refl (rw (c .before .advance .ensures))
+returns-3 c =
+    let t = c .before .before in
+    let j = t .before .before .judge in
+    let d = t .before .before .before .args .self in
+    let s = t .before .before .before .args .state in
+    let e : 0 ≡ first (stepRefusals d s) =
+    ap (λ (b : Bool). cond b 0 13) (sym (lt-ltb _ _ (t .if2 .left)))
+    ∙ first-state (known (d .registers .part)) (fits d) (ltb s 4) (j .result) (j .ensures) (t .before .if1 .left) in
+    accepted {n = 0} (refusedWith d) e refl (rw (c .before .advance .ensures))
 
 pub step-spec : {M : Type 1} → statement M
-step-spec = tie.close (tie.spec judge-requires returns returns-2 advance-requires returns-3)
+step-spec =
+    tie.close
+    (tie.spec
+    judge-requires
+    refused-with-requires
+    returns
+    refused-with-requires-2
+    returns-2
+    advance-requires
+    returns-3)

@@ -1,2 +1,0 @@
--- The law behind the proofs of the functions.
-mod Cases

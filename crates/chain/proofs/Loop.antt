@@ -1,0 +1,241 @@
+-- The loop that `bb_fresh`, `bb_boundary` and `bb_set_fault` share, walked once: while the index is below the span's end a record is made and
+-- stored there, and the index grows by one. It holds for any function that has such a loop, whatever its locals: `Locals` says which of them the
+-- loop uses. How the record is made is the function's own part (`sweeps`'s `make`); where it is made of the record that stands there, `read`
+-- walks the reading.
+use Rattle.calls.proofs.Walk.{_≡_, refl, sym, _∙_, ap, subst, ℕ, zero, suc, _+_, _*_, _<_, _^_, arith, Bool, true, List, [], _∷_, length, getD, set, URA, fullShare, Ty, named, erased, mut, imm, w64, tyBool, tyPtr, tyRef, vbool, vint, vptr, Val, SProp, ent, Lft, GName, Share, fat, Heap, Out, Env, Wp, Tables, afterTurn, Atoms, Given, Item, ‵, ⋆, anyQ, _$_, _∵_, !, qed, by, rewrite, whole, sub, look-in, look, look-raw, store, store-raw, init, forget, stop, hop, fld, from, load, lit, of-opd, bin, assigns, assigns-last, stays, leaves-loop, exec, pointee, Is, sliceTy, sliceVal, Room, row, word, loop}
+use package.mir.Syntax.{Step as PStep, deref, field, place, copy, int, rvOpd, op2, mul, add, lt, offset, unsigned, Body, skip, seq, assign, cond, exit}
+use prog.Wp.{Spot, spotOf, exits}
+use types.Kit.{Goal, frees, Step, step}
+use types.Run.{Walks, Finds, free0, free1}
+use borrow.Author.Tests.{lt-ltb, le-ltb}
+use denote.Struct.Laws as LL
+use Rattle.device.specs.declared.device.Device.{Device}
+use Rattle.device.proofs.device.Device.Laws.{mir as dev}
+use Rattle.calls.specs.Chain.{blank}
+use Rattle.calls.specs.declared.changes.Span.{Span}
+use Rattle.calls.proofs.changes.Span as Sp
+use Rattle.calls.proofs.changes.Span.Laws as Sp′
+use Rattle.calls.proofs.Dev.{D, val, vals, lawful, place-fits, place-at, size, out, into, back}
+use Rattle.calls.proofs.Lent.{Open, hold, free, Again, again, loops}
+use Rattle.chain.proofs.Sweep.{sweep, sweep-next, length-sweep, turnsOf, Within, at-next}
+
+abbrev pub sliceD : Ty
+sliceD = sliceTy (tyRef (named 0) mut (pointee (D .written)))
+
+abbrev pub refI : Ty
+refI = tyRef erased imm (pointee (D .written))
+
+abbrev pub sval : Span → Val
+sval = LL.val Sp.the-type Sp′.the-laws
+
+abbrev pub SIs : Span → Type 0
+SIs s = Is Sp.the-row s (LL.vals Sp.the-type Sp′.the-laws s)
+
+-- a local by its number, and where it lies
+pub record Local {M : Type 1} (𝓤 : URA M) (H : Heap 𝓤) (E : Env 𝓤 H) (τ : Ty) : Type 0 where
+  pub number : ℕ
+  pub cell : ℕ
+  pub is : spotOf 𝓤 H E number ≡ (τ, cell, 0)
+
+abbrev pub local : {M : Type 1} {𝓤 : URA M} {H : Heap 𝓤} {E : Env 𝓤 H} {τ : Ty} (n l : ℕ) → spotOf 𝓤 H E n ≡ (τ, l, 0) → Local 𝓤 H E τ
+local n l e = record { number = n; cell = l; is = e }
+
+-- those of the loop: the index, the span, the lent chain, the test, the place to store at, and the record that is made
+pub record Locals {M : Type 1} (𝓤 : URA M) (H : Heap 𝓤) (E : Env 𝓤 H) : Type 0 where
+  pub index : Local 𝓤 H E word
+  pub span : Local 𝓤 H E Sp′.mir
+  pub chain : Local 𝓤 H E sliceD
+  pub test : Local 𝓤 H E tyBool
+  pub offset : Local 𝓤 H E word
+  pub address : Local 𝓤 H E tyPtr
+  pub made : Local 𝓤 H E dev
+
+-- those of the reading: the record that stands there, and its place
+pub record Source {M : Type 1} (𝓤 : URA M) (H : Heap 𝓤) (E : Env 𝓤 H) : Type 0 where
+  pub found : Local 𝓤 H E dev
+  pub address : Local 𝓤 H E tyPtr
+  pub offset : Local 𝓤 H E word
+
+-- what is swept: the lent chain by its reference, the records' span, and what becomes of a record
+pub record Swept : Type 0 where
+  pub lifetime : Lft
+  pub share : Share
+  pub block : ℕ
+  pub start : ℕ
+  pub name : GName
+  pub records : List Device
+  pub span : Span
+  pub change : Device → Device
+
+abbrev pub after : Swept → ℕ → List Device
+after Y k = sweep (Y .change) (Y .span .from) k (Y .records)
+
+abbrev pub place-of : Swept → ℕ → ℕ
+place-of Y k = Y .span .from + k
+
+-- the record that turn k finds
+abbrev pub found-at : Swept → ℕ → Device
+found-at Y k = getD (after Y k) (place-of Y k) blank
+
+-- turn k is one
+abbrev pub Goes : Swept → ℕ → Type 0
+Goes Y k = place-of Y k < Y .span .to
+
+-- ---- the code, by the locals' numbers
+
+module _ {M : Type 1} {𝓤 : URA M} {H : Heap 𝓤} {E : Env 𝓤 H} (L : Locals 𝓤 H E) where
+  abbrev pub Testing : Body → Body
+  Testing inner =
+      seq (assign (place (L .test .number) []) (op2 (lt unsigned) (copy (place (L .index .number) [])) (copy (place (L .span .number) (field 2 ∷ [])))))
+      (seq (cond (copy (place (L .test .number) [])) skip (exit 1)) inner)
+
+  abbrev pub Reading : Source 𝓤 H E → Body → Body
+  Reading R rest =
+      seq (assign (place (R .offset .number) []) (op2 (mul unsigned) (copy (place (L .index .number) [])) (int w64 size)))
+      (seq (assign (place (R .address .number) []) (op2 offset (copy (place (L .chain .number) (field 0 ∷ []))) (copy (place (R .offset .number) []))))
+      (seq (assign (place (R .found .number) []) (rvOpd (copy (place (R .address .number) (deref dev ∷ []))))) rest))
+
+  abbrev pub Storing : Body
+  Storing =
+      seq (assign (place (L .offset .number) []) (op2 (mul unsigned) (copy (place (L .index .number) [])) (int w64 size)))
+      (seq (assign (place (L .address .number) []) (op2 offset (copy (place (L .chain .number) (field 0 ∷ []))) (copy (place (L .offset .number) []))))
+      (seq (assign (place (L .address .number) (deref dev ∷ [])) (rvOpd (copy (place (L .made .number) []))))
+      (assign (place (L .index .number) []) (op2 (add unsigned) (copy (place (L .index .number) [])) (int w64 1)))))
+
+-- ---- the context: the row, open, the locals of the loop, and the others
+
+module _ {M : Type 1} {𝓤 : URA M} {H : Heap 𝓤} {E : Env 𝓤 H} (L : Locals 𝓤 H E) (Y : Swept) where
+  abbrev Chain : ℕ → List (Item 𝓤) → List (Item 𝓤)
+  Chain k Γ =
+      ‵ (row D fullShare (after Y k) (Y .block) (Y .start)) ∷ ‵ (Open D (Y .lifetime) (Y .share) (Y .name) (Y .records) (Y .block) (Y .start)) ∷
+      hold word (L .index .cell) (vint w64 (place-of Y k)) (hold Sp′.mir (L .span .cell) (sval (Y .span)) (hold sliceD (L .chain .cell) (sliceVal (Y .block, Y .start) (length (Y .records))) Γ))
+
+  -- before turn k
+  abbrev pub At : List (Item 𝓤) → ℕ → List (Item 𝓤)
+  At Γ k = Chain k (free tyBool (L .test .cell) (free word (L .offset .cell) (free tyPtr (L .address .cell) (free dev (L .made .cell) Γ))))
+
+  -- in turn k
+  abbrev pub Tested : List (Item 𝓤) → ℕ → List (Item 𝓤)
+  Tested Γ k = Chain k (hold tyBool (L .test .cell) (vbool true) (free word (L .offset .cell) (free tyPtr (L .address .cell) (free dev (L .made .cell) Γ))))
+
+  -- with the record made
+  abbrev pub Made : List (Item 𝓤) → ℕ → Device → List (Item 𝓤)
+  Made Γ k d = Chain k (hold tyBool (L .test .cell) (vbool true) (free word (L .offset .cell) (free tyPtr (L .address .cell) (hold dev (L .made .cell) (val d) Γ))))
+
+module _ {M : Type 1} {𝓤 : URA M} {H : Heap 𝓤} {E : Env 𝓤 H} (R : Source 𝓤 H E) (Γ : List (Item 𝓤)) where
+  abbrev pub Unread : List (Item 𝓤)
+  Unread = free dev (R .found .cell) (free tyPtr (R .address .cell) (free word (R .offset .cell) Γ))
+
+  abbrev pub Read : Device → List (Item 𝓤)
+  Read d = hold dev (R .found .cell) (val d) (free tyPtr (R .address .cell) (free word (R .offset .cell) Γ))
+
+module _ {M : Type 1} {𝓤 : URA M} {H : Heap 𝓤} {A : Atoms 𝓤} {K : Type 0} {W : Given 𝓤 H A} {Γ : List (Item 𝓤)} {E : Env 𝓤 H} where
+  in-local : K → {τ : Ty} (l : Local 𝓤 H E τ) {st : List PStep} {sp : Spot 𝓤 H} → Walks K W Γ E (τ, l .cell, 0) st sp → Finds K W Γ E (place (l .number) st) sp
+  in-local t l {st} {sp} w = from t (subst (λ (z : Spot 𝓤 H). Walks K W Γ E z st sp) (sym (l .is)) w)
+
+-- the cells of all locals, in their order, are freed
+abbrev rooms : {M : Type 1} {𝓤 : URA M} → List (Ty × ℕ) → List (Item 𝓤) → List (Item 𝓤)
+rooms [] Γ = Γ
+rooms (e ∷ E) Γ = free (e .0) (e .1) (rooms E Γ)
+
+pub free-all : {M : Type 1} {𝓤 : URA M} {H : Heap 𝓤} {A : Atoms 𝓤} {K : Type 0} {W : Given 𝓤 H A} {Γ : List (Item 𝓤)} → K → (E : Env 𝓤 H) {g : Goal 𝓤 H} → Step K W Γ g (rooms E Γ) (frees E g)
+free-all t [] = free0 t
+free-all t (e ∷ E) = step (λ s. free1 t $ free-all t E $ s)
+
+-- what is left of turn k once its record is made
+abbrev pub Stores : {M : Type 1} {𝓤 : URA M} {H : Heap 𝓤} {A : Atoms 𝓤} (W : Given 𝓤 H A) (𝓣 : Tables 𝓤 H) {E : Env 𝓤 H} (L : Locals 𝓤 H E) (Y : Swept) (Γ : List (Item 𝓤)) (Left : Out → SProp 𝓤) → ℕ → SProp 𝓤 → Type 1
+Stores {𝓤 = 𝓤} {H = H} {A = A} W 𝓣 {E} L Y Γ Left k X = (d : Device) → Is D d (vals d) → d ≡ Y .change (found-at Y k)
+    → ent 𝓤 (⋆ 𝓤 H A (Made L Y Γ k d)) (Wp 𝓤 H (𝓣 .C) (𝓣 .Λ) E (Storing L) (afterTurn 𝓤 H X Left))
+
+-- what follows the loop
+abbrev pub Leaves : {M : Type 1} (𝓤 : URA M) → (Out → SProp 𝓤) → SProp 𝓤
+Leaves 𝓤 Left = Left (exits zero)
+
+module _ {M : Type 1} {𝓤 : URA M} {H : Heap 𝓤} {A : Atoms 𝓤} (W : Given 𝓤 H A) (𝓣 : Tables 𝓤 H) {E : Env 𝓤 H} (L : Locals 𝓤 H E) (Y : Swept) (g : Room D (length (Y .records))) (within : Within (Y .span) (length (Y .records))) where
+  abbrev Run : Body → (Out → SProp 𝓤) → SProp 𝓤
+  Run = Wp 𝓤 H (𝓣 .C) (𝓣 .Λ) E
+
+  near : (k : ℕ) → Goes Y k → place-of Y k < length (Y .records)
+  near k small = omega (arith, small, within .far)
+
+  listed : (k : ℕ) → Goes Y k → place-of Y k < length (after Y k)
+  listed k small = subst (λ (z : ℕ). place-of Y k < z) (sym (length-sweep (Y .change) (Y .span .from) k (Y .records))) (near k small)
+
+  at-fits : (k : ℕ) → Goes Y k → place-of Y k * size < 2 ^ 64
+  at-fits k small = place-fits (place-of Y k) (length (Y .records)) (near k small) (g .1)
+
+  -- ---- the reading
+
+  pub read : (R : Source 𝓤 H E) (Γ : List (Item 𝓤)) (k : ℕ) (Q : Out → SProp 𝓤) (rest : Body) → Goes Y k
+      → (Is D (found-at Y k) (vals (found-at Y k)) → ent 𝓤 (⋆ 𝓤 H A (Tested L Y (Read R Γ (found-at Y k)) k)) (Run rest Q))
+      → ent 𝓤 (⋆ 𝓤 H A (Tested L Y (Unread R Γ) k)) (Run (Reading L R rest) Q)
+  read R Γ k Q rest small then =
+      let b : ℕ = Y .block in
+      let o : ℕ = Y .start in
+      let i : ℕ = place-of Y k in
+      let fits : i * size < 2 ^ 64 = at-fits k small in
+      qed W (Tested L Y (Unread R Γ) k) ∵ exec ! (𝓣 .C) (𝓣 .Λ) E (Reading L R rest) (anyQ Q) $
+      assigns ! (bin ! (load ! (in-local ! (L .index) (stop !)) (look ! 2 refl)) (lit ! tt) (record { fits = fits })) (in-local ! (R .offset) (stop !)) (init ! 20 refl (tt, record { fits = fits })) $
+      assigns ! (bin ! (load ! (in-local ! (L .chain) (fld ! refl (stop !))) (look-in ! 6 (sub ! 0 refl (whole !)))) (load ! (in-local ! (R .offset) (stop !)) (look ! 20 refl)) tt)
+      (in-local ! (R .address) (stop !)) (init ! 18 refl (tt, tt)) $
+      rewrite ! 18 (λ (p : ℕ). ‵ (fat fullShare tyPtr (R .address .cell) 0 (vptr b p))) (place-at o i) refl $
+      out ! (after Y k) i b o (listed k small) (λ is.
+      assigns ! (of-opd ! (load ! (in-local ! (R .address) (hop ! (look ! 19 refl) (stop !))) (look-raw ! 0 refl))) (in-local ! (R .found) (stop !))
+      (init ! 17 refl (lawful 𝓤 H A W .typed (found-at Y k) _ is .0)) $
+      back ! (after Y k) i b o (listed k small) is $ forget ! 18 refl $ forget ! 20 refl $ by ! (then is))
+
+  -- ---- the loop
+
+  module _ (Γ : List (Item 𝓤)) (Left : Out → SProp 𝓤) where
+    stored : (k : ℕ) (X : SProp 𝓤) → Goes Y k → ent 𝓤 (⋆ 𝓤 H A (At L Y Γ (suc k))) X → Stores W 𝓣 L Y Γ Left k X
+    unfolding afterTurn
+    stored k X small then d d-is e =
+        let b : ℕ = Y .block in
+        let o : ℕ = Y .start in
+        let i : ℕ = place-of Y k in
+        let fits : i * size < 2 ^ 64 = at-fits k small in
+        let next-fits : i + 1 < 2 ^ 64 = omega (arith, near k small, g .0) in
+        qed W (Made L Y Γ k d) ∵ exec ! (𝓣 .C) (𝓣 .Λ) E (Storing L) (anyQ (afterTurn 𝓤 H X Left)) $
+        assigns ! (bin ! (load ! (in-local ! (L .index) (stop !)) (look ! 2 refl)) (lit ! tt) (record { fits = fits })) (in-local ! (L .offset) (stop !)) (init ! 10 refl (tt, record { fits = fits })) $
+        assigns ! (bin ! (load ! (in-local ! (L .chain) (fld ! refl (stop !))) (look-in ! 6 (sub ! 0 refl (whole !)))) (load ! (in-local ! (L .offset) (stop !)) (look ! 10 refl)) tt)
+        (in-local ! (L .address) (stop !)) (init ! 12 refl (tt, tt)) $
+        rewrite ! 12 (λ (p : ℕ). ‵ (fat fullShare tyPtr (L .address .cell) 0 (vptr b p))) (place-at o i) refl $
+        out ! (after Y k) i b o (listed k small) (λ _.
+        assigns ! (of-opd ! (load ! (in-local ! (L .made) (stop !)) (look ! 15 refl))) (in-local ! (L .address) (hop ! (look ! 13 refl) (stop !)))
+        (store-raw ! 0 refl (lawful 𝓤 H A W .typed d _ d-is .0)) $
+        into ! (after Y k) i d b o (listed k small) d-is $
+        rewrite ! 0 (λ (zs : List Device). ‵ (row D fullShare zs b o)) (ap (set (after Y k) i) e ∙ sweep-next (Y .change) (Y .span .from) k (Y .records)) refl $
+        assigns-last ! (bin ! (load ! (in-local ! (L .index) (stop !)) (look ! 2 refl)) (lit ! tt) (record { fits = next-fits })) (in-local ! (L .index) (stop !)) (store ! 2 refl (tt, record { fits = next-fits })) $
+        forget ! 8 refl $ forget ! 10 refl $ forget ! 12 refl $ forget ! 14 refl $
+        rewrite ! 2 (λ (j : ℕ). ‵ (fat fullShare word (L .index .cell) 0 (vint w64 j))) (at-next (Y .span .from) k) refl $ by ! then)
+
+    module _ (inner : Body) (make : (k : ℕ) (X : SProp 𝓤) → Goes Y k → Stores W 𝓣 L Y Γ Left k X → ent 𝓤 (⋆ 𝓤 H A (Tested L Y Γ k)) (Run inner (afterTurn 𝓤 H X Left)))
+        (ends : ent 𝓤 (⋆ 𝓤 H A (At L Y Γ (turnsOf (Y .span)))) (Leaves 𝓤 Left)) where
+      more : (k : ℕ) (X : SProp 𝓤) → Goes Y k → ent 𝓤 (⋆ 𝓤 H A (At L Y Γ (suc k))) X → ent 𝓤 (⋆ 𝓤 H A (At L Y Γ k)) (Run (Testing L inner) (afterTurn 𝓤 H X Left))
+      unfolding afterTurn
+      more k X small then =
+          qed W (At L Y Γ k) ∵ exec ! (𝓣 .C) (𝓣 .Λ) E (Testing L inner) (anyQ (afterTurn 𝓤 H X Left)) $
+          assigns ! (bin ! (load ! (in-local ! (L .index) (stop !)) (look ! 2 refl)) (load ! (in-local ! (L .span) (fld ! refl (stop !))) (look-in ! 4 (sub ! 2 refl (whole !)))) tt)
+          (in-local ! (L .test) (stop !)) (init ! 8 refl (tt, tt)) $
+          rewrite ! 8 (λ (t : Bool). ‵ (fat fullShare tyBool (L .test .cell) 0 (vbool t))) (lt-ltb (place-of Y k) (Y .span .to) small) refl $
+          stays ! (load ! (in-local ! (L .test) (stop !)) (look ! 8 refl)) $ by ! (make k X small (stored k X small then))
+
+      leaves : (X : SProp 𝓤) (k : ℕ) → k ≡ turnsOf (Y .span) → ent 𝓤 (⋆ 𝓤 H A (At L Y Γ k)) (Run (Testing L inner) (afterTurn 𝓤 H X Left))
+      unfolding afterTurn
+      leaves X k e =
+          qed W (At L Y Γ k) ∵ exec ! (𝓣 .C) (𝓣 .Λ) E (Testing L inner) (anyQ (afterTurn 𝓤 H X Left)) $
+          assigns ! (bin ! (load ! (in-local ! (L .index) (stop !)) (look ! 2 refl)) (load ! (in-local ! (L .span) (fld ! refl (stop !))) (look-in ! 4 (sub ! 2 refl (whole !)))) tt)
+          (in-local ! (L .test) (stop !)) (init ! 8 refl (tt, tt)) $
+          rewrite ! 8 (λ (t : Bool). ‵ (fat fullShare tyBool (L .test .cell) 0 (vbool t))) (le-ltb (place-of Y k) (Y .span .to) (omega (arith, e, within .order))) refl $
+          leaves-loop ! (load ! (in-local ! (L .test) (stop !)) (look ! 8 refl)) $ forget ! 8 refl $
+          by ! (subst (λ (j : ℕ). ent 𝓤 (⋆ 𝓤 H A (At L Y Γ j)) (Leaves 𝓤 Left)) (sym e) ends)
+
+      abbrev Ok : ℕ → ℕ → Type 0
+      Ok t k = k + t ≡ turnsOf (Y .span)
+
+      turns : (t k : ℕ) → Ok t k → ent 𝓤 (⋆ 𝓤 H A (At L Y Γ k)) (Run (Testing L inner) (afterTurn 𝓤 H (Again 𝓤 H A Ok (At L Y Γ) t) Left))
+      turns zero k e = leaves (Again 𝓤 H A Ok (At L Y Γ) zero) k (omega (arith, e))
+      turns (suc t) k e = more k (Again 𝓤 H A Ok (At L Y Γ) (suc t)) (omega (arith, e, within .order)) (again 𝓤 H A Ok (At L Y Γ) (suc t) t (suc k) (omega arith) (omega (arith, e)))
+
+      pub sweeps : ent 𝓤 (⋆ 𝓤 H A (At L Y Γ 0)) (Run (loop (Testing L inner)) Left)
+      sweeps = loops 𝓤 H A Ok (At L Y Γ) W 𝓣 E (Testing L inner) Left turns (turnsOf (Y .span)) 0 (omega arith)

@@ -1,0 +1,3 @@
+-- Laws of the light of a device record.
+pub mod Records
+pub mod Claims

@@ -1,0 +1,2 @@
+-- Laws of machines in a chain.
+pub mod Machine

@@ -1,0 +1,2 @@
+-- Machines in a chain.
+pub mod Machine

@@ -1,0 +1,2 @@
+-- The phases of a device, and their numbers in the record.
+pub mod Phases

@@ -1,0 +1,32 @@
+-- A test of a whole list, made of two halves that were taken out of it one value after another. Assumes nothing.
+use mathlib.Core.Path.{_≡_, refl, ap, ap₂, sym, _∙_}
+use mathlib.Core.Bool.{Bool, true, false, _&&_}
+use mathlib.Core.List.{List, [], _∷_, _++_}
+use Prim.Native.Nat.{ℕ, _+_, _*_, _<_, _≤_}
+use native.Mathlib.Omega.{arith}
+use lib.Dec.{ltb}
+use lib.ListN.{length, getD, take, drop, length-drop}
+use lib.Seq.{ext-getD, getD-take, getD-drop, length-take-le, take-add, take-all}
+use Rattle.tables.specs.Lists.{allBelow}
+use Rattle.tables.proofs.Booleans.{and-assoc}
+use Rattle.registers.specs.Held.{strided}
+use Rattle.registers.specs.Widths.{pairBelow}
+use Rattle.registers.proofs.Lists.{length-strided, getD-strided}
+
+strided-take : (s : List ℕ) (a n : ℕ) → a + n ≤ length s → strided s a 1 n ≡ take n (drop a s)
+strided-take s a n h =
+    let room : n ≤ length (drop a s) = omega (arith, h, length-drop a s) in
+    ext-getD 0 (strided s a 1 n) (take n (drop a s)) (length-strided s a 1 n ∙ sym (length-take-le n (drop a s) room))
+    (λ j l. let k : j < n = omega (arith, l, length-strided s a 1 n) in
+    let one : a + 1 * j ≡ a + j = omega arith in
+    getD-strided s a 1 n j k ∙ ap (λ (m : ℕ). getD s m 0) one ∙ sym (getD-take n (drop a s) j 0 k ∙ getD-drop a s j 0))
+
+allBelow-append : (xs ys : List ℕ) (m : ℕ) → allBelow (xs ++ ys) m ≡ (allBelow xs m && allBelow ys m)
+allBelow-append [] ys m = refl
+allBelow-append (x ∷ xs) ys m = ap (λ (b : Bool). ltb x m && b) (allBelow-append xs ys m) ∙ sym (and-assoc (ltb x m) (allBelow xs m) (allBelow ys m))
+
+pub pairBelow-halves : (s : List ℕ) (m : ℕ) → length s ≡ 48 → pairBelow (strided s 0 1 24) (strided s 24 1 24) m ≡ allBelow s m
+pairBelow-halves s m e =
+    ap₂ (λ (xs ys : List ℕ). allBelow xs m && allBelow ys m) (strided-take s 0 24 (omega (arith, e))) (strided-take s 24 24 (omega (arith, e)))
+    ∙ sym (allBelow-append (take 24 s) (take 24 (drop 24 s)) m)
+    ∙ ap (λ (xs : List ℕ). allBelow xs m) (sym (take-add 24 24 s) ∙ take-all 48 s (omega (arith, e)))

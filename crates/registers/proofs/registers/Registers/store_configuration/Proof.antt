@@ -1,0 +1,20 @@
+use mathlib.Core.Path.{sym, _∙_}
+use borrow.Author.Needs.{needs}
+use Rattle.registers.proofs.registers.Registers.store_configuration.Statement.{statement}
+use Rattle.registers.proofs.registers.Registers.store_configuration.Tie as tie
+
+same-copies-requires : tie.Need-same-copies-requires
+same-copies-requires c κs = search needs
+
+byte-at-requires : tie.Need-byte-at-requires
+byte-at-requires c κs = search needs
+
+returns : tie.Need-returns
+returns c = rw (c .byte-at .ensures, sym (c .before .before .same-copies .ensures) ∙ c .before .if1 .taken)
+
+returns-2 : tie.Need-returns-2
+returns-2 c = rw (sym (c .before .same-copies .ensures) ∙ c .if1 .left)
+
+pub store-configuration-spec : {M : Type 1} → statement M
+store-configuration-spec =
+    tie.close (tie.spec same-copies-requires byte-at-requires returns returns-2)

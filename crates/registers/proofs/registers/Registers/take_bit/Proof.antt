@@ -1,0 +1,45 @@
+use native.Mathlib.Nat.{div-le-self}
+use native.Mathlib.Omega.{arith}
+use Rattle.registers.proofs.Fields.{field-width-pos, field-width-le, field-limit-pos}
+use borrow.Author.Needs.{needs}
+use Rattle.registers.proofs.registers.Registers.take_bit.Statement.{statement}
+use Rattle.registers.proofs.registers.Registers.take_bit.Tie as tie
+
+field-width-requires : tie.Need-field-width-requires
+field-width-requires c κs = search needs
+
+cast-width : tie.Need-cast-width
+cast-width c =
+    let a = c .before .args in
+    omega (arith, c .field-width .ensures, field-width-le (a .command) (a .self .part))
+
+field-limit-requires : tie.Need-field-limit-requires
+field-limit-requires c κs = search needs
+
+div-take-at : tie.Need-div-take-at
+div-take-at c =
+    let a = c .before .before .args in
+    omega (arith, c .before .field-width .ensures, field-width-pos (a .command) (a .self .part))
+
+cast-take-at : tie.Need-cast-take-at
+cast-take-at c = omega (arith, div-le-self (c .before .before .args .taken) (c .before .field-width .result))
+
+take-at-requires : tie.Need-take-at-requires
+take-at-requires c κs =
+    let a = c .before .before .args in
+    omega (arith, c .field-limit .ensures, field-limit-pos (a .command) (a .self .part))
+
+returns : tie.Need-returns
+returns c = rw (c .take-at .ensures, c .before .field-limit .ensures, c .before .before .field-width .ensures)
+
+pub take-bit-spec : {M : Type 1} → statement M
+take-bit-spec =
+    tie.close
+    (tie.spec
+    field-width-requires
+    cast-width
+    field-limit-requires
+    div-take-at
+    cast-take-at
+    take-at-requires
+    returns)

@@ -1,0 +1,144 @@
+-- What a device holds: its registers, what the last bit of a slice stores, the count sent on, a frame boundary, a fault setting, and the
+-- registers of a fresh device.
+use Prim.Native.Nat.{ℕ, zero, suc, _+_, _%_}
+use mathlib.Core.Bool.{Bool, _&&_, cond}
+use mathlib.Core.List.{List, [], _∷_}
+use lib.Dec.{eqb}
+use lib.ListN.{getD, set, replicate}
+use Rattle.parts.specs.Parts.{multiplex}
+use Rattle.parts.specs.declared.command.Command.{Command}
+use Rattle.parts.specs.declared.command.Command.the-variants.{Individual, Calibration, Global, Configuration}
+use Rattle.phases.specs.Phases.{pushed}
+use Rattle.registers.specs.declared.registers.Registers.{Registers}
+
+-- the registers with a new configuration, calibration, waiting global byte, waiting values and slice, and all else as it was
+abbrev pub holding : Registers → ℕ → List ℕ → ℕ → List ℕ → List ℕ → List ℕ → Registers
+holding r configuration calibration waiting waiting0 waiting1 slice =
+    record {
+      part = r .part;
+      overtemperature = r .overtemperature;
+      openled = r .openled;
+      configuration = configuration;
+      calibration = calibration;
+      waiting = waiting;
+      active = r .active;
+      waiting0 = waiting0;
+      waiting1 = waiting1;
+      active0 = r .active0;
+      active1 = r .active1;
+      slice = slice;
+    }
+
+-- the registers with another slice coming in
+abbrev pub withSlice : Registers → List ℕ → Registers
+withSlice r s = holding r (r .configuration) (r .calibration) (r .waiting) (r .waiting0) (r .waiting1) s
+
+-- a bit goes into field k of the slice, which is kept below m
+abbrev pub took : Registers → ℕ → ℕ → ℕ → Registers
+took r k bit m = withSlice r (set (r .slice) k (pushed (getD (r .slice) k 0) bit m))
+
+-- n values of s, the first at a, each k after the last
+unfoldable pub strided : List ℕ → ℕ → ℕ → ℕ → List ℕ
+strided s a k zero = []
+strided s a k (suc n) = getD s a 0 ∷ strided s (a + k) k n
+
+-- nonmultiplexed, the 24 values are the MUX0 values, and the MUX1 values stay; multiplexed, MUX0 and MUX1 take turns
+abbrev pub storedValues : Registers → Registers
+storedValues r =
+    cond (eqb (multiplex (r .configuration)) 0)
+    (holding r (r .configuration) (r .calibration) (r .waiting) (strided (r .slice) 0 1 24) (r .waiting1) (r .slice))
+    (holding r (r .configuration) (r .calibration) (r .waiting) (strided (r .slice) 0 2 24) (strided (r .slice) 1 2 24) (r .slice))
+
+-- the byte in a field of the slice
+abbrev pub byteAt : List ℕ → ℕ → ℕ
+byteAt s k = getD s k 0 % 256
+
+-- the three bytes are the calibration of the banks B, G, R
+abbrev pub storedCalibration : Registers → Registers
+storedCalibration r =
+    holding r (r .configuration) (byteAt (r .slice) 0 ∷ byteAt (r .slice) 1 ∷ byteAt (r .slice) 2 ∷ []) (r .waiting)
+    (r .waiting0) (r .waiting1) (r .slice)
+
+-- the three bytes of a slice are the same
+abbrev pub copies : List ℕ → Bool
+copies s = eqb (byteAt s 0) (byteAt s 1) && eqb (byteAt s 0) (byteAt s 2)
+
+-- copies that differ store nothing
+abbrev pub storedGlobal : Registers → Registers
+storedGlobal r =
+    cond (copies (r .slice))
+    (holding r (r .configuration) (r .calibration) (byteAt (r .slice) 0) (r .waiting0) (r .waiting1) (r .slice))
+    r
+
+-- a configuration byte takes effect at once; copies that differ store nothing
+abbrev pub storedConfiguration : Registers → Registers
+storedConfiguration r =
+    cond (copies (r .slice))
+    (holding r (byteAt (r .slice) 0) (r .calibration) (r .waiting) (r .waiting0) (r .waiting1) (r .slice))
+    r
+
+-- what the last bit of a slice stores
+abbrev pub stored : Registers → Command → Registers
+stored r Individual = storedValues r
+stored r Calibration = storedCalibration r
+stored r Global = storedGlobal r
+stored r Configuration = storedConfiguration r
+
+-- the fault flag of a command's kind: C0 = 0 overtemperature, C0 = 1 open LED
+abbrev pub fault : Registers → Command → ℕ
+fault r Individual = r .overtemperature
+fault r Calibration = r .openled
+fault r Global = r .overtemperature
+fault r Configuration = r .openled
+
+-- the count sent on; a fault stands where its flag is not 0
+abbrev pub raised : ℕ → ℕ → ℕ
+raised count flag = cond (eqb flag 0) (count % 1024) ((count + 1) % 1024)
+
+-- ---- what is not a clock
+
+-- the registers with new fault flags and active values, and all else as it was
+abbrev pub showing : Registers → ℕ → ℕ → ℕ → List ℕ → List ℕ → Registers
+showing r overtemperature openled active active0 active1 =
+    record {
+      part = r .part;
+      overtemperature = overtemperature;
+      openled = openled;
+      configuration = r .configuration;
+      calibration = r .calibration;
+      waiting = r .waiting;
+      active = active;
+      waiting0 = r .waiting0;
+      waiting1 = r .waiting1;
+      active0 = active0;
+      active1 = active1;
+      slice = r .slice;
+    }
+
+-- a frame boundary: waiting values become active
+abbrev pub activated : Registers → Registers
+activated r = showing r (r .overtemperature) (r .openled) (r .waiting) (r .waiting0) (r .waiting1)
+
+-- the fault of a kind is set: 0 overtemperature, else open LED
+abbrev pub flagged : Registers → ℕ → ℕ → Registers
+flagged r kind flag =
+    cond (eqb kind 0) (showing r flag (r .openled) (r .active) (r .active0) (r .active1))
+    (showing r (r .overtemperature) flag (r .active) (r .active0) (r .active1))
+
+-- zeros and no faults
+abbrev pub zeros : ℕ → Registers
+zeros part =
+    record {
+      part = part;
+      overtemperature = 0;
+      openled = 0;
+      configuration = 0;
+      calibration = replicate 3 0;
+      waiting = 0;
+      active = 0;
+      waiting0 = replicate 24 0;
+      waiting1 = replicate 24 0;
+      active0 = replicate 24 0;
+      active1 = replicate 24 0;
+      slice = replicate 48 0;
+    }

@@ -1,0 +1,67 @@
+-- What an enum is in the `else` of an `if let`, or under `_`: the tag says which cases are left. Assumes nothing.
+use mathlib.Core.Path.{_≡_, refl, ap}
+use mathlib.Core.Bool.{false}
+use mathlib.Core.List.{List, [], _∷_}
+use mathlib.Core.Logic.{⊎-elim}
+use Prim.Native.Nat.{ℕ, _+_}
+use native.Mathlib.Omega.{arith}
+use types.Run.{OneOf}
+use denote.Enum.Declared.{tagOf}
+use Rattle.phases.specs.declared.phase.Phase.{Phase}
+use Rattle.phases.specs.declared.phase.Phase.the-variants.{Hunting, Opening, Counting, Slice, Passing, Lost}
+use Rattle.phases.specs.declared.phase.Sent.{Sent}
+use Rattle.phases.specs.declared.phase.Sent.the-variants.{Nothing, One, Header}
+use Rattle.device.specs.declared.device.Device.{Device}
+use Rattle.phases.specs.Phases.{phaseOf}
+use Rattle.phases.proofs.phase.Phase as P
+use Rattle.phases.proofs.phase.Sent as S
+use Rattle.turns.specs.Front.{isLost, roamed, roamTaken, afterHeader, lowTaken, facing, aimed, frontAfter, lineCursor, leaving, passedTo}
+use Rattle.turns.specs.declared.states.Roamed.{Roamed}
+use Rattle.turns.specs.declared.cursor.Cursor.{Cursor}
+
+-- no header
+abbrev NoHeader : Sent → Type 0
+NoHeader p = OneOf (0 ∷ 1 ∷ []) (tagOf S.the-type p)
+
+not-last : OneOf (0 ∷ 1 ∷ []) 2 → ⊥
+not-last h = ⊎-elim (λ e. omega arith) (λ e. omega arith) h
+
+pub afterHeader-none : (d : Device) (p : Sent) → NoHeader p → d ≡ afterHeader d p
+afterHeader-none d Nothing h = refl
+afterHeader-none d (One s) h = refl
+afterHeader-none d (Header c n) h = absurd (not-last h)
+
+pub lowTaken-none : (d : Device) (p : Sent) (ss : List ℕ) (i : ℕ) (q : Roamed) → NoHeader p → q ≡ roamed (phaseOf (d .place)) ss i → roamTaken d q ≡ lowTaken d p ss i
+lowTaken-none d Nothing ss i q h e = ap (roamTaken d) e
+lowTaken-none d (One s) ss i q h e = ap (roamTaken d) e
+lowTaken-none d (Header c n) ss i q h e = absurd (not-last h)
+
+pub aimed-none : (n f at w : ℕ) (p : Sent) (ss : List ℕ) → NoHeader p → facing n f at w ss ≡ aimed n f at w p ss
+aimed-none n f at w Nothing ss h = refl
+aimed-none n f at w (One s) ss h = refl
+aimed-none n f at w (Header c m) ss h = absurd (not-last h)
+
+pub lineCursor-none : (p : Sent) (c : Cursor) (ss : List ℕ) (room : ℕ) → NoHeader p → passedTo c ss room ≡ lineCursor p c ss room
+lineCursor-none Nothing c ss room h = refl
+lineCursor-none (One s) c ss room h = refl
+lineCursor-none (Header k n) c ss room h = absurd (not-last h)
+
+pub leaving-none : (p : Sent) (ss : List ℕ) → NoHeader p → leaving Nothing ss ≡ leaving p ss
+leaving-none Nothing ss h = refl
+leaving-none (One s) ss h = refl
+leaving-none (Header k n) ss h = absurd (not-last h)
+
+-- something was sent
+pub frontAfter-sent : (f : ℕ) (x : Sent) → OneOf (1 ∷ 2 ∷ []) (tagOf S.the-type x) → f + 1 ≡ frontAfter f x
+frontAfter-sent f Nothing h = absurd (⊎-elim (λ e. omega arith) (λ e. omega arith) h)
+frontAfter-sent f (One s) h = refl
+frontAfter-sent f (Header c n) h = refl
+
+-- any phase but the last
+pub isLost-not : (p : Phase) → OneOf (0 ∷ 1 ∷ 2 ∷ 3 ∷ 4 ∷ []) (tagOf P.the-type p) → false ≡ isLost p
+isLost-not (Hunting w) h = refl
+isLost-not (Opening r) h = refl
+isLost-not (Counting c r) h = refl
+isLost-not (Slice c n t) h = refl
+isLost-not Passing h = refl
+isLost-not Lost h = absurd (⊎-elim (λ e. omega arith) (λ i. ⊎-elim (λ e. omega arith) (λ j. ⊎-elim (λ e. omega arith) (λ k. ⊎-elim (λ e. omega arith) (λ e. omega arith) k) j) i) h)

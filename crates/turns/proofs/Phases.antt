@@ -1,0 +1,132 @@
+-- A phase that goes on alone. As long as no register is touched, a step moves the phase and nothing else; the loop over the states stops at
+-- the first one at which this is not so. By induction on the states at hand. Assumes nothing.
+use mathlib.Core.Path.{_≡_, refl, ap, sym, _∙_}
+use mathlib.Core.Bool.{Bool, true, false, _||_, cond, true≢false}
+use mathlib.Core.List.{List, [], _∷_}
+use Prim.Native.Nat.{ℕ, _+_, _-_, _*_, _%_, _<_, _≤_}
+use native.Mathlib.Nat.{mod-lt}
+use native.Mathlib.Omega.{arith}
+use lib.Dec.{eqb, ltb, lit<}
+use lib.ListN.{length, getD, drop, drop-of-length-le}
+use borrow.Author.Tests.{eqb-true, ne-eqb}
+use Rattle.parts.specs.Parts.{commandAt}
+use Rattle.phases.specs.Phases.{phaseOf, windowOf, heard, opened, inHeader, headed}
+use Rattle.device.specs.Step.{step, stepHigh, moved, at}
+use Rattle.phases.specs.declared.phase.Phase.{Phase}
+use Rattle.phases.specs.declared.phase.Phase.the-variants.{Hunting, Opening, Counting, Slice, Passing, Lost}
+use Rattle.registers.specs.declared.registers.Registers.{Registers}
+use Rattle.device.specs.declared.device.Device.{Device}
+use Rattle.phases.proofs.Places.{Small, phase-place}
+use Rattle.tables.proofs.Booleans.{cond-both}
+use Rattle.intake.proofs.Lines.{drop-on}
+use Rattle.intake.proofs.Phases.{step-high, headed-small}
+use Rattle.turns.specs.Front.{isPassing, isLost, passes, roams, roamStep, roamed}
+use Rattle.turns.specs.declared.states.Roamed.{Roamed}
+
+-- ---- a passing record, by its number
+
+pub passes-number : (d : Device) → passes d ≡ eqb (d .place .phase) 4
+passes-number d = go (eqb (d .place .phase) 0) refl (eqb (d .place .phase) 1) refl (eqb (d .place .phase) 2) refl (eqb (d .place .phase) 3) refl (eqb (d .place .phase) 4) refl
+  where
+    other : (k : ℕ) → eqb (d .place .phase) k ≡ true → (k ≡ 4 → ⊥) → false ≡ eqb (d .place .phase) 4
+    other k e ne = sym (ne-eqb (d .place .phase) 4 (λ f. ne (sym (eqb-true (d .place .phase) k e) ∙ f)))
+
+    go : (a : Bool) → eqb (d .place .phase) 0 ≡ a → (b : Bool) → eqb (d .place .phase) 1 ≡ b → (c : Bool) → eqb (d .place .phase) 2 ≡ c → (e : Bool) → eqb (d .place .phase) 3 ≡ e → (f : Bool) → eqb (d .place .phase) 4 ≡ f
+        → isPassing (cond a (Hunting (d .place .read % 256)) (cond b (Opening (d .place .read)) (cond c (Counting (commandAt (d .place .command)) (d .place .read)) (cond e (Slice (commandAt (d .place .command)) (d .place .count) (d .place .read)) (cond f Passing Lost))))) ≡ eqb (d .place .phase) 4
+    go true p b q c r e s f t = other 0 p (λ z. omega (arith, z))
+    go false p true q c r e s f t = other 1 q (λ z. omega (arith, z))
+    go false p false q true r e s f t = other 2 r (λ z. omega (arith, z))
+    go false p false q false r true s f t = other 3 s (λ z. omega (arith, z))
+    go false p false q false r false s true t = sym t
+    go false p false q false r false s false t = sym t
+
+-- ---- one state
+
+roam-high : (r : Registers) (p : Phase) (s : ℕ) → (inHeader p || isLost p) ≡ true → stepHigh r p s ≡ moved r (headed p (s % 2))
+roam-high r (Hunting w) s e = refl
+roam-high r (Opening a) s e = refl
+roam-high r (Counting c a) s e = refl
+roam-high r (Slice c n t) s e = absurd (true≢false (sym e))
+roam-high r Passing s e = absurd (true≢false (sym e))
+roam-high r Lost s e = refl
+
+pub step-low : (d : Device) (s : ℕ) → ltb s 2 ≡ true → step d s ≡ moved (d .registers) (heard (phaseOf (d .place)) s)
+step-low d s e = ap (λ (t : Bool). cond t (moved (d .registers) (heard (phaseOf (d .place)) s)) (stepHigh (d .registers) (phaseOf (d .place)) s)) e
+
+pub step-roams : (r : Registers) (p : Phase) (s : ℕ) → Small p → roams p s ≡ true → step (at r p) s ≡ moved r (roamStep p s)
+step-roams r p s h e = go (ltb s 2) refl e
+  where
+    go : (t : Bool) → ltb s 2 ≡ t → (t || (inHeader p || isLost p)) ≡ true → step (at r p) s ≡ moved r (cond t (heard p s) (headed p (s % 2)))
+    go true f g = step-low (at r p) s f ∙ ap (λ (q : Phase). moved r (heard q s)) (phase-place p h)
+    go false f g = step-high r p s h f ∙ roam-high r p s g
+
+-- every phase that a state makes has a small window
+pub heard-small : (p : Phase) (s : ℕ) → Small (heard p s)
+heard-small p s = mod-lt (windowOf p * 2 + s) (lit< tt)
+
+pub roamStep-small : (p : Phase) (s : ℕ) → Small p → Small (roamStep p s)
+roamStep-small p s h = cond-both Small (ltb s 2) _ _ (λ _. heard-small p s) (λ _. headed-small p (s % 2) h)
+
+-- and none of them passes
+abbrev pub Quiet : Phase → Type 0
+Quiet p = isPassing p ≡ false
+
+opened-quiet : (x : ℕ) → Quiet (opened x)
+opened-quiet x =
+    cond-both Quiet (eqb x 0) _ _ (λ _. refl)
+    (λ _. cond-both Quiet (eqb x 21) _ _ (λ _. refl)
+    (λ _. cond-both Quiet (eqb x 42) _ _ (λ _. refl)
+    (λ _. cond-both Quiet (eqb x 63) _ _ (λ _. refl) (λ _. refl))))
+
+pub headed-quiet : (p : Phase) (b : ℕ) → Quiet p → Quiet (headed p b)
+headed-quiet (Hunting w) b e = cond-both Quiet (eqb w 0xE8) _ _ (λ _. refl) (λ _. refl)
+headed-quiet (Opening a) b e = cond-both Quiet (ltb (a * 2 + b) 64) _ _ (λ _. refl) (λ _. opened-quiet (a * 2 + b - 64))
+headed-quiet (Counting c a) b e = cond-both Quiet (ltb (a * 2 + b) 1024) _ _ (λ _. refl) (λ _. refl)
+headed-quiet (Slice c n t) b e = e
+headed-quiet Passing b e = e
+headed-quiet Lost b e = e
+
+roamStep-quiet : (p : Phase) (s : ℕ) → Quiet p → Quiet (roamStep p s)
+roamStep-quiet p s e = cond-both Quiet (ltb s 2) _ _ (λ _. refl) (λ _. headed-quiet p (s % 2) e)
+
+pub roamed-quiet : (p : Phase) (ss : List ℕ) (i : ℕ) → Quiet p → Quiet (roamed p ss i .phase)
+unfolding roamed
+roamed-quiet p [] i e = e
+roamed-quiet p (s ∷ ss) i e =
+    cond-both (λ (q : Roamed). Quiet (q .phase)) (roams p s) (roamed (roamStep p s) ss (i + 1)) (record { phase = p; at = i })
+    (λ _. roamed-quiet (roamStep p s) ss (i + 1) (roamStep-quiet p s e)) (λ _. e)
+
+-- ---- the loop
+
+pub roamed-low : (p : Phase) (s : ℕ) (ss : List ℕ) (i : ℕ) → ltb s 2 ≡ true → roamed p (s ∷ ss) i ≡ roamed (heard p s) ss (i + 1)
+unfolding roamed
+roamed-low p s ss i e = rw e refl
+
+pub roamed-end : (p : Phase) (ss : List ℕ) (i k : ℕ) → length ss ≤ i → roamed p (drop i ss) k ≡ record { phase = p; at = k }
+unfolding roamed
+roamed-end p ss i k h = rw (drop-of-length-le ss h) refl
+
+pub roamed-stop : (p : Phase) (ss : List ℕ) (i k : ℕ) → i < length ss → roams p (getD ss i 0) ≡ false → roamed p (drop i ss) k ≡ record { phase = p; at = k }
+unfolding roamed
+roamed-stop p ss i k h e =
+    ap (λ (xs : List ℕ). roamed p xs k) (drop-on ss i h)
+    ∙ ap (λ (t : Bool). cond t (roamed (roamStep p (getD ss i 0)) (drop (i + 1) ss) (k + 1)) (record { phase = p; at = k })) e
+
+pub roamed-next : (p : Phase) (ss : List ℕ) (i k : ℕ) → i < length ss → roams p (getD ss i 0) ≡ true → roamed p (drop i ss) k ≡ roamed (roamStep p (getD ss i 0)) (drop (i + 1) ss) (k + 1)
+unfolding roamed
+roamed-next p ss i k h e =
+    ap (λ (xs : List ℕ). roamed p xs k) (drop-on ss i h)
+    ∙ ap (λ (t : Bool). cond t (roamed (roamStep p (getD ss i 0)) (drop (i + 1) ss) (k + 1)) (record { phase = p; at = k })) e
+
+-- it stays within the states
+pub record Along (ss : List ℕ) (i : ℕ) (q : Roamed) : Type 0 where
+  pub starts : i ≤ q .at
+  pub ends : q .at ≤ i + length ss
+
+pub roamed-along : (p : Phase) (ss : List ℕ) (i : ℕ) → Along ss i (roamed p ss i)
+unfolding roamed
+roamed-along p [] i = record { starts = omega arith; ends = omega arith }
+roamed-along p (s ∷ ss) i =
+    let next : Along ss (i + 1) (roamed (roamStep p s) ss (i + 1)) = roamed-along (roamStep p s) ss (i + 1) in
+    cond-both (Along (s ∷ ss) i) (roams p s) (roamed (roamStep p s) ss (i + 1)) (record { phase = p; at = i })
+    (λ _. record { starts = omega (arith, next .starts); ends = omega (arith, next .ends) }) (λ _. record { starts = omega arith; ends = omega arith })

@@ -1,0 +1,70 @@
+//! One device: the step by value beside a step in place, and slices collected through a run of one device.
+
+use crate::frames::page;
+use crate::race::{best, print};
+use baseline::{chain, device};
+use model::frame::Tail;
+use model::part::Command;
+use record::Device;
+use std::hint::black_box;
+
+/// Individual frames in a run of one device.
+const FRAMES: usize = 50;
+
+/// Steps, and collecting.
+pub fn races() {
+    let states = page(6975, 1)
+        .states(Command::Individual, Tail::default())
+        .expect("a page in order");
+    let mut start = Device::fresh(6975);
+    start.registers.configuration = 1;
+    steps(start, &states);
+    collecting(start, &states.repeat(FRAMES));
+}
+
+fn steps(start: Device, states: &[u8]) {
+    let [mut a, mut b] = [start; 2];
+    let [judged, judged_rust] = best([
+        &mut || {
+            for &state in black_box(states) {
+                a = ffi::step(a, state).device;
+            }
+        },
+        &mut || {
+            for &state in black_box(states) {
+                if device::judge(black_box(&b)).is_ok() {
+                    black_box(device::step(&mut b, state));
+                }
+            }
+        },
+    ]);
+    assert!(a == b, "stepped alike");
+    print(
+        "step, judged, by value against in place",
+        ("ns a state", states.len() as f64),
+        judged,
+        judged_rust,
+        None,
+    );
+}
+
+fn collecting(start: Device, states: &[u8]) {
+    let [mut a, mut b] = [(); 2].map(|()| vec![start]);
+    let [mut back, mut back_rust] = [(); 2].map(|()| vec![0; states.len() + 23]);
+    let [proved, plain] = best([
+        &mut || {
+            black_box(ffi::run(&mut a, black_box(states), &mut back));
+        },
+        &mut || {
+            let _ = black_box(chain::run(&mut b, black_box(states), &mut back_rust));
+        },
+    ]);
+    assert!(a == b && back == back_rust, "collected alike");
+    print(
+        &format!("collect {FRAMES} slices of 672 bits, one device"),
+        ("ns a state", states.len() as f64),
+        proved,
+        plain,
+        Some(2.0),
+    );
+}

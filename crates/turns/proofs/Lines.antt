@@ -16,13 +16,11 @@ use Rattle.parts.specs.Parts.{code}
 use Rattle.parts.specs.Wire.{high, stateOf, commandCount, header, clocked, statesOf}
 use Rattle.parts.specs.declared.command.Command.{Command}
 use Rattle.parts.specs.declared.command.Command.the-variants.{Individual, Calibration, Global, Configuration}
-use Rattle.intake.specs.Intake.{highsEnd}
+use Rattle.tables.proofs.Booleans.{cond-both}
+use Rattle.intake.specs.Intake.{highsEnd, least}
+use Rattle.intake.proofs.Slices.{least-left, least-right}
 use Rattle.intake.proofs.Lines.{drop-on}
 use Rattle.turns.specs.Front.{putAll, putEnd, highs}
-
-by-test : {A : Type 0} (t : Bool) (x y : A) (P : A → Type 0) → P x → P y → P (cond t x y)
-by-test true x y P a b = a
-by-test false x y P a b = b
 
 -- where high states end is as far on as there are of them
 pub highs-behind : (ss : List ℕ) (i : ℕ) → highsEnd ss i ≡ i + highs ss
@@ -48,7 +46,7 @@ unfolding putAll
 put-on os w xs i h = rw (drop-on xs i h) refl
 
 -- as many as there is room for: either all are written, or the room is full
-pub put-enough : (os : List ℕ) (w : ℕ) (xs : List ℕ) (i n room : ℕ) → n ≡ cond (leb (length xs) (room - w)) (length xs) (room - w) → length os ≡ room → w ≤ room → n ≤ i
+pub put-enough : (os : List ℕ) (w : ℕ) (xs : List ℕ) (i n room : ℕ) → n ≡ least (length xs) (room - w) → length os ≡ room → w ≤ room → n ≤ i
     → putAll os (w + i) (drop i xs) ≡ os
 put-enough os w xs i n room e l k h = by-cases (leb (length xs) (room - w)) refl
   where
@@ -56,7 +54,7 @@ put-enough os w xs i n room e l k h = by-cases (leb (length xs) (room - w)) refl
     by-cases true q = put-end os (w + i) xs i (omega (arith, h, e ∙ ap (λ (u : Bool). cond u (length xs) (room - w)) q))
     by-cases false q = put-full os (w + i) (drop i xs) (omega (arith, h, l, k, e ∙ ap (λ (u : Bool). cond u (length xs) (room - w)) q))
 
-pub put-end-is : (room w k n : ℕ) → n ≡ cond (leb k (room - w)) k (room - w) → w ≤ room → w + n ≡ putEnd room w k
+pub put-end-is : (room w k n : ℕ) → n ≡ least k (room - w) → w ≤ room → w + n ≡ putEnd room w k
 put-end-is room w k n e h = by-cases (leb k (room - w)) refl
   where
     by-cases : (t : Bool) → leb k (room - w) ≡ t → w + n ≡ putEnd room w k
@@ -69,12 +67,8 @@ put-end-is room w k n e h = by-cases (leb k (room - w)) refl
         over : leb k (room - w) ≡ false → room < w + k
         over p = omega (arith, leb-false k (room - w) p, h)
 
-pub smaller-within : (n a b : ℕ) → n ≡ cond (leb a b) a b → (n ≤ a) × (n ≤ b)
-smaller-within n a b e = by-cases (leb a b) refl
-  where
-    by-cases : (t : Bool) → leb a b ≡ t → (n ≤ a) × (n ≤ b)
-    by-cases true q = (omega (arith, e ∙ ap (λ (u : Bool). cond u a b) q), omega (arith, leb-true a b q, e ∙ ap (λ (u : Bool). cond u a b) q))
-    by-cases false q = (omega (arith, leb-false a b q, e ∙ ap (λ (u : Bool). cond u a b) q), omega (arith, e ∙ ap (λ (u : Bool). cond u a b) q))
+pub smaller-within : (n a b : ℕ) → n ≡ least a b → (n ≤ a) × (n ≤ b)
+smaller-within n a b e = (omega (arith, e, least-left a b), omega (arith, e, least-right a b))
 
 pub put-next : (os : List ℕ) (w : ℕ) (xs : List ℕ) (i : ℕ) → i < length xs → putAll os (w + i) (drop i xs) ≡ putAll (set os (w + i) (getD xs i 0)) (w + (i + 1)) (drop (i + 1) xs)
 put-next os w xs i h = put-on os (w + i) xs i h ∙ ap (λ (k : ℕ). putAll (set os (w + i) (getD xs i 0)) k (drop (i + 1) xs)) (omega arith)
@@ -85,7 +79,7 @@ put-start os w xs = ap (λ (k : ℕ). putAll os k xs) (omega arith)
 pub highs-fit : (ss : List ℕ) → highs ss ≤ length ss
 unfolding highs
 highs-fit [] = omega arith
-highs-fit (s ∷ ss) = by-test (ltb s 2) 0 (highs ss + 1) (λ (n : ℕ). n ≤ suc (length ss)) (omega arith) (omega (arith, highs-fit ss))
+highs-fit (s ∷ ss) = cond-both (λ (n : ℕ). n ≤ suc (length ss)) (ltb s 2) 0 (highs ss + 1) (λ _. omega arith) (λ _. omega (arith, highs-fit ss))
 
 pub highs-within : (ss : List ℕ) (k : ℕ) → k ≤ length ss → k + highs (drop k ss) ≤ length ss
 highs-within ss k h = omega (arith, highs-fit (drop k ss), length-drop k ss)

@@ -71,7 +71,8 @@ moves-on : (ps : List Device) (e : Device) (qs : List Device) (q rest : List ℕ
 moves-on ps e qs q rest =
     ap (λ (a : Whole). joined a qs q) (chain-devices stepRecord ps (e ∷ []) rest)
     ∙ ap (λ (b : Whole). joined (through ps rest .0 ++ b .0, b .1) qs q) (one-device e (through ps rest .1))
-    ∙ ap (λ (ds : List Device). (ds, through qs (q ++ run e (through ps rest .1) .1) .1)) (append-assoc (through ps rest .0) (run e (through ps rest .1) .0 ∷ []) (through qs (q ++ run e (through ps rest .1) .1) .0))
+    ∙ ap (λ (ds : List Device). (ds, through qs (q ++ run e (through ps rest .1) .1) .1))
+    (append-assoc (through ps rest .0) (run e (through ps rest .1) .0 ∷ []) (through qs (q ++ run e (through ps rest .1) .1) .0))
 
 -- the states that a device takes go by the devices before it, which pass: there are none, or the states are high
 goes-by : (low : Bool) (ps : List Device) (d : Device) (ss : List ℕ) (k : ℕ) (t : Taken) → AllPass ps → (low ≡ true → ps ≡ []) → (x : Takes low d ss k t)
@@ -133,102 +134,133 @@ module _ (ss : List ℕ) (fin : List Device × (List ℕ × ℕ)) where
   left at k hs rest e h =
       ap (λ (n : ℕ). drop n ss) h ∙ sym (drop-drop (length hs) at ss) ∙ ap (λ (xs : List ℕ). drop (length hs) xs) e ∙ drop-append-seam hs rest
 
-  -- the front device d, with what is under way, becomes e and sends nothing
-  stays : (low : Bool) (ps qs : List Device) (d d0 e : Device) (ws : List ℕ) (f at k w : ℕ) (ins : List ℕ) → length ps ≡ f → AllPass ps → (low ≡ true → ps ≡ []) → AllNeat (e ∷ qs) → run d ins ≡ (d0, []) → Takes low d0 (drop at ss) at (stopped e k Nothing)
-      → joined (through ps (drop at ss)) (d ∷ qs) ins .0 ≡ fin .0 → wrote ws w (joined (through ps (drop at ss)) (d ∷ qs) ins .1) ≡ fin .1
-      → Holds (set (ps ++ d ∷ qs) f e) ws f k w Nothing
-  unfolding Small
-  stays low ps qs d d0 e ws f at k w ins l a z ne h x u v =
-      let m : joined (through ps (drop at ss)) (d ∷ qs) ins ≡ joined (through ps (drop k ss)) (e ∷ qs) [] =
-      takes-on low ps qs d d0 ins (drop at ss) at (stopped e k Nothing) a z h x ∙ sym (here (through ps (x .rest)) e qs) ∙ ap (λ (r : List ℕ). joined (through ps r) (e ∷ qs) []) (sym (left at k (x .own) (x .rest) (x .whole) (x .far))) in
+  -- where a turn of the front device begins: the devices before it, the device with what is under way to it, those after it, the room, and
+  -- the places of the front, the next state and the next one returned
+  record Front : Type 0 where
+    pub ps : List Device
+    pub d : Device
+    pub qs : List Device
+    pub ins : List ℕ
+    pub ws : List ℕ
+    pub f : ℕ
+    pub at : ℕ
+    pub w : ℕ
+    pub count : length ps ≡ f
+    pub passing : AllPass ps
+    pub neat : AllNeat (d ∷ qs)
+    pub devices : joined (through ps (drop at ss)) (d ∷ qs) ins .0 ≡ fin .0
+    pub out : wrote ws w (joined (through ps (drop at ss)) (d ∷ qs) ins .1) ≡ fin .1
+
+  -- the front device became t's
+  HoldsTaken : Front → Taken → Type 0
+  HoldsTaken b t = Holds (set (b .ps ++ b .d ∷ b .qs) (b .f) (t .device)) (b .ws) (frontAfter (b .f) (t .sent)) (t .at) (b .w) (t .sent)
+
+  -- it becomes e and sends nothing
+  stays : (low : Bool) (b : Front) (d0 e : Device) (k : ℕ) → (low ≡ true → b .ps ≡ []) → Neat e → run (b .d) (b .ins) ≡ (d0, [])
+      → Takes low d0 (drop (b .at) ss) (b .at) (stopped e k Nothing) → HoldsTaken b (stopped e k Nothing)
+  unfolding HoldsTaken Small
+  stays low b d0 e k z ne h x =
+      let m : joined (through (b .ps) (drop (b .at) ss)) (b .d ∷ b .qs) (b .ins) ≡ joined (through (b .ps) (drop k ss)) (e ∷ b .qs) [] =
+      takes-on low (b .ps) (b .qs) (b .d) d0 (b .ins) (drop (b .at) ss) (b .at) (stopped e k Nothing) (b .passing) z h x ∙ sym (here (through (b .ps) (x .rest)) e (b .qs))
+      ∙ ap (λ (r : List ℕ). joined (through (b .ps) r) (e ∷ b .qs) []) (sym (left (b .at) k (x .own) (x .rest) (x .whole) (x .far))) in
       record {
-        ps = ps;
-        qs = e ∷ qs;
-        split = set-at ps d qs e f l;
-        count = l;
-        passing = a;
-        neat = ne;
+        ps = b .ps;
+        qs = e ∷ b .qs;
+        split = set-at (b .ps) (b .d) (b .qs) e (b .f) (b .count);
+        count = b .count;
+        passing = b .passing;
+        neat = (ne, b .neat .1);
         small = tt;
-        devices = sym (ap (λ (b : Whole). b .0) m) ∙ u;
-        out = sym (ap (λ (b : Whole). wrote ws w (b .1)) m) ∙ v;
+        devices = sym (ap (λ (y : Whole). y .0) m) ∙ b .devices;
+        out = sym (ap (λ (y : Whole). wrote (b .ws) (b .w) (y .1)) m) ∙ b .out;
       }
 
-  -- the front device d, with what is under way, becomes t's
-  after : (low : Bool) (ps qs : List Device) (d d0 : Device) (ws : List ℕ) (f at w : ℕ) (ins : List ℕ) (t : Taken) → length ps ≡ f → AllPass ps → (low ≡ true → ps ≡ []) → AllNeat qs → run d ins ≡ (d0, []) → Takes low d0 (drop at ss) at t → Ending t
-      → joined (through ps (drop at ss)) (d ∷ qs) ins .0 ≡ fin .0 → wrote ws w (joined (through ps (drop at ss)) (d ∷ qs) ins .1) ≡ fin .1
-      → Holds (set (ps ++ d ∷ qs) f (t .device)) ws (frontAfter f (t .sent)) (t .at) w (t .sent)
-  unfolding Small
-  after low ps qs d d0 ws f at w ins t l a z ne h x (quiet {d = e} {k} p) u v = stays low ps qs d d0 e ws f at k w ins l a z ((λ q. absurd (true≢false (sym q ∙ p))), ne) h x u v
-  after low ps qs d d0 ws f at w ins t l a z ne h x (sent {r} {k} {c} {n} few) u v =
-      let m : joined (through ps (drop at ss)) (d ∷ qs) ins ≡ joined (through (ps ++ (passer r ∷ [])) (drop k ss)) qs (headerStates c n) =
-      takes-on low ps qs d d0 ins (drop at ss) at (stopped (passer r) k (Header c n)) a z h x ∙ sym (moves-on ps (passer r) qs (headerStates c n) (x .rest)) ∙ ap (λ (y : List ℕ). joined (through (ps ++ (passer r ∷ [])) y) qs (headerStates c n)) (sym (left at k (x .own) (x .rest) (x .whole) (x .far))) in
+  after : (low : Bool) (b : Front) (d0 : Device) (t : Taken) → (low ≡ true → b .ps ≡ []) → run (b .d) (b .ins) ≡ (d0, [])
+      → Takes low d0 (drop (b .at) ss) (b .at) t → Ending t → HoldsTaken b t
+  unfolding HoldsTaken Small
+  after low b d0 t z h x (quiet {d = e} {k} p) = stays low b d0 e k z (λ q. absurd (true≢false (sym q ∙ p))) h x
+  after low b d0 t z h x (sent {r} {k} {c} {n} few) =
+      let more : List Device = b .ps ++ (passer r ∷ []) in
+      let m : joined (through (b .ps) (drop (b .at) ss)) (b .d ∷ b .qs) (b .ins) ≡ joined (through more (drop k ss)) (b .qs) (headerStates c n) =
+      takes-on low (b .ps) (b .qs) (b .d) d0 (b .ins) (drop (b .at) ss) (b .at) (stopped (passer r) k (Header c n)) (b .passing) z h x
+      ∙ sym (moves-on (b .ps) (passer r) (b .qs) (headerStates c n) (x .rest))
+      ∙ ap (λ (y : List ℕ). joined (through more y) (b .qs) (headerStates c n)) (sym (left (b .at) k (x .own) (x .rest) (x .whole) (x .far))) in
       record {
-        ps = ps ++ (passer r ∷ []);
-        qs = qs;
-        split = set-at ps d qs (passer r) f l ∙ sym (append-assoc ps (passer r ∷ []) qs);
-        count = length-append ps (passer r ∷ []) ∙ ap (λ (y : ℕ). y + 1) l;
-        passing = pass-more ps r a;
-        neat = ne;
+        ps = more;
+        qs = b .qs;
+        split = set-at (b .ps) (b .d) (b .qs) (passer r) (b .f) (b .count) ∙ sym (append-assoc (b .ps) (passer r ∷ []) (b .qs));
+        count = length-append (b .ps) (passer r ∷ []) ∙ ap (λ (y : ℕ). y + 1) (b .count);
+        passing = pass-more (b .ps) r (b .passing);
+        neat = b .neat .1;
         small = few;
-        devices = sym (ap (λ (b : Whole). b .0) m) ∙ u;
-        out = sym (ap (λ (b : Whole). wrote ws w (b .1)) m) ∙ v;
+        devices = sym (ap (λ (y : Whole). y .0) m) ∙ b .devices;
+        out = sym (ap (λ (y : Whole). wrote (b .ws) (b .w) (y .1)) m) ∙ b .out;
       }
 
   -- ---- the turn of a device, by what comes next
 
-  HoldsTaken : List Device → List Device → Device → List ℕ → ℕ → ℕ → Taken → Type 0
-  HoldsTaken ps qs d ws f w t = Holds (set (ps ++ d ∷ qs) f (t .device)) ws (frontAfter f (t .sent)) (t .at) w (t .sent)
+  nothing-in : (d : Device) (ins : List ℕ) → ins ≡ [] → run d ins ≡ (d, [])
+  nothing-in d ins i = ap (run d) i ∙ run-nil stepRecord d
 
-  fronts : (ps qs : List Device) (d : Device) (ws : List ℕ) (f at w : ℕ) (rest : List ℕ) → drop at ss ≡ rest → length ps ≡ f → AllPass ps → AllNeat (d ∷ qs)
-      → ((s : ℕ) (xs : List ℕ) → rest ≡ s ∷ xs → ltb s 2 ≡ true → f ≡ 0)
-      → joined (through ps (drop at ss)) (d ∷ qs) [] .0 ≡ fin .0 → wrote ws w (joined (through ps (drop at ss)) (d ∷ qs) [] .1) ≡ fin .1
-      → HoldsTaken ps qs d ws f w (frontTaken d rest at)
+  not-low : (ps : List Device) → false ≡ true → ps ≡ []
+  not-low ps e = absurd (true≢false (sym e))
+
+  -- a passing device moves the front on
+  hands-on : (b : Front) → b .ins ≡ [] → b .d ≡ passer (b .d .registers) → HoldsTaken b (stopped (b .d) (b .at) (One 0))
   unfolding HoldsTaken Small
-  fronts ps qs d ws f at w [] e l a ne z u v = stays false ps qs d d d ws f at at w [] l a (λ x. absurd (true≢false (sym x))) ne (run-nil stepRecord d) (takes-none false d (drop at ss) at) u v
-  fronts ps qs d ws f at w (s ∷ xs) e l a ne z u v = go (ltb s 2) refl (passes d) refl
+  hands-on b i g =
+      let A : Whole = through (b .ps) (drop (b .at) ss) in
+      let more : List Device = b .ps ++ (b .d ∷ []) in
+      let m : joined A (b .d ∷ b .qs) (b .ins) ≡ joined (through more (drop (b .at) ss)) (b .qs) [] =
+      ap (joined A (b .d ∷ b .qs)) i ∙ here A (b .d) (b .qs) ∙ sym (moves-on (b .ps) (b .d) (b .qs) [] (drop (b .at) ss)) in
+      record {
+        ps = more;
+        qs = b .qs;
+        split = set-at (b .ps) (b .d) (b .qs) (b .d) (b .f) (b .count) ∙ sym (append-assoc (b .ps) (b .d ∷ []) (b .qs));
+        count = length-append (b .ps) (b .d ∷ []) ∙ ap (λ (y : ℕ). y + 1) (b .count);
+        passing = subst (λ (y : Device). AllPass (b .ps ++ (y ∷ []))) (sym g) (pass-more (b .ps) (b .d .registers) (b .passing));
+        neat = b .neat .1;
+        small = tt;
+        devices = sym (ap (λ (y : Whole). y .0) m) ∙ b .devices;
+        out = sym (ap (λ (y : Whole). wrote (b .ws) (b .w) (y .1)) m) ∙ b .out;
+      }
+
+  -- no header is under way
+  fronts : (b : Front) (rest : List ℕ) → b .ins ≡ [] → drop (b .at) ss ≡ rest → ((s : ℕ) (xs : List ℕ) → rest ≡ s ∷ xs → ltb s 2 ≡ true → b .f ≡ 0)
+      → HoldsTaken b (frontTaken (b .d) rest (b .at))
+  fronts b [] i e z = stays false b (b .d) (b .d) (b .at) (not-low (b .ps)) (b .neat .0) (nothing-in (b .d) (b .ins) i) (takes-none false (b .d) (drop (b .at) ss) (b .at))
+  fronts b (s ∷ xs) i e z = go (ltb s 2) refl (passes (b .d)) refl
     where
-      passing : d ≡ passer (d .registers) → Holds (set (ps ++ d ∷ qs) f d) ws (f + 1) at w (One 0)
-      passing g =
-          let m : joined (through ps (drop at ss)) (d ∷ qs) [] ≡ joined (through (ps ++ (d ∷ [])) (drop at ss)) qs [] = here (through ps (drop at ss)) d qs ∙ sym (moves-on ps d qs [] (drop at ss)) in
-          record {
-            ps = ps ++ (d ∷ []);
-            qs = qs;
-            split = set-at ps d qs d f l ∙ sym (append-assoc ps (d ∷ []) qs);
-            count = length-append ps (d ∷ []) ∙ ap (λ (y : ℕ). y + 1) l;
-            passing = subst (λ (y : Device). AllPass (ps ++ (y ∷ []))) (sym g) (pass-more ps (d .registers) a);
-            neat = ne .1;
-            small = tt;
-            devices = sym (ap (λ (b : Whole). b .0) m) ∙ u;
-            out = sym (ap (λ (b : Whole). wrote ws w (b .1)) m) ∙ v;
-          }
-
-      go : (low : Bool) → ltb s 2 ≡ low → (p : Bool) → passes d ≡ p
-          → HoldsTaken ps qs d ws f w (cond low (roamTaken d (roamed (phaseOf (d .place)) (s ∷ xs) at)) (cond p (stopped d at (One 0)) (highTaken d (s ∷ xs) at)))
+      go : (low : Bool) → ltb s 2 ≡ low → (p : Bool) → passes (b .d) ≡ p
+          → HoldsTaken b (cond low (roamTaken (b .d) (roamed (phaseOf (b .d .place)) (s ∷ xs) (b .at))) (cond p (stopped (b .d) (b .at) (One 0)) (highTaken (b .d) (s ∷ xs) (b .at))))
       go true h p g =
-          let t = roamTaken d (roamed (phaseOf (d .place)) (s ∷ xs) at) in
-          after true ps qs d d ws f at w [] t l a (λ _. no-more ps (l ∙ z s xs refl h)) (ne .1) (run-nil stepRecord d)
-          (subst (λ (r : List ℕ). Takes true d r at t) (sym e) (takes-low d s xs at h)) (ending-low d s xs at h) u v
-      go false h true g = passing (ne .0 g)
+          let t = roamTaken (b .d) (roamed (phaseOf (b .d .place)) (s ∷ xs) (b .at)) in
+          after true b (b .d) t (λ _. no-more (b .ps) (b .count ∙ z s xs refl h)) (nothing-in (b .d) (b .ins) i)
+          (subst (λ (r : List ℕ). Takes true (b .d) r (b .at) t) (sym e) (takes-low (b .d) s xs (b .at) h)) (ending-low (b .d) s xs (b .at) h)
+      go false h true g = hands-on b i (b .neat .0 g)
       go false h false g =
-          after false ps qs d d ws f at w [] (highTaken d (s ∷ xs) at) l a (λ x. absurd (true≢false (sym x))) (ne .1) (run-nil stepRecord d)
-          (subst (λ (r : List ℕ). Takes false d r at (highTaken d (s ∷ xs) at)) (sym e) (takes d (s ∷ xs) at)) (endings d (s ∷ xs) at g) u v
+          let t = highTaken (b .d) (s ∷ xs) (b .at) in
+          after false b (b .d) t (not-low (b .ps)) (nothing-in (b .d) (b .ins) i)
+          (subst (λ (r : List ℕ). Takes false (b .d) r (b .at) t) (sym e) (takes (b .d) (s ∷ xs) (b .at))) (endings (b .d) (s ∷ xs) (b .at) g)
 
-  -- the front device's turn, whatever is under way
-  serves : (ps qs : List Device) (d : Device) (ws : List ℕ) (f at w : ℕ) (p : Sent) → length ps ≡ f → AllPass ps → AllNeat (d ∷ qs) → Small p
-      → ((s : ℕ) (xs : List ℕ) → drop at ss ≡ s ∷ xs → owed p ≡ 0 → ltb s 2 ≡ true → f ≡ 0)
-      → joined (through ps (drop at ss)) (d ∷ qs) (underWay p) .0 ≡ fin .0 → wrote ws w (joined (through ps (drop at ss)) (d ∷ qs) (underWay p) .1) ≡ fin .1
-      → HoldsTaken ps qs d ws f w (deviceTaken d p (drop at ss) at)
-  unfolding HoldsTaken Small
-  serves ps qs d ws f at w Nothing l a ne k z u v = fronts ps qs d ws f at w (drop at ss) refl l a ne (λ s xs e h. z s xs e refl h) u v
-  serves ps qs d ws f at w (One b) l a ne k z u v = fronts ps qs d ws f at w (drop at ss) refl l a ne (λ s xs e h. z s xs e refl h) u v
-  serves ps qs d ws f at w (Header c n) l a ne k z u v =
-      after false ps qs d (sliceStart d c n) ws f at w (headerStates c n) (highTaken (sliceStart d c n) (drop at ss) at) l a (λ e. absurd (true≢false (sym e))) (ne .1) (run-header d c n k) (takes (sliceStart d c n) (drop at ss) at) (endings (sliceStart d c n) (drop at ss) at refl) u v
+  -- whatever is under way
+  serves : (b : Front) (p : Sent) → b .ins ≡ underWay p → Small p
+      → ((s : ℕ) (xs : List ℕ) → drop (b .at) ss ≡ s ∷ xs → owed p ≡ 0 → ltb s 2 ≡ true → b .f ≡ 0)
+      → HoldsTaken b (deviceTaken (b .d) p (drop (b .at) ss) (b .at))
+  unfolding Small
+  serves b Nothing i k z = fronts b (drop (b .at) ss) i refl (λ s xs e h. z s xs e refl h)
+  serves b (One x) i k z = fronts b (drop (b .at) ss) i refl (λ s xs e h. z s xs e refl h)
+  serves b (Header c n) i k z =
+      let d0 = sliceStart (b .d) c n in
+      after false b d0 (highTaken d0 (drop (b .at) ss) (b .at)) (not-low (b .ps)) (ap (run (b .d)) i ∙ run-header (b .d) c n k)
+      (takes d0 (drop (b .at) ss) (b .at)) (endings d0 (drop (b .at) ss) (b .at) refl)
 
   -- ---- the cursor is aimed
   reset : (ys : List Device) (ws : List ℕ) (f at w : ℕ) → Holds ys ws f at w Nothing → Holds ys ws 0 at w Nothing
   unfolding Small chain
   reset ys ws f at w h =
-      let m : joined (through (h .ps) (drop at ss)) (h .qs) [] ≡ through ys (drop at ss) = sym (chain-devices stepRecord (h .ps) (h .qs) (drop at ss)) ∙ ap (λ (b : List Device). through b (drop at ss)) (sym (h .split)) in
+      let m : joined (through (h .ps) (drop at ss)) (h .qs) [] ≡ through ys (drop at ss) =
+      sym (chain-devices stepRecord (h .ps) (h .qs) (drop at ss)) ∙ ap (λ (b : List Device). through b (drop at ss)) (sym (h .split)) in
       record {
         ps = [];
         qs = ys;
@@ -282,7 +314,8 @@ module _ (ss : List ℕ) (fin : List Device × (List ℕ × ℕ)) where
 
   wrote-append : (ws : List ℕ) (w : ℕ) (xs ys : List ℕ) (k : ℕ) → length xs ≡ k → wrote ws w (xs ++ ys) ≡ wrote (putAll ws w xs) (putEnd (length ws) w k) ys
   wrote-append ws w xs ys k e =
-      ap (λ (zs : List ℕ). (zs, putEnd (length ws) w (length (xs ++ ys)))) (put-append ws w xs ys ∙ ap (λ (n : ℕ). putAll (putAll ws w xs) (w + n) ys) e ∙ fill-put (putAll ws w xs) (length ws) w k ys (length-put ws w xs))
+      ap (λ (zs : List ℕ). (zs, putEnd (length ws) w (length (xs ++ ys))))
+      (put-append ws w xs ys ∙ ap (λ (n : ℕ). putAll (putAll ws w xs) (w + n) ys) e ∙ fill-put (putAll ws w xs) (length ws) w k ys (length-put ws w xs))
       ∙ ap (λ (n : ℕ). (putAll (putAll ws w xs) (putEnd (length ws) w k) ys, putEnd (length ws) w n)) (length-append xs ys ∙ ap (λ (n : ℕ). n + length ys) e)
       ∙ ap (λ (n : ℕ). (putAll (putAll ws w xs) (putEnd (length ws) w k) ys, n)) (fill-fill (length ws) w k (length ys))
       ∙ ap (λ (n : ℕ). (putAll (putAll ws w xs) (putEnd (length ws) w k) ys, putEnd n (putEnd (length ws) w k) (length ys))) (sym (length-put ws w xs))
@@ -291,12 +324,15 @@ module _ (ss : List ℕ) (fin : List Device × (List ℕ × ℕ)) where
   unfolding chain
   last-out a q = refl
 
-  leaves : (ys : List Device) (ws : List ℕ) (f at w : ℕ) (c : Command) (n : ℕ) → (h : Holds ys ws f at w (Header c n)) → h .qs ≡ [] → Holds ys (putAll ws w (headerStates c n)) f at (putEnd (length ws) w 24) Nothing
+  leaves : (ys : List Device) (ws : List ℕ) (f at w : ℕ) (c : Command) (n : ℕ) → (h : Holds ys ws f at w (Header c n)) → h .qs ≡ []
+      → Holds ys (putAll ws w (headerStates c n)) f at (putEnd (length ws) w 24) Nothing
   unfolding Small
   leaves ys ws f at w c n h e =
       let A : Whole = through (h .ps) (drop at ss) in
-      let m : joined (through (h .ps) (drop at ss)) (h .qs) (headerStates c n) ≡ (through (h .ps) (drop at ss) .0 ++ [], headerStates c n ++ through (h .ps) (drop at ss) .1) = ap (λ (b : List Device). joined (through (h .ps) (drop at ss)) b (headerStates c n)) e ∙ last-out (through (h .ps) (drop at ss)) (headerStates c n) in
-      let k : joined (through (h .ps) (drop at ss)) (h .qs) [] ≡ (through (h .ps) (drop at ss) .0 ++ [], through (h .ps) (drop at ss) .1) = ap (λ (b : List Device). joined (through (h .ps) (drop at ss)) b []) e ∙ last-out (through (h .ps) (drop at ss)) [] in
+      let m : joined (through (h .ps) (drop at ss)) (h .qs) (headerStates c n) ≡ (through (h .ps) (drop at ss) .0 ++ [], headerStates c n ++ through (h .ps) (drop at ss) .1) =
+      ap (λ (b : List Device). joined (through (h .ps) (drop at ss)) b (headerStates c n)) e ∙ last-out (through (h .ps) (drop at ss)) (headerStates c n) in
+      let k : joined (through (h .ps) (drop at ss)) (h .qs) [] ≡ (through (h .ps) (drop at ss) .0 ++ [], through (h .ps) (drop at ss) .1) =
+      ap (λ (b : List Device). joined (through (h .ps) (drop at ss)) b []) e ∙ last-out (through (h .ps) (drop at ss)) [] in
       record {
         ps = h .ps;
         qs = h .qs;
@@ -306,7 +342,9 @@ module _ (ss : List ℕ) (fin : List Device × (List ℕ × ℕ)) where
         neat = h .neat;
         small = tt;
         devices = ap (λ (b : Whole). b .0) k ∙ sym (ap (λ (b : Whole). b .0) m) ∙ h .devices;
-        out = ap (λ (b : Whole). wrote (putAll ws w (headerStates c n)) (putEnd (length ws) w 24) (b .1)) k ∙ sym (wrote-append ws w (headerStates c n) (through (h .ps) (drop at ss) .1) 24 (length-header-states c n)) ∙ sym (ap (λ (b : Whole). wrote ws w (b .1)) m) ∙ h .out;
+        out =
+            ap (λ (b : Whole). wrote (putAll ws w (headerStates c n)) (putEnd (length ws) w 24) (b .1)) k
+            ∙ sym (wrote-append ws w (headerStates c n) (through (h .ps) (drop at ss) .1) 24 (length-header-states c n)) ∙ sym (ap (λ (b : Whole). wrote ws w (b .1)) m) ∙ h .out;
       }
 
   highs-high : (xs : List ℕ) → High (take (highs xs) xs)
@@ -329,7 +367,8 @@ module _ (ss : List ℕ) (fin : List Device × (List ℕ × ℕ)) where
       let hs : List ℕ = take (highs (drop at ss)) (drop at ss) in
       let rest-is : drop (at + highs (drop at ss)) ss ≡ drop (highs (drop at ss)) (drop at ss) = sym (drop-drop (highs (drop at ss)) at ss) in
       let B : Whole = through (h .ps) (drop (at + highs (drop at ss)) ss) in
-      let whole : drop at ss ≡ hs ++ drop (at + highs (drop at ss)) ss = sym (take-append-drop (highs (drop at ss)) (drop at ss)) ∙ ap (λ (r : List ℕ). take (highs (drop at ss)) (drop at ss) ++ r) (sym rest-is) in
+      let whole : drop at ss ≡ hs ++ drop (at + highs (drop at ss)) ss =
+      sym (take-append-drop (highs (drop at ss)) (drop at ss)) ∙ ap (λ (r : List ℕ). take (highs (drop at ss)) (drop at ss) ++ r) (sym rest-is) in
       let m : joined (through (h .ps) (drop at ss)) (h .qs) [] ≡ (B .0 ++ [], hs ++ B .1) =
       ap (λ (b : List Device). joined (through (h .ps) (drop at ss)) b []) e ∙ last-out (through (h .ps) (drop at ss)) []
       ∙ ap (λ (a : Whole). (a .0 ++ [], a .1)) (ap (λ (r : List ℕ). through (h .ps) r) whole ∙ through-high (h .ps) hs (drop (at + highs (drop at ss)) ss) (h .passing) (highs-high (drop at ss))) in
@@ -344,7 +383,8 @@ module _ (ss : List ℕ) (fin : List Device × (List ℕ × ℕ)) where
         small = tt;
         devices = ap (λ (b : Whole). b .0) k ∙ sym (ap (λ (b : Whole). b .0) m) ∙ h .devices;
         out = ap (λ (b : Whole). wrote (putAll ws w hs) (putEnd (length ws) w (highs (drop at ss))) (b .1)) k
-            ∙ sym (wrote-append ws w hs (B .1) (highs (drop at ss)) (length-take-le (highs (drop at ss)) (drop at ss) (highs-fit (drop at ss)))) ∙ sym (ap (λ (b : Whole). wrote ws w (b .1)) m) ∙ h .out;
+            ∙ sym (wrote-append ws w hs (B .1) (highs (drop at ss)) (length-take-le (highs (drop at ss)) (drop at ss) (highs-fit (drop at ss))))
+            ∙ sym (ap (λ (b : Whole). wrote ws w (b .1)) m) ∙ h .out;
       }
 
   -- ---- a whole turn
@@ -368,7 +408,8 @@ module _ (ss : List ℕ) (fin : List Device × (List ℕ × ℕ)) where
   index-is n f i at w (One b) g rest e l v = index-facing n f i at w (One b) g rest e l v
   index-is n f i at w (Header c m) g rest e l v = ap (λ (c : Cursor). c .index) e ∙ ap (λ (t : Bool). cond t f 0) l
 
-  device-holds : (ys : List Device) (ws : List ℕ) (n f i at w : ℕ) (p : Sent) (g : Bool) → (h : Holds ys ws f at w p) → Aim n f i at w p g (drop at ss) → i ≡ f → (qs : List Device) → h .qs ≡ qs → 0 < length qs
+  device-holds : (ys : List Device) (ws : List ℕ) (n f i at w : ℕ) (p : Sent) (g : Bool) → (h : Holds ys ws f at w p) → Aim n f i at w p g (drop at ss) → i ≡ f → (qs : List Device)
+      → h .qs ≡ qs → 0 < length qs
       → HoldsAt (set ys i (deviceTurn (getD ys i blank) (cursor n f i at w p g) ss .device)) ws (deviceTurn (getD ys i blank) (cursor n f i at w p g) ss .cursor)
   unfolding HoldsTaken
   device-holds ys ws n f i at w p g h e j [] q l = absurd (omega (arith, l))
@@ -377,8 +418,23 @@ module _ (ss : List ℕ) (fin : List Device × (List ℕ × ℕ)) where
       let dd : getD ys i blank ≡ d = ap (λ (k : ℕ). getD ys k blank) j ∙ ap (λ (b : List Device). getD b f blank) sp ∙ getD-at (h .ps) d qs blank f (h .count) in
       let t : Taken = deviceTaken d p (drop at ss) at in
       let served : Holds (set (h .ps ++ d ∷ qs) f (t .device)) ws (frontAfter f (t .sent)) (t .at) w (t .sent) =
-      serves (h .ps) qs d ws f at w p (h .count) (h .passing) (subst AllNeat q (h .neat)) (h .small) (λ s xs r k u. low-front n f i at w p g s xs (e ∙ ap (λ (y : List ℕ). aimed n f at w p y) r) k u)
-      (ap (λ (b : List Device). joined (through (h .ps) (drop at ss)) b (underWay p) .0) (sym q) ∙ h .devices) (ap (λ (b : List Device). wrote ws w (joined (through (h .ps) (drop at ss)) b (underWay p) .1)) (sym q) ∙ h .out) in
+      serves
+      (record {
+        ps = h .ps;
+        d = d;
+        qs = qs;
+        ins = underWay p;
+        ws = ws;
+        f = f;
+        at = at;
+        w = w;
+        count = h .count;
+        passing = h .passing;
+        neat = subst AllNeat q (h .neat);
+        devices = ap (λ (b : List Device). joined (through (h .ps) (drop at ss)) b (underWay p) .0) (sym q) ∙ h .devices;
+        out = ap (λ (b : List Device). wrote ws w (joined (through (h .ps) (drop at ss)) b (underWay p) .1)) (sym q) ∙ h .out;
+      })
+      p refl (h .small) (λ s xs r k u. low-front n f i at w p g s xs (e ∙ ap (λ (y : List ℕ). aimed n f at w p y) r) k u) in
       let aims : HoldsAt (set (h .ps ++ d ∷ qs) f (t .device)) ws (deviceTurn d (cursor n f i at w p g) ss .cursor) =
       aim-holds n (set (h .ps ++ d ∷ qs) f (t .device)) ws (frontAfter f (t .sent)) (t .at) w (t .sent) (drop (t .at) ss) served in
       subst (λ (x : Device). HoldsAt (set ys i (deviceTurn x (cursor n f i at w p g) ss .device)) ws (deviceTurn x (cursor n f i at w p g) ss .cursor)) (sym dd)
@@ -389,20 +445,25 @@ module _ (ss : List ℕ) (fin : List Device × (List ℕ × ℕ)) where
       → HoldsAt ys (lineOut (cursor n f i at w p g) ss ws) (lineCursor p (cursor n f i at w p g) ss (length ws))
   unfolding one-none
   line-holds ys ws n f i at w Nothing g h e = aim-holds n ys _ f (at + highs (drop at ss)) _ Nothing (drop (at + highs (drop at ss)) ss) (all-pass ys ws f at w h e)
-  line-holds ys ws n f i at w (One b) g h e = aim-holds n ys _ f (at + highs (drop at ss)) _ Nothing (drop (at + highs (drop at ss)) ss) (all-pass ys ws f at w (one-none ys ws f at w b h) (one-qs ys ws f at w b h e))
+  line-holds ys ws n f i at w (One b) g h e =
+      aim-holds n ys _ f (at + highs (drop at ss)) _ Nothing (drop (at + highs (drop at ss)) ss) (all-pass ys ws f at w (one-none ys ws f at w b h) (one-qs ys ws f at w b h e))
     where
       one-qs : (ys : List Device) (ws : List ℕ) (f at w b : ℕ) (h : Holds ys ws f at w (One b)) → h .qs ≡ [] → one-none ys ws f at w b h .qs ≡ []
       one-qs ys ws f at w b h e = e
   line-holds ys ws n f i at w (Header c m) g h e = aim-holds n ys _ f at _ Nothing (drop at ss) (leaves ys ws f at w c m h e)
 
   turn-holds : (ys : List Device) (ws : List ℕ) (n f i at w : ℕ) (p : Sent) (g : Bool) → length ys ≡ n → Holds ys ws f at w p → Aim n f i at w p g (drop at ss) → g ≡ true
-      → HoldsAt (set ys i (turnWithin (getD ys i blank) (cursor n f i at w p g) ss (length ws) .device)) (cond (ltb f n) ws (lineOut (cursor n f i at w p g) ss ws)) (turnWithin (getD ys i blank) (cursor n f i at w p g) ss (length ws) .cursor)
+      → HoldsAt (set ys i (turnWithin (getD ys i blank) (cursor n f i at w p g) ss (length ws) .device)) (cond (ltb f n) ws (lineOut (cursor n f i at w p g) ss ws))
+      (turnWithin (getD ys i blank) (cursor n f i at w p g) ss (length ws) .cursor)
   turn-holds ys ws n f i at w p g l h e v = go (ltb f n) refl
     where
       long : length (h .ps) + length (h .qs) ≡ n
       long = sym (length-append (h .ps) (h .qs)) ∙ sym (ap length (h .split)) ∙ l
 
-      go : (t : Bool) → ltb f n ≡ t → HoldsAt (set ys i (cond t (deviceTurn (getD ys i blank) (cursor n f i at w p g) ss) (lineTurn (getD ys i blank) (cursor n f i at w p g) ss (length ws)) .device)) (cond t ws (lineOut (cursor n f i at w p g) ss ws)) (cond t (deviceTurn (getD ys i blank) (cursor n f i at w p g) ss) (lineTurn (getD ys i blank) (cursor n f i at w p g) ss (length ws)) .cursor)
+      go : (t : Bool) → ltb f n ≡ t
+          → HoldsAt (set ys i (cond t (deviceTurn (getD ys i blank) (cursor n f i at w p g) ss) (lineTurn (getD ys i blank) (cursor n f i at w p g) ss (length ws)) .device))
+          (cond t ws (lineOut (cursor n f i at w p g) ss ws))
+          (cond t (deviceTurn (getD ys i blank) (cursor n f i at w p g) ss) (lineTurn (getD ys i blank) (cursor n f i at w p g) ss (length ws)) .cursor)
       go true q = device-holds ys ws n f i at w p g h e (index-is n f i at w p g (drop at ss) e q v) (h .qs) refl (omega (arith, long, h .count, ltb-true f n q))
       go false q =
           subst (λ (b : List Device). HoldsAt b (lineOut (cursor n f i at w p g) ss ws) (lineCursor p (cursor n f i at w p g) ss (length ws))) (sym (set-getD ys i blank))
@@ -415,15 +476,19 @@ module _ (ss : List ℕ) (fin : List Device × (List ℕ × ℕ)) where
   ends-empty : (ys : List Device) (ws : List ℕ) (f at w : ℕ) → Holds ys ws f at w Nothing → drop at ss ≡ [] → w ≤ length ws → Ended ys ws w
   unfolding putAll
   ends-empty ys ws f at w h e l =
-      let m : joined (through (h .ps) (drop at ss)) (h .qs) [] ≡ (h .ps ++ h .qs, []) = ap (λ (r : List ℕ). joined (through (h .ps) r) (h .qs) []) e ∙ ap (λ (a : Whole). joined a (h .qs) []) (chain-nil stepRecord (h .ps)) ∙ ap (λ (b : Whole). (h .ps ++ b .0, b .1)) (chain-nil stepRecord (h .qs)) in (
+      let m : joined (through (h .ps) (drop at ss)) (h .qs) [] ≡ (h .ps ++ h .qs, []) =
+      ap (λ (r : List ℕ). joined (through (h .ps) r) (h .qs) []) e ∙ ap (λ (a : Whole). joined a (h .qs) []) (chain-nil stepRecord (h .ps))
+      ∙ ap (λ (b : Whole). (h .ps ++ b .0, b .1)) (chain-nil stepRecord (h .qs)) in (
         h .split ∙ sym (ap (λ (b : Whole). b .0) m) ∙ h .devices,
         ap (λ (k : ℕ). (ws, k)) (full-or-not (length ws) w 0 (λ (k : ℕ). w ≡ k) (λ g. omega arith) (λ g. absurd (omega (arith, g, l)))) ∙ sym (ap (λ (b : Whole). wrote ws w (b .1)) m) ∙ h .out,
       )
 
-  ends-facing : (ys : List Device) (ws : List ℕ) (n f i at w : ℕ) (p : Sent) (g : Bool) (rest : List ℕ) → Holds ys ws f at w Nothing → drop at ss ≡ rest → cursor n f i at w p g ≡ facing n f at w rest → g ≡ false → w ≤ length ws → Ended ys ws w
+  ends-facing : (ys : List Device) (ws : List ℕ) (n f i at w : ℕ) (p : Sent) (g : Bool) (rest : List ℕ) → Holds ys ws f at w Nothing → drop at ss ≡ rest
+      → cursor n f i at w p g ≡ facing n f at w rest → g ≡ false → w ≤ length ws → Ended ys ws w
   ends-facing ys ws n f i at w p g [] h r e v l = ends-empty ys ws f at w h r l
   ends-facing ys ws n f i at w p g (s ∷ xs) h r e v l =
-      absurd (no-way (sym v ∙ ap (λ (c : Cursor). c .going) e ∙ by-test (ltb s 2) (cursor n 0 0 at w Nothing true) (cursor n f (indexOf n f) at w Nothing true) (λ (c : Cursor). c .going ≡ true) refl refl))
+      absurd
+      (no-way (sym v ∙ ap (λ (c : Cursor). c .going) e ∙ by-test (ltb s 2) (cursor n 0 0 at w Nothing true) (cursor n f (indexOf n f) at w Nothing true) (λ (c : Cursor). c .going ≡ true) refl refl))
 
   end-holds : (ys : List Device) (ws : List ℕ) (n f i at w : ℕ) (p : Sent) (g : Bool) → Holds ys ws f at w p → Aim n f i at w p g (drop at ss) → g ≡ false → w ≤ length ws → Ended ys ws w
   end-holds ys ws n f i at w Nothing g h e v l = ends-facing ys ws n f i at w Nothing g (drop at ss) h refl e v l
@@ -439,15 +504,18 @@ module _ (ss : List ℕ) (fin : List Device × (List ℕ × ℕ)) where
       subst Same (sym (turns-stop t ss r e))
       (end-holds (r .devices) (r .out) (r .cursor .count) (r .cursor .front) (r .cursor .index) (r .cursor .at) (r .cursor .written) (r .cursor .pending) (r .cursor .going) h (good .aim) e (subst (λ (m : ℕ). r .cursor .written ≤ m) (sym (good .out)) (good .written)))
 
-  turns-same : (n room : ℕ) (r : Running) → Good n ss room r → HoldsAt (r .devices) (r .out) (r .cursor) → r .cursor .going ≡ true → HoldsAt (turning ss r .devices) (turning ss r .out) (turning ss r .cursor)
+  turns-same : (n room : ℕ) (r : Running) → Good n ss room r → HoldsAt (r .devices) (r .out) (r .cursor) → r .cursor .going ≡ true
+      → HoldsAt (turning ss r .devices) (turning ss r .out) (turning ss r .cursor)
   turns-same n room r good h e =
       let d : Device = getD (r .devices) (r .cursor .index) blank in
       let w : r .cursor .written ≤ length (r .out) = subst (λ (m : ℕ). r .cursor .written ≤ m) (sym (good .out)) (good .written) in
-      subst (λ (t : Turned). HoldsAt (set (r .devices) (r .cursor .index) (t .device)) (turnedOut (r .cursor) ss (r .out)) (t .cursor)) (sym (turned-is d (r .cursor) ss (length (r .out)) (good .at) w))
+      subst (λ (t : Turned). HoldsAt (set (r .devices) (r .cursor .index) (t .device)) (turnedOut (r .cursor) ss (r .out)) (t .cursor))
+      (sym (turned-is d (r .cursor) ss (length (r .out)) (good .at) w))
       (subst (λ (os : List ℕ). HoldsAt (set (r .devices) (r .cursor .index) (turnWithin d (r .cursor) ss (length (r .out)) .device)) os (turnWithin d (r .cursor) ss (length (r .out)) .cursor)) (sym (turned-out-is (r .cursor) ss (r .out) (good .at) w))
       (turn-holds (r .devices) (r .out) (r .cursor .count) (r .cursor .front) (r .cursor .index) (r .cursor .at) (r .cursor .written) (r .cursor .pending) (r .cursor .going) (good .devices ∙ sym (good .count)) h (good .aim) e))
 
-  by-going : (t n room : ℕ) (r : Running) → 0 < n → n < 1024 → Good n ss room r → HoldsAt (r .devices) (r .out) (r .cursor) → (g : Bool) → r .cursor .going ≡ g → (r .cursor .going ≡ true → Same (turns t ss r)) → Same (turns t ss r)
+  by-going : (t n room : ℕ) (r : Running) → 0 < n → n < 1024 → Good n ss room r → HoldsAt (r .devices) (r .out) (r .cursor) → (g : Bool) → r .cursor .going ≡ g
+      → (r .cursor .going ≡ true → Same (turns t ss r)) → Same (turns t ss r)
   by-going t n room r some few good h false e k = finish t n room r good h e
   by-going t n room r some few good h true e k = k e
 
@@ -484,7 +552,8 @@ all-neat (d ∷ ds) h = (fits-neat d (both d ds h .0), all-neat ds (both d ds h 
 
 -- a run by its front: the devices, what is written, and where it ends are the plain chain's
 pub front-run-same : (ds : List Device) (ss os : List ℕ) → 0 < length ds → length ds < 1024 → AllNeat ds
-    → (frontRun ds ss os .devices ≡ through ds ss .0) × (frontRun ds ss os .out ≡ putAll os 0 (through ds ss .1)) × (frontRun ds ss os .cursor .written ≡ putEnd (length os) 0 (length (through ds ss .1)))
+    → (frontRun ds ss os .devices ≡ through ds ss .0) × (frontRun ds ss os .out ≡ putAll os 0 (through ds ss .1)) ×
+    (frontRun ds ss os .cursor .written ≡ putEnd (length os) 0 (length (through ds ss .1)))
 unfolding frontRun chain Small
 front-run-same ds ss os some few ne =
     let fin : List Device × (List ℕ × ℕ) = (through ds ss .0, (putAll os 0 (through ds ss .1), putEnd (length os) 0 (length (through ds ss .1)))) in

@@ -181,7 +181,8 @@ fine-high r (Opening a) s e = on (headed (Opening a) (s % 2)) (headed-quiet (Ope
 fine-high r (Counting c a) s e = on (headed (Counting c a) (s % 2)) (headed-quiet (Counting c a) (s % 2) e)
 fine-high r (Slice c n t) s e =
     let q : Registers = took r (t / fieldWidth (partOf (r .part)) c) (s % 2) (fieldLimit (partOf (r .part)) c) in
-    by-test (ltb (t + 1) (sliceLength r c)) (moved q (Slice c n (t + 1))) (sending (stored q c) Passing (Header c (raised n (fault q c)))) Fine (on (Slice c n (t + 1)) refl) (ends (raised-lt n (fault q c)))
+    by-test (ltb (t + 1) (sliceLength r c)) (moved q (Slice c n (t + 1))) (sending (stored q c) Passing (Header c (raised n (fault q c)))) Fine (on (Slice c n (t + 1)) refl)
+    (ends (raised-lt n (fault q c)))
 fine-high r Passing s e = absurd (true≢false e)
 fine-high r Lost s e = on Lost refl
 

@@ -38,7 +38,8 @@ abbrev pub measure : ℕ → ℕ → Cursor → ℕ
 measure len n c = 2048 * (len - c .at) + 1024 * owed (c .pending) + (n - c .front)
 
 -- what holds of both ways that the next state can go, holds
-facing-has : (n f at w : ℕ) (rest : List ℕ) (P : Cursor → Type 0) → P (cursor n f 0 at w Nothing false) → P (cursor n 0 0 at w Nothing true) → P (cursor n f (indexOf n f) at w Nothing true) → P (facing n f at w rest)
+facing-has : (n f at w : ℕ) (rest : List ℕ) (P : Cursor → Type 0) → P (cursor n f 0 at w Nothing false) → P (cursor n 0 0 at w Nothing true) → P (cursor n f (indexOf n f) at w Nothing true)
+    → P (facing n f at w rest)
 facing-has n f at w [] P a b c = a
 facing-has n f at w (s ∷ ss) P a b c = by-test (ltb s 2) (cursor n 0 0 at w Nothing true) (cursor n f (indexOf n f) at w Nothing true) P b c
 
@@ -62,8 +63,12 @@ record Kept (n k w : ℕ) (c : Cursor) : Type 0 where
   pub written : c .written ≡ w
 
 aimed-kept : (n f at w : ℕ) (p : Sent) (rest : List ℕ) → 0 < n → Kept n at w (aimed n f at w p rest)
-aimed-kept n f at w Nothing rest h = facing-has n f at w rest (Kept n at w) (record { count = refl; index = h; at = refl; written = refl }) (record { count = refl; index = h; at = refl; written = refl }) (record { count = refl; index = index-within n f h; at = refl; written = refl })
-aimed-kept n f at w (One b) rest h = facing-has n f at w rest (Kept n at w) (record { count = refl; index = h; at = refl; written = refl }) (record { count = refl; index = h; at = refl; written = refl }) (record { count = refl; index = index-within n f h; at = refl; written = refl })
+aimed-kept n f at w Nothing rest h =
+    facing-has n f at w rest (Kept n at w) (record { count = refl; index = h; at = refl; written = refl }) (record { count = refl; index = h; at = refl; written = refl })
+    (record { count = refl; index = index-within n f h; at = refl; written = refl })
+aimed-kept n f at w (One b) rest h =
+    facing-has n f at w rest (Kept n at w) (record { count = refl; index = h; at = refl; written = refl }) (record { count = refl; index = h; at = refl; written = refl })
+    (record { count = refl; index = index-within n f h; at = refl; written = refl })
 aimed-kept n f at w (Header c k) rest h = record { count = refl; index = index-within n f h; at = refl; written = refl }
 
 -- an aimed cursor is aimed by its own numbers
@@ -227,7 +232,8 @@ unfolding turned
 turned-cursor d c ss room = go (ltb (c .front) (c .count))
   where
     go : (t : Bool)
-        → cond t (cursorTo c (cond t (deviceTaken d (c .pending) (drop (c .at) ss) (c .at)) (stopped d (c .at) Nothing) .at) (cond t (deviceTaken d (c .pending) (drop (c .at) ss) (c .at)) (stopped d (c .at) Nothing) .sent) ss) (lineAfter c ss room)
+        → cond t
+        (cursorTo c (cond t (deviceTaken d (c .pending) (drop (c .at) ss) (c .at)) (stopped d (c .at) Nothing) .at) (cond t (deviceTaken d (c .pending) (drop (c .at) ss) (c .at)) (stopped d (c .at) Nothing) .sent) ss) (lineAfter c ss room)
         ≡ cond t (deviceTurn d c ss) (record { device = d; cursor = lineAfter c ss room }) .cursor
     go true = refl
     go false = refl
@@ -331,14 +337,16 @@ line-high n f i at w g s rest e h l = go (ltb s 2) refl
         let z : f ≡ 0 = ap (λ (c : Cursor). c .front) (e ∙ ap (λ (t : Bool). cond t (cursor n 0 0 at w Nothing true) (cursor n f (indexOf n f) at w Nothing true)) q) in
         absurd (omega (arith, z, h, l))
 
-line-nearer : (n f i at w : ℕ) (p : Sent) (g : Bool) (ss rest : List ℕ) (room : ℕ) → at ≤ length ss → 0 < n → n < 1024 → drop at ss ≡ rest → cursor n f i at w p g ≡ aimed n f at w p rest → g ≡ true → n ≤ f
+line-nearer : (n f i at w : ℕ) (p : Sent) (g : Bool) (ss rest : List ℕ) (room : ℕ) → at ≤ length ss → 0 < n → n < 1024 → drop at ss ≡ rest → cursor n f i at w p g ≡ aimed n f at w p rest
+    → g ≡ true → n ≤ f
     → measure (length ss) n (lineCursor p (cursor n f i at w p g) ss room) < 2048 * (length ss - at) + 1024 * owed p + (n - f)
 line-nearer n f i at w Nothing g ss [] room far h few e q v l = absurd (no-way (sym (ap (λ (c : Cursor). c .going) q) ∙ v))
 line-nearer n f i at w Nothing g ss (s ∷ rest) room far h few e q v l =
     let one : 1 ≤ highs (drop at ss) = subst (λ (r : List ℕ). 1 ≤ highs r) (sym e) (high-turns s rest (line-high n f i at w g s rest q h l)) in
     omega (arith, few, one, highs-within ss at far, loose (length ss) n f (at + highs (drop at ss)) (putEnd room w (highs (drop at ss))) Nothing (drop (at + highs (drop at ss)) ss))
 line-nearer n f i at w (One b) g ss [] room far h few e q v l = absurd (no-way (sym (ap (λ (c : Cursor). c .going) q) ∙ v))
-line-nearer n f i at w (One b) g ss (s ∷ rest) room far h few e q v l = absurd (no-one (cursor n f i at w (One b) g) b refl (subst (λ (c : Cursor). c .pending ≡ Nothing) (sym q) (facing-has n f at w (s ∷ rest) (λ (c : Cursor). c .pending ≡ Nothing) refl refl refl)))
+line-nearer n f i at w (One b) g ss (s ∷ rest) room far h few e q v l =
+    absurd (no-one (cursor n f i at w (One b) g) b refl (subst (λ (c : Cursor). c .pending ≡ Nothing) (sym q) (facing-has n f at w (s ∷ rest) (λ (c : Cursor). c .pending ≡ Nothing) refl refl refl)))
   where
     no-one : (c : Cursor) (b : ℕ) → c .pending ≡ One b → c .pending ≡ Nothing → ⊥
     no-one c b x y = let z : _≡_ {A = ℕ} 0 1 = cc in omega (arith, z)
@@ -356,7 +364,8 @@ turned-nearer : (d : Device) (n f i at w : ℕ) (p : Sent) (g : Bool) (ss : List
 unfolding Nearer
 turned-nearer d n f i at w p g ss room far h few q v = go (ltb f n) refl
   where
-    go : (t : Bool) → ltb f n ≡ t → measure (length ss) n (cond t (deviceTurn d (cursor n f i at w p g) ss) (lineTurn d (cursor n f i at w p g) ss room) .cursor) < measure (length ss) n (cursor n f i at w p g)
+    go : (t : Bool) → ltb f n ≡ t
+        → measure (length ss) n (cond t (deviceTurn d (cursor n f i at w p g) ss) (lineTurn d (cursor n f i at w p g) ss room) .cursor) < measure (length ss) n (cursor n f i at w p g)
     go true e =
         device-nearer d n f at w ss far few p (drop at ss) refl (lives n f i at w p g (drop at ss) q v) (ltb-true f n e)
     go false e = line-nearer n f i at w p g ss (drop at ss) room far h few refl q v (ltb-false f n e)
@@ -366,7 +375,8 @@ pub nearer-next : (n : ℕ) (ss : List ℕ) (room : ℕ) (r : Running) → 0 < n
 nearer-next n ss room r h few good v =
     let c : Cursor = r .cursor in
     let w : r .cursor .written ≤ length (r .out) = subst (λ (m : ℕ). r .cursor .written ≤ m) (sym (good .out)) (good .written) in
-    subst (λ (t : Turned). measure (length ss) n (t .cursor) < measure (length ss) n (r .cursor)) (sym (turned-is (getD (r .devices) (r .cursor .index) blank) (r .cursor) ss (length (r .out)) (good .at) w))
+    subst (λ (t : Turned). measure (length ss) n (t .cursor) < measure (length ss) n (r .cursor))
+    (sym (turned-is (getD (r .devices) (r .cursor .index) blank) (r .cursor) ss (length (r .out)) (good .at) w))
     (subst (λ (m : ℕ). measure (length ss) m (turnWithin (getD (r .devices) (r .cursor .index) blank) (r .cursor) ss (length (r .out)) .cursor) < measure (length ss) m (r .cursor)) (good .count)
     (turned-nearer (getD (r .devices) (r .cursor .index) blank) (r .cursor .count) (r .cursor .front) (r .cursor .index) (r .cursor .at) (r .cursor .written) (r .cursor .pending) (r .cursor .going) ss (length (r .out)) (good .at)
     (subst (λ (m : ℕ). 0 < m) (sym (good .count)) h) (subst (λ (m : ℕ). m < 1024) (sym (good .count)) few) (good .aim) v))

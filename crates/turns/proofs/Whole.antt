@@ -74,7 +74,8 @@ stands-start ds ss os = go (eqb (runRefusal ds ss (length os)) 0) refl
 
 -- what a run leaves and answers is what calls/specs/Calls says
 pub run-same : (ds : List Device) (ss os : List ℕ)
-    → (ran (runRefusal ds ss (length os)) (runEnd ds ss os .cursor .written) ≡ runAnswer ds ss (length os)) × (runEnd ds ss os .devices ≡ runAfter ds ss (length os)) × (runEnd ds ss os .out ≡ runRoom ds ss os)
+    → (ran (runRefusal ds ss (length os)) (runEnd ds ss os .cursor .written) ≡ runAnswer ds ss (length os)) × (runEnd ds ss os .devices ≡ runAfter ds ss (length os)) ×
+    (runEnd ds ss os .out ≡ runRoom ds ss os)
 unfolding runUnder
 run-same ds ss os = go (eqb (runRefusal ds ss (length os)) 0) refl
   where

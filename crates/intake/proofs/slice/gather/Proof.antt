@@ -1,3 +1,4 @@
+-- Before each turn what is left to do is the same; one turn fills the field that the next bit is of.
 use mathlib.Core.Path.{_≡_, refl, sym, ap, _∙_}
 use Prim.Native.Nat.{ℕ, _+_, _-_, _/_, _%_, _<_, _≤_}
 use lib.ListN.{length, getD, set, drop, length-set}
@@ -40,7 +41,8 @@ turn-of c =
     let w = o .before .before .before .before .field-width .result in
     let ss = a .states .now in
     let i = o .loop .i in
-    turned (a .registers) (a .command) (a .count) ss (o .loop .slice) (o .loop .t) i w (o .before .before .before .field-limit .result) (c .fill .result) (v .0) (v .1) (v .4) (v .3)
+    let m = o .before .before .before .field-limit .result in
+    turned (a .registers) (a .command) (a .count) ss (o .loop .slice) (o .loop .t) i w m (c .fill .result) (v .0) (v .1) (v .4) (v .3)
     (c .before .before .before .before .loop-test .taken) (c .before .before .if1 .left)
     (c .fill .ensures ∙ ap (λ (x : ℕ). filled (getD (o .loop .slice) (o .loop .t / w) 0) (i + x - i) (drop i ss) i) (c .before .smaller .ensures))
 
@@ -67,7 +69,7 @@ shared-slice-read-if1 c = search needs
 
 cast-part-of : tie.Need-cast-part-of Inv-loop μ-loop
 cast-part-of c = let o = c .before .before .before in
-    let a = c .before .before .before .before .before .before .before .before .before .args in
+    let a = o .before .before .before .before .before .before .args in
     let v = o .loop .inv in
     omega (arith, v .3, slice-le (a .registers) (a .command))
 
@@ -76,41 +78,41 @@ part-of-requires c κs = search needs
 
 returns : tie.Need-returns Inv-loop μ-loop
 returns c = let o = c .before .before .before .before in
-    let a = c .before .before .before .before .before .before .before .before .before .before .args in
+    let a = o .before .before .before .before .before .before .args in
     let v = o .loop .inv in
     c .part-of .ensures ∙ sym (v .5 ∙ high-low-at _ (a .states .now) (o .loop .i) (c .before .before .before .loop-test .taken) (c .before .if1 .taken))
 
 div-k : tie.Need-div-k Inv-loop μ-loop
 div-k c = let o = c .before .before .before in
-    let a = c .before .before .before .before .before .before .before .before .before .args in
+    let a = o .before .before .before .before .before .before .args in
     let v = o .loop .inv in
     omega (arith, v .0, field-width-pos (a .command) (a .registers .part))
 
 mul-v : tie.Need-mul-v Inv-loop μ-loop
 mul-v c = let o = c .before .before .before in
-    let a = c .before .before .before .before .before .before .before .before .before .args in
+    let a = o .before .before .before .before .before .before .args in
     let v = o .loop .inv in
     let q = slot-width (a .registers) (a .command) (o .loop .t) _ (v .0) (v .3) in
     record { fits = omega (arith, q) }
 
 array-read-v : tie.Need-array-read-v Inv-loop μ-loop
 array-read-v c = let o = c .before .before .before in
-    let a = c .before .before .before .before .before .before .before .before .before .args in
+    let a = o .before .before .before .before .before .before .args in
     let v = o .loop .inv in
     let q = slot-width (a .registers) (a .command) (o .loop .t) _ (v .0) (v .3) in
     omega (arith, q)
 
 rem-smaller : tie.Need-rem-smaller Inv-loop μ-loop
 rem-smaller c = let o = c .before .before .before in
-    let a = c .before .before .before .before .before .before .before .before .before .args in
+    let a = o .before .before .before .before .before .before .args in
     let v = o .loop .inv in
     omega (arith, v .0, field-width-pos (a .command) (a .registers .part))
 
 sub-smaller : tie.Need-sub-smaller Inv-loop μ-loop
 sub-smaller c = let o = c .before .before .before in
-    let a = c .before .before .before .before .before .before .before .before .before .args in
+    let a = o .before .before .before .before .before .before .args in
     let v = o .loop .inv in
-    let w = c .before .before .before .before .before .before .before .field-width .result in
+    let w = o .before .before .before .before .field-width .result in
     let p : 0 < w = omega (arith, v .0, field-width-pos (a .command) (a .registers .part)) in
     omega (arith, mod-lt (o .loop .t) p)
 
@@ -122,37 +124,37 @@ smaller-requires c κs = search needs
 
 add-end : tie.Need-add-end Inv-loop μ-loop
 add-end c = let o = c .before .before .before .before in
-    let a = c .before .before .before .before .before .before .before .before .before .before .args in
+    let a = o .before .before .before .before .before .before .args in
     let v = o .loop .inv in
-    let w = c .before .before .before .before .before .before .before .before .field-width .result in
+    let w = o .before .before .before .before .field-width .result in
     record { fits = omega (arith, c .smaller .ensures, least-right (w - o .loop .t % w) (length (a .states .now) - o .loop .i)) }
 
 fill-requires : tie.Need-fill-requires Inv-loop μ-loop
 fill-requires c κs = let o = c .before .before .before .before in
-    let a = c .before .before .before .before .before .before .before .before .before .before .args in
+    let a = o .before .before .before .before .before .before .args in
     let v = o .loop .inv in
-    let w = c .before .before .before .before .before .before .before .before .field-width .result in
+    let w = o .before .before .before .before .field-width .result in
     (omega arith, omega (arith, c .smaller .ensures, least-right (w - o .loop .t % w) (length (a .states .now) - o .loop .i)))
 
 rem-slice : tie.Need-rem-slice Inv-loop μ-loop
 rem-slice c = let o = c .before .before .before .before .before .before in
-    let a = c .before .before .before .before .before .before .before .before .before .before .before .before .args in
+    let a = o .before .before .before .before .before .before .args in
     let v = o .loop .inv in
     omega (arith, v .1, field-limit-pos (a .command) (a .registers .part))
 
 mul-slice : tie.Need-mul-slice Inv-loop μ-loop
 mul-slice c = let o = c .before .before .before .before .before .before in
-    let a = c .before .before .before .before .before .before .before .before .before .before .before .before .args in
+    let a = o .before .before .before .before .before .before .args in
     let v = o .loop .inv in
-    let w = c .before .before .before .before .before .before .before .before .before .before .field-width .result in
+    let w = o .before .before .before .before .field-width .result in
     let q = slot-width (a .registers) (a .command) (o .loop .t) w (v .0) (v .3) in
     record { fits = omega (arith, q) }
 
 array-write-slice : tie.Need-array-write-slice Inv-loop μ-loop
 array-write-slice c = let o = c .before .before .before .before .before .before in
-    let a = c .before .before .before .before .before .before .before .before .before .before .before .before .args in
+    let a = o .before .before .before .before .before .before .args in
     let v = o .loop .inv in
-    let w = c .before .before .before .before .before .before .before .before .before .before .field-width .result in
+    let w = o .before .before .before .before .field-width .result in
     let q = slot-width (a .registers) (a .command) (o .loop .t) w (v .0) (v .3) in
     omega (arith, q)
 
@@ -162,7 +164,7 @@ sub-t c = let u = turn-of (c .before .before) in
 
 add-t : tie.Need-add-t Inv-loop μ-loop
 add-t c = let o = c .before .before .before .before .before .before .before in
-    let a = c .before .before .before .before .before .before .before .before .before .before .before .before .before .args in
+    let a = o .before .before .before .before .before .before .args in
     let v = o .loop .inv in
     let u = turn-of (c .before .before) in
     record { fits = omega (arith, u .near, v .3, slice-le (a .registers) (a .command)) }
@@ -172,11 +174,12 @@ whole-requires c κs = search needs
 
 returns-2 : tie.Need-returns-2 Inv-loop μ-loop
 returns-2 c = let o = c .before .before .before .before .before .before .before .before .before in
-    let a = c .before .before .before .before .before .before .before .before .before .before .before .before .before .before .before .args in
+    let a = o .before .before .before .before .before .before .args in
     let v = o .loop .inv in
     let u = turn-of (c .before .before .before .before) in
     let f = c .before .before .before .before .fill .result in
-    let sl = set (o .loop .slice) (o .loop .t / c .before .before .before .before .before .before .before .before .before .before .before .before .before .field-width .result) (f .value % c .before .before .before .before .before .before .before .before .before .before .before .before .field-limit .result) in
+    let w = o .before .before .before .before .field-width .result in
+    let sl = set (o .loop .slice) (o .loop .t / w) (f .value % o .before .before .before .field-limit .result) in
     let t = o .loop .t + (f .at - o .loop .i) in
     let l : sliceLength (a .registers) (a .command) ≤ t = omega (arith, v .2, c .before .if2 .taken) in
     c .whole .ensures ∙ sym (v .5 ∙ u .same ∙ goes-full (a .registers) (a .command) (a .count) (a .states .now) sl t (f .at) l)
@@ -187,11 +190,12 @@ loop-less c = let u = turn-of (c .before .before .before) in
 
 loop-again : tie.Need-loop-again Inv-loop μ-loop
 loop-again c = let o = c .before .before .before .before .before .before .before .before in
-    let a = c .before .before .before .before .before .before .before .before .before .before .before .before .before .before .args in
+    let a = o .before .before .before .before .before .before .args in
     let v = o .loop .inv in
     let u = turn-of (c .before .before .before) in
     let f = c .before .before .before .fill .result in
-    let sl = set (o .loop .slice) (o .loop .t / c .before .before .before .before .before .before .before .before .before .before .before .before .field-width .result) (f .value % c .before .before .before .before .before .before .before .before .before .before .before .field-limit .result) in
+    let w = o .before .before .before .before .field-width .result in
+    let sl = set (o .loop .slice) (o .loop .t / w) (f .value % o .before .before .before .field-limit .result) in
     let t = o .loop .t + (f .at - o .loop .i) in
     let l : t < sliceLength (a .registers) (a .command) = omega (arith, v .2, c .if2 .left) in (
       v .0,
@@ -204,7 +208,7 @@ loop-again c = let o = c .before .before .before .before .before .before .before
 
 cast-part-of-2 : tie.Need-cast-part-of-2 Inv-loop μ-loop
 cast-part-of-2 c = let o = c .before in
-    let a = c .before .before .before .before .before .before .before .args in
+    let a = o .before .before .before .before .before .before .args in
     let v = o .loop .inv in
     omega (arith, v .3, slice-le (a .registers) (a .command))
 
@@ -213,7 +217,7 @@ part-of-requires-2 c κs = search needs
 
 returns-3 : tie.Need-returns-3 Inv-loop μ-loop
 returns-3 c = let o = c .before .before in
-    let a = c .before .before .before .before .before .before .before .before .args in
+    let a = o .before .before .before .before .before .before .args in
     let v = o .loop .inv in
     c .part-of2 .ensures ∙ sym (v .5 ∙ high-end _ (a .states .now) (o .loop .i) (o .loop .i) (c .before .loop-test .left))
 

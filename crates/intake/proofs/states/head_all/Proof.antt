@@ -24,12 +24,19 @@ in-header-requires : tie.Need-in-header-requires Inv-loop μ-loop
 in-header-requires c κs = search needs
 
 returns : tie.Need-returns Inv-loop μ-loop
-returns c = let t = c .before .before .before .before in
-    sym (t .loop .inv ∙ headed-out (t .loop .p) (t .before .before .args .states .now) (t .loop .i) (t .loop .i) (c .before .before .before .loop-test .taken) (sym (c .before .in-header .ensures) ∙ not-true _ (c .if1 .taken)))
+returns c =
+    let t = c .before .before .before .before in
+    let l = t .loop in
+    let o = sym (c .before .in-header .ensures) ∙ not-true _ (c .if1 .taken) in
+    sym (l .inv ∙ headed-out (l .p) (t .before .before .args .states .now) (l .i) (l .i) (c .before .before .before .loop-test .taken) o)
 
 returns-2 : tie.Need-returns-2 Inv-loop μ-loop
-returns-2 c = let t = c .before .before .before .before .before in
-    sym (t .loop .inv ∙ headed-low (t .loop .p) (t .before .before .args .states .now) (t .loop .i) (t .loop .i) (c .before .before .before .before .loop-test .taken) (sym (c .before .before .in-header .ensures) ∙ not-false _ (c .before .if1 .left)) (c .if2 .taken))
+returns-2 c =
+    let n = c .before .before .before .before in
+    let t = n .before in
+    let l = t .loop in
+    let o = sym (c .before .before .in-header .ensures) ∙ not-false _ (c .before .if1 .left) in
+    sym (l .inv ∙ headed-low (l .p) (t .before .before .args .states .now) (l .i) (l .i) (n .loop-test .taken) o (c .if2 .taken))
 
 header-bit-requires : tie.Need-header-bit-requires Inv-loop μ-loop
 header-bit-requires c κs = search needs
@@ -41,9 +48,13 @@ loop-less : tie.Need-loop-less Inv-loop μ-loop
 loop-less c = search needs
 
 loop-again : tie.Need-loop-again Inv-loop μ-loop
-loop-again c = let t = c .before .before .before .before .before .before in
+loop-again c =
+    let n = c .before .before .before .before .before in
+    let t = n .before in
+    let l = t .loop in
+    let o = sym (c .before .before .before .in-header .ensures) ∙ not-false _ (c .before .before .if1 .left) in
     rw (c .header-bit .ensures)
-    (t .loop .inv ∙ headed-on (t .loop .p) (t .before .before .args .states .now) (t .loop .i) (t .loop .i) (c .before .before .before .before .before .loop-test .taken) (sym (c .before .before .before .in-header .ensures) ∙ not-false _ (c .before .before .if1 .left)) (c .before .if2 .left))
+    (l .inv ∙ headed-on (l .p) (t .before .before .args .states .now) (l .i) (l .i) (n .loop-test .taken) o (c .before .if2 .left))
 
 returns-3 : tie.Need-returns-3 Inv-loop μ-loop
 returns-3 c = sym (c .before .loop .inv ∙ headed-end (c .before .loop .p) (c .before .before .before .args .states .now) (c .before .loop .i) (c .before .loop .i) (c .loop-test .left))

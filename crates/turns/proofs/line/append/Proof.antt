@@ -1,3 +1,4 @@
+-- Each turn writes one state more; the loop ends with the states or with the room.
 use Prim.Native.Nat.{_+_, _-_, _≤_}
 use mathlib.Core.Path.{_≡_, refl, _∙_, sym}
 use native.Mathlib.Omega.{arith}
@@ -25,13 +26,22 @@ loop-holds : tie.Need-loop-holds Inv-loop μ-loop
 loop-holds c = (search needs, refl, put-start _ _ _)
 
 shared-slice-read-returned : tie.Need-shared-slice-read-returned Inv-loop μ-loop
-shared-slice-read-returned c = omega (arith, smaller-within _ (length (c .before .before .before .before .before .before .args .states .now)) (length (c .before .before .before .before .before .before .args .returned .now) - c .before .before .before .before .before .before .args .from) (c .before .before .before .smaller .ensures))
+shared-slice-read-returned c =
+    let s = c .before .before .before in
+    let a = s .before .before .before .args in
+    omega (arith, smaller-within _ (length (a .states .now)) (length (a .returned .now) - a .from) (s .smaller .ensures))
 
 add-returned : tie.Need-add-returned Inv-loop μ-loop
-add-returned c = record { fits = omega (arith, smaller-within _ (length (c .before .before .before .before .before .before .args .states .now)) (length (c .before .before .before .before .before .before .args .returned .now) - c .before .before .before .before .before .before .args .from) (c .before .before .before .smaller .ensures)) }
+add-returned c =
+    let s = c .before .before .before in
+    let a = s .before .before .before .args in
+    record { fits = omega (arith, smaller-within _ (length (a .states .now)) (length (a .returned .now) - a .from) (s .smaller .ensures)) }
 
 slice-write-returned : tie.Need-slice-write-returned Inv-loop μ-loop
-slice-write-returned c = omega (arith, smaller-within _ (length (c .before .before .before .before .before .before .args .states .now)) (length (c .before .before .before .before .before .before .args .returned .now) - c .before .before .before .before .before .before .args .from) (c .before .before .before .smaller .ensures), c .before .before .loop .inv .1)
+slice-write-returned c =
+    let s = c .before .before .before in
+    let a = s .before .before .before .args in
+    omega (arith, smaller-within _ (length (a .states .now)) (length (a .returned .now) - a .from) (s .smaller .ensures), c .before .before .loop .inv .1)
 
 add-i : tie.Need-add-i Inv-loop μ-loop
 add-i c = search needs
@@ -40,16 +50,27 @@ loop-less : tie.Need-loop-less Inv-loop μ-loop
 loop-less c = search needs
 
 loop-again : tie.Need-loop-again Inv-loop μ-loop
-loop-again c = (search needs, simp length-set (c .before .before .loop .inv .1), c .before .before .loop .inv .2 ∙ put-next _ _ _ _ (omega (arith, smaller-within _ (length (c .before .before .before .before .before .before .args .states .now)) (length (c .before .before .before .before .before .before .args .returned .now) - c .before .before .before .before .before .before .args .from) (c .before .before .before .smaller .ensures))))
+loop-again c =
+    let s = c .before .before .before in
+    let a = s .before .before .before .args in
+    let v = c .before .before .loop .inv in
+    (search needs, simp length-set (v .1), v .2 ∙ put-next _ _ _ _ (omega (arith, smaller-within _ (length (a .states .now)) (length (a .returned .now) - a .from) (s .smaller .ensures))))
 
 add-result : tie.Need-add-result Inv-loop μ-loop
-add-result c = record { fits = omega (arith, smaller-within _ (length (c .before .before .before .before .before .args .states .now)) (length (c .before .before .before .before .before .args .returned .now) - c .before .before .before .before .before .args .from) (c .before .before .smaller .ensures)) }
+add-result c =
+    let s = c .before .before in
+    let a = s .before .before .before .args in
+    record { fits = omega (arith, smaller-within _ (length (a .states .now)) (length (a .returned .now) - a .from) (s .smaller .ensures)) }
 
 same-length : tie.Need-same-length Inv-loop μ-loop
 same-length c = c .before .loop .inv .1
 
 returns : tie.Need-returns Inv-loop μ-loop
-returns c = (put-end-is _ _ _ _ (c .before .before .smaller .ensures) (c .before .before .before .before .before .pre), sym (c .before .loop .inv .2 ∙ put-enough _ _ _ _ _ _ (c .before .before .smaller .ensures) (c .before .loop .inv .1) (c .before .before .before .before .before .pre) (c .loop-test .left)))
+returns c =
+    let s = c .before .before in
+    let v = c .before .loop .inv in
+    let p = s .before .before .before .pre in
+    (put-end-is _ _ _ _ (s .smaller .ensures) p, sym (v .2 ∙ put-enough _ _ _ _ _ _ (s .smaller .ensures) (v .1) p (c .loop-test .left)))
 
 pub append-spec : {M : Type 1} → statement M
 append-spec =

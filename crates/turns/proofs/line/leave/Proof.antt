@@ -19,7 +19,10 @@ same-length : tie.Need-same-length
 same-length c = search needs
 
 returns : tie.Need-returns
-returns c = (rw (c .aim .ensures, c .before .before .before .append .ensures .0, c .before .before .before .before .before .before .header-states .ensures, length-header-states), rw (c .before .before .before .append .ensures .1, c .before .before .before .before .before .before .header-states .ensures))
+returns c =
+    let p = c .before .before .before in
+    let h = p .before .before .before .header-states .ensures in
+    (rw (c .aim .ensures, p .append .ensures .0, h, length-header-states), rw (p .append .ensures .1, h))
 
 pub leave-spec : {M : Type 1} → statement M
 leave-spec =

@@ -18,19 +18,32 @@ part-append-start : tie.Need-part-append-start
 part-append-start c = omega (arith, (c .before .highs-end .ensures ∙ highs-behind _ _))
 
 part-append-end : tie.Need-part-append-end
-part-append-end c = omega (arith, (c .before .highs-end .ensures ∙ highs-behind _ _), highs-within (c .before .before .before .before .args .states .now) (c .before .before .before .before .args .cursor .at) (c .before .before .before .before .pre .0))
+part-append-end c =
+    let h = c .before in
+    let b = h .before .before .before in
+    omega (arith, (h .highs-end .ensures ∙ highs-behind _ _), highs-within (b .args .states .now) (b .args .cursor .at) (b .pre .0))
 
 append-requires : tie.Need-append-requires
 append-requires c κs = search needs
 
 aim-requires : tie.Need-aim-requires
-aim-requires c κs = omega (arith, (c .before .before .before .before .before .highs-end .ensures ∙ highs-behind _ _), highs-within (c .before .before .before .before .before .before .before .before .args .states .now) (c .before .before .before .before .before .before .before .before .args .cursor .at) (c .before .before .before .before .before .before .before .before .pre .0))
+aim-requires c κs =
+    let h = c .before .before .before .before .before in
+    let b = h .before .before .before in
+    omega (arith, (h .highs-end .ensures ∙ highs-behind _ _), highs-within (b .args .states .now) (b .args .cursor .at) (b .pre .0))
 
 same-length : tie.Need-same-length
 same-length c = search needs
 
 returns : tie.Need-returns
-returns c = (rw (c .aim .ensures, c .before .before .before .append .ensures .0, part-length (c .before .before .before .before .before .before .before .before .before .args .states .now) (c .before .before .before .before .before .before .before .before .before .args .cursor .at) _ ((c .before .before .before .before .before .before .highs-end .ensures ∙ highs-behind _ _)), (c .before .before .before .before .before .before .highs-end .ensures ∙ highs-behind _ _)), c .before .before .before .append .ensures .1 ∙ ap (λ (xs : List ℕ). putAll (c .before .before .before .before .before .before .before .before .before .args .returned .now) (c .before .before .before .before .before .before .before .before .before .args .cursor .written) xs) (part-list _ _ _ ((c .before .before .before .before .before .before .highs-end .ensures ∙ highs-behind _ _))))
+returns c =
+    let p = c .before .before .before in
+    let h = p .before .before .before in
+    let a = h .before .before .before .args in
+    let e = h .highs-end .ensures ∙ highs-behind _ _ in (
+      rw (c .aim .ensures, p .append .ensures .0, part-length (a .states .now) (a .cursor .at) _ e, e),
+      p .append .ensures .1 ∙ ap (λ (xs : List ℕ). putAll (a .returned .now) (a .cursor .written) xs) (part-list _ _ _ e),
+    )
 
 pub pass-spec : {M : Type 1} → statement M
 pass-spec =

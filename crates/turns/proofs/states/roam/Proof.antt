@@ -24,7 +24,10 @@ roams-at-requires : tie.Need-roams-at-requires Inv-loop μ-loop
 roams-at-requires c κs = search needs
 
 returns : tie.Need-returns Inv-loop μ-loop
-returns c = let t = c .before .before .before .before in sym (t .loop .inv ∙ roamed-stop (t .loop .p) (t .before .before .args .states .now) (t .loop .i) (t .loop .i) (c .before .before .before .loop-test .taken) (sym (c .before .roams-at .ensures) ∙ not-true _ (c .if1 .taken)))
+returns c =
+    let t = c .before .before .before .before in
+    let l = t .loop in
+    sym (l .inv ∙ roamed-stop (l .p) (t .before .before .args .states .now) (l .i) (l .i) (c .before .before .before .loop-test .taken) (sym (c .before .roams-at .ensures) ∙ not-true _ (c .if1 .taken)))
 
 roam-step-requires : tie.Need-roam-step-requires Inv-loop μ-loop
 roam-step-requires c κs = search needs
@@ -36,7 +39,12 @@ loop-less : tie.Need-loop-less Inv-loop μ-loop
 loop-less c = search needs
 
 loop-again : tie.Need-loop-again Inv-loop μ-loop
-loop-again c = let t = c .before .before .before .before .before in rw (c .roam-step .ensures) (t .loop .inv ∙ roamed-next (t .loop .p) (t .before .before .args .states .now) (t .loop .i) (t .loop .i) (c .before .before .before .before .loop-test .taken) (sym (c .before .before .roams-at .ensures) ∙ not-false _ (c .before .if1 .left)))
+loop-again c =
+    let n = c .before .before .before .before in
+    let t = n .before in
+    let l = t .loop in
+    rw (c .roam-step .ensures)
+    (l .inv ∙ roamed-next (l .p) (t .before .before .args .states .now) (l .i) (l .i) (n .loop-test .taken) (sym (c .before .before .roams-at .ensures) ∙ not-false _ (c .before .if1 .left)))
 
 returns-2 : tie.Need-returns-2 Inv-loop μ-loop
 returns-2 c = sym (c .before .loop .inv ∙ roamed-end (c .before .loop .p) (c .before .before .before .args .states .now) (c .before .loop .i) (c .before .loop .i) (c .loop-test .left))

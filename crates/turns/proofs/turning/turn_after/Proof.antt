@@ -19,14 +19,22 @@ halt-requires c κs = search needs
 
 returns-2 : tie.Need-returns-2
 unfolding turnedOut
-returns-2 c = (rw (c .halt .ensures, le-ltb _ _ (c .before .before .before .if1 .left), lt-leb _ _ (c .before .if2 .taken)), rw (le-ltb _ _ (c .before .before .before .if1 .left), lt-leb _ _ (c .before .if2 .taken)))
+returns-2 c =
+    let f = le-ltb _ _ (c .before .before .before .if1 .left) in
+    let a = lt-leb _ _ (c .before .if2 .taken) in
+    (rw (c .halt .ensures, f, a), rw (f, a))
 
 halt-requires-2 : tie.Need-halt-requires-2
 halt-requires-2 c κs = search needs
 
 returns-3 : tie.Need-returns-3
 unfolding turnedOut
-returns-3 c = (rw (c .halt2 .ensures, le-ltb _ _ (c .before .before .before .before .before .if1 .left), le-leb _ _ (c .before .before .before .if2 .left), lt-leb _ _ (c .before .if3 .taken)), rw (le-ltb _ _ (c .before .before .before .before .before .if1 .left), le-leb _ _ (c .before .before .before .if2 .left), lt-leb _ _ (c .before .if3 .taken)))
+returns-3 c =
+    let s = c .before .before .before in
+    let f = le-ltb _ _ (s .before .before .if1 .left) in
+    let a = le-leb _ _ (s .if2 .left) in
+    let w = lt-leb _ _ (c .before .if3 .taken) in
+    (rw (c .halt2 .ensures, f, a, w), rw (f, a, w))
 
 line-requires : tie.Need-line-requires
 line-requires c κs = search needs
@@ -36,7 +44,14 @@ same-length c = search needs
 
 returns-4 : tie.Need-returns-4
 unfolding turnedOut
-returns-4 c = (rw (c .before .before .line .ensures .0, le-ltb _ _ (c .before .before .before .before .before .before .before .before .if1 .left), le-leb _ _ (c .before .before .before .before .before .before .if2 .left), le-leb _ _ (c .before .before .before .before .if3 .left)), rw (c .before .before .line .ensures .1, le-ltb _ _ (c .before .before .before .before .before .before .before .before .if1 .left), le-leb _ _ (c .before .before .before .before .before .before .if2 .left), le-leb _ _ (c .before .before .before .before .if3 .left)))
+returns-4 c =
+    let l = c .before .before .line .ensures in
+    let r = c .before .before .before .before in
+    let s = r .before .before in
+    let f = le-ltb _ _ (s .before .before .if1 .left) in
+    let a = le-leb _ _ (s .if2 .left) in
+    let w = le-leb _ _ (r .if3 .left) in
+    (rw (l .0, f, a, w), rw (l .1, f, a, w))
 
 pub turn-after-spec : {M : Type 1} → statement M
 turn-after-spec = tie.close (tie.spec front-after-requires aim-requires returns halt-requires returns-2 halt-requires-2 returns-3 line-requires same-length returns-4)

@@ -17,7 +17,7 @@ use Rattle.device.specs.declared.device.Device.{Device}
 use Rattle.calls.specs.Chain.{allKnown, hasPart, sameParts, allFit, blank}
 use Rattle.calls.specs.Calls.{roomFor, chainRows, freshTable, freshRefusal, runRefusal, boundaryRefusal, faultRefusal}
 use Rattle.calls.specs.declared.judging.Judged.{Judged}
-use Rattle.calls.specs.Judging.{unjudged, judgedWith, judgedFrom, partRows, runRows, boundaryRows, faultRows}
+use Rattle.calls.specs.Judging.{unjudged, judgedWith, judgedFrom, partRows, runRows, boundaryRows, isDevice, faultRows}
 use Rattle.tables.proofs.Booleans.{and-assoc, and-true}
 
 -- ---- the pass, record by record
@@ -87,7 +87,8 @@ boundary-refusal-found ds = rows-found ds (λ b. (13 when not b) ∷ [])
 pub fault-refusal-found : (ds : List Device) (device kind : ℕ) → first (faultRows (judgedFrom unjudged ds) (length ds) device kind) ≡ faultRefusal ds device kind
 unfolding faultRefusal
 fault-refusal-found ds device kind =
-    rows-found ds (λ b. (13 when not (leb 1 device && (leb device (length ds) && (ltb kind 2 && b)))) ∷ [])
+    rows-found ds (λ b. (13 when not (isDevice (length ds) device && (ltb kind 2 && b))) ∷ [])
+    ∙ ap (λ (b : Bool). first (chainRows ds ++ (13 when not b) ∷ [])) (and-assoc (leb 1 device) (leb device (length ds)) (ltb kind 2 && allFit ds))
 
 -- ---- room for n + 23, with no sum
 

@@ -10,6 +10,7 @@
 --     apart, whole-again   a local array's cell becomes a row, and a row becomes the cell: how a caller lends an array of its own
 --     calls-val, calls-plain   a call whose result is plain data; and whose parameters are too, with no lifetime
 --     hold, free           a local that holds a value, and one that holds nothing, in the order in which `alloc1` leaves them
+--     free-all             every local is freed, its cells brought to the front in the order of the locals
 --     Again, again, loops  a loop by a state s and a measure t:  `again` shows the turn's end, and `loops` the loop from its turns
 --     closes               from a walk to the statement: `walk-meets` and `entered` in one
 -- Assumes `Given`.
@@ -30,8 +31,8 @@ use prog.Wp.{Heap, Out, Env, Calls, Loops, afterTurn, Wp, WpFn, Closed, Tables}
 use ghost.Atoms.{Atoms}
 use sound.Loop.{loop-rule}
 use sound.WpLaws.{FmC, WpFn-mono}
-use types.Kit.{Goal, Post, Soaks, Given, Item, ‵, raw, _⊛_, some, later, ⋆, runs, lands, Seq, Step, step, _$_, _∵_, !, qed, move, use0, use1, use3, drop, split, join, done, pick, regoal, rewrite, fsplit, fjoin, fpick, fpack, feqI, await}
-use types.Run.{Opds}
+use types.Kit.{Goal, frees, Post, Soaks, Given, Item, ‵, raw, _⊛_, some, later, ⋆, runs, lands, Seq, Step, step, _$_, _∵_, !, qed, move, use0, use1, use3, drop, split, join, done, pick, regoal, rewrite, fsplit, fjoin, fpick, fpack, feqI, await}
+use types.Run.{Opds, free0, free1}
 use types.Tokens.{lft-new, lft-end, lent-back}
 use types.SemTy.{cells, Arr}
 use types.Share.{arr-parts}
@@ -189,6 +190,15 @@ module _ {M : Type 1} {𝓤 : URA M} where
 
   abbrev pub free : Ty → ℕ → List (Item 𝓤) → List (Item 𝓤)
   free τ l Γ = ‵ (froom τ l 0) ∷ ‵ (fdies τ l) ∷ Γ
+
+-- ---- the function's end: the cells of all its locals, in their order
+abbrev rooms : {M : Type 1} {𝓤 : URA M} → List (Ty × ℕ) → List (Item 𝓤) → List (Item 𝓤)
+rooms [] Γ = Γ
+rooms (e ∷ E) Γ = free (e .0) (e .1) (rooms E Γ)
+
+pub free-all : {M : Type 1} {𝓤 : URA M} {H : Heap 𝓤} {A : Atoms 𝓤} {K : Type 0} {W : Given 𝓤 H A} {Γ : List (Item 𝓤)} → K → (E : Env 𝓤 H) {g : Goal 𝓤 H} → Step K W Γ g (rooms E Γ) (frees E g)
+free-all t [] = free0 t
+free-all t (e ∷ E) = step (λ s. free1 t $ free-all t E $ s)
 
 -- ---- a loop: At s is the context where the state is s, and Ok t s says that s has the measure t
 module _ {M : Type 1} (𝓤 : URA M) (H : Heap 𝓤) (A : Atoms 𝓤) {S : Type 0} (Ok : ℕ → S → Type 0) (At : S → List (Item 𝓤)) where

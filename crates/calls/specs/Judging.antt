@@ -1,7 +1,7 @@
 -- The judgement of a lent chain in one pass over its records, and each call's refusal as that pass finds it. What a call refuses is said in
 -- specs/Calls; that both are the same is in proofs/Judged.
 use Prim.Native.Nat.{ℕ}
-use mathlib.Core.Bool.{true, false, not, _&&_, cond}
+use mathlib.Core.Bool.{Bool, true, false, not, _&&_, cond}
 use mathlib.Core.List.{List, [], _∷_, _++_}
 use lib.Dec.{ltb, leb}
 use lib.ListN.{length}
@@ -48,6 +48,10 @@ runRows j n ss room = partRows j n ++ (5 when ltb room (roomFor (length ss))) �
 abbrev pub boundaryRows : Judged → ℕ → List Row
 boundaryRows j n = partRows j n ++ (13 when not (j .fits)) ∷ []
 
+-- devices are numbered from 1
+abbrev pub isDevice : ℕ → ℕ → Bool
+isDevice n device = leb 1 device && leb device n
+
 -- the rows of a fault setting
 abbrev pub faultRows : Judged → ℕ → ℕ → ℕ → List Row
-faultRows j n device kind = partRows j n ++ (13 when not (leb 1 device && (leb device n && (ltb kind 2 && j .fits)))) ∷ []
+faultRows j n device kind = partRows j n ++ (13 when not (isDevice n device && (ltb kind 2 && j .fits))) ∷ []

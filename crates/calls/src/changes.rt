@@ -58,14 +58,10 @@ fn span_under(refusal: u8, from: usize, to: usize) -> Span
     ensures { λ r. ⌜ r ≡ span refusal from to ⌝ }
 {
     if refusal == 0 {
-        Span {
-            refusal: refusal,
-            from: from,
-            to: to,
-        }
+        Span { refusal, from, to }
     } else {
         Span {
-            refusal: refusal,
+            refusal,
             from: 0,
             to: 0,
         }

@@ -2,6 +2,8 @@
 ghost use mathlib.Core.Path.{_≡_};
 ghost use mathlib.Core.Bool.{Bool, _&&_, cond, true};
 ghost use lib.Dec.{eqb};
+ghost use Rattle.parts.specs.Parts.{known};
+ghost use Rattle.device.specs.Judgement.{fits};
 ghost use Rattle.calls.specs.Judging.{unjudged, judgedWith, judgedFrom};
 use device::Device;
 
@@ -47,26 +49,12 @@ pub fn judge_one(judged: Judged, device: Device) -> Judged
     ensures { λ r. ⌜ r ≡ judgedWith judged device ⌝ }
 {
     let part = device.registers.part;
-    let known = both(judged.known, parts::is_known(part));
-    let same = both(judged.same, meets(judged, part));
-    let fits = both(judged.fits, device.fits());
     Judged {
         some: true,
         part: first_part(judged, part),
-        known: known,
-        same: same,
-        fits: fits,
-    }
-}
-
-// The part is the first record's.
-fn meets(judged: Judged, part: u16) -> bool
-    ensures { λ r. ⌜ r ≡ cond (judged .some) (eqb part (judged .part)) true ⌝ }
-{
-    if judged.some {
-        part == judged.part
-    } else {
-        true
+        known: known_with(judged, part),
+        same: same_with(judged, part),
+        fits: fits_with(judged, device),
     }
 }
 
@@ -74,6 +62,25 @@ fn first_part(judged: Judged, part: u16) -> u16
     ensures { λ r. ⌜ r ≡ cond (judged .some) (judged .part) part ⌝ }
 {
     if judged.some { judged.part } else { part }
+}
+
+fn known_with(judged: Judged, part: u16) -> bool
+    ensures { λ r. ⌜ r ≡ (judged .known && known part) ⌝ }
+{
+    judged.known && parts::is_known(part)
+}
+
+// A first record's part is the chain's.
+fn same_with(judged: Judged, part: u16) -> bool
+    ensures { λ r. ⌜ r ≡ (judged .same && cond (judged .some) (eqb part (judged .part)) true) ⌝ }
+{
+    judged.same && (!judged.some || part == judged.part)
+}
+
+fn fits_with(judged: Judged, device: Device) -> bool
+    ensures { λ r. ⌜ r ≡ (judged .fits && fits device) ⌝ }
+{
+    judged.fits && device.fits()
 }
 
 // Both tests pass.

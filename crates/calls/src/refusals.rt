@@ -1,11 +1,12 @@
 // The number under which each call is refused, or 0, by what one pass over the records found and their number.
 ghost use mathlib.Core.Path.{_≡_};
+ghost use mathlib.Core.Bool.{_&&_};
 ghost use lib.Dec.{ltb};
+ghost use Rattle.tables.specs.Lists.{allBelow};
 ghost use Rattle.tables.specs.Refusals.{first};
 ghost use Rattle.calls.specs.Calls.{freshTable, roomFor};
-ghost use Rattle.calls.specs.Judging.{partRows, runRows, boundaryRows, faultRows};
+ghost use Rattle.calls.specs.Judging.{partRows, runRows, boundaryRows, isDevice, faultRows};
 use crate::judging::Judged;
-use crate::judging::both;
 
 // A run.
 pub fn run_refusal(judged: Judged, n: usize, states: &[u8], room: usize) -> u8
@@ -18,10 +19,7 @@ pub fn run_refusal(judged: Judged, n: usize, states: &[u8], room: usize) -> u8
     if lacks_room(states.len(), room) {
         return 5;
     }
-    if !both(tables::bytes_below(states, 4), judged.fits) {
-        return 13;
-    }
-    0
+    if states_fit(judged, states) { 0 } else { 13 }
 }
 
 // A call for a fresh chain.
@@ -53,7 +51,7 @@ pub fn fault_refusal(judged: Judged, n: usize, device: usize, kind: u8) -> u8
     if number != 0 {
         return number;
     }
-    if both(1 <= device, both(device <= n, both(kind < 2, judged.fits))) {
+    if fault_fits(judged, n, device, kind) {
         0
     } else {
         13
@@ -80,5 +78,28 @@ fn part_refusal(judged: Judged, n: usize) -> u8
 fn lacks_room(n: usize, room: usize) -> bool
     ensures { λ r. ⌜ r ≡ ltb room (roomFor n) ⌝ }
 {
-    if room < 23 { true } else { room - 23 < n }
+    room < 23 || room - 23 < n
+}
+
+// Line states are 0 to 3.
+fn states_fit(judged: Judged, states: &[u8]) -> bool
+    ensures { λ r. ⌜ r ≡ (allBelow (now (states .entry)) 4 && judged .fits) ⌝ }
+{
+    tables::bytes_below(states, 4) && judged.fits
+}
+
+// There is such a device, and such a fault.
+fn fault_fits(judged: Judged, n: usize, device: usize, kind: u8) -> bool
+    ensures { λ r. ⌜ r ≡ (isDevice n device && (ltb kind 2 && judged .fits)) ⌝ }
+{
+    if !is_device(n, device) {
+        return false;
+    }
+    kind < 2 && judged.fits
+}
+
+fn is_device(n: usize, device: usize) -> bool
+    ensures { λ r. ⌜ r ≡ isDevice n device ⌝ }
+{
+    1 <= device && device <= n
 }

@@ -5,8 +5,7 @@
 use Rattle.calls.proofs.Walk.{_≡_, refl, sym, _∙_, ap, subst, ℕ, zero, suc, _+_, _*_, _<_, _^_, arith, Bool, true, List, [], _∷_, length, getD, set, URA, fullShare, Ty, named, erased, mut, imm, w64, tyBool, tyPtr, tyRef, vbool, vint, vptr, Val, SProp, ent, Lft, GName, Share, fat, Heap, Out, Env, Wp, Tables, afterTurn, Atoms, Given, Item, ‵, ⋆, anyQ, _$_, _∵_, !, qed, by, rewrite, whole, sub, look-in, look, look-raw, store, store-raw, init, forget, stop, hop, fld, from, load, lit, of-opd, bin, assigns, assigns-last, stays, leaves-loop, exec, pointee, Is, sliceTy, sliceVal, Room, row, word, loop}
 use package.mir.Syntax.{Step as PStep, deref, field, place, copy, int, rvOpd, op2, mul, add, lt, offset, unsigned, Body, skip, seq, assign, cond, exit}
 use prog.Wp.{Spot, spotOf, exits}
-use types.Kit.{Goal, frees, Step, step}
-use types.Run.{Walks, Finds, free0, free1}
+use types.Run.{Walks, Finds}
 use borrow.Author.Tests.{lt-ltb, le-ltb}
 use denote.Struct.Laws as LL
 use Rattle.device.specs.declared.device.Device.{Device}
@@ -132,15 +131,6 @@ module _ {M : Type 1} {𝓤 : URA M} {H : Heap 𝓤} {E : Env 𝓤 H} (R : Sourc
 module _ {M : Type 1} {𝓤 : URA M} {H : Heap 𝓤} {A : Atoms 𝓤} {K : Type 0} {W : Given 𝓤 H A} {Γ : List (Item 𝓤)} {E : Env 𝓤 H} where
   in-local : K → {τ : Ty} (l : Local 𝓤 H E τ) {st : List PStep} {sp : Spot 𝓤 H} → Walks K W Γ E (τ, l .cell, 0) st sp → Finds K W Γ E (place (l .number) st) sp
   in-local t l {st} {sp} w = from t (subst (λ (z : Spot 𝓤 H). Walks K W Γ E z st sp) (sym (l .is)) w)
-
--- the cells of all locals, in their order, are freed
-abbrev rooms : {M : Type 1} {𝓤 : URA M} → List (Ty × ℕ) → List (Item 𝓤) → List (Item 𝓤)
-rooms [] Γ = Γ
-rooms (e ∷ E) Γ = free (e .0) (e .1) (rooms E Γ)
-
-pub free-all : {M : Type 1} {𝓤 : URA M} {H : Heap 𝓤} {A : Atoms 𝓤} {K : Type 0} {W : Given 𝓤 H A} {Γ : List (Item 𝓤)} → K → (E : Env 𝓤 H) {g : Goal 𝓤 H} → Step K W Γ g (rooms E Γ) (frees E g)
-free-all t [] = free0 t
-free-all t (e ∷ E) = step (λ s. free1 t $ free-all t E $ s)
 
 -- what is left of turn k once its record is made
 abbrev pub Stores : {M : Type 1} {𝓤 : URA M} {H : Heap 𝓤} {A : Atoms 𝓤} (W : Given 𝓤 H A) (𝓣 : Tables 𝓤 H) {E : Env 𝓤 H} (L : Locals 𝓤 H E) (Y : Swept) (Γ : List (Item 𝓤)) (Left : Out → SProp 𝓤) → ℕ → SProp 𝓤 → Type 1

@@ -1,24 +1,23 @@
 -- `chain::bb_boundary` meets its contract: a walk of its MIR, by hand. Records are judged once; the loop is proofs/Loop's, each record is made by
 -- `boundary` of the one that stands there.
-use Rattle.calls.proofs.Walk.{_≡_, refl, sym, _∙_, ap, subst, ℕ, _<_, _^_, List, [], _∷_, length, URA, fullShare, named, w8, w64, tyBool, tyPtr, vint, Val, SProp, ent, emp, via, fst∗, Lft, GName, Share, ftrue, fat, flft, Memory, Routine, Heap, Out, Env, Wp, WpFn, Tables, afterSeq, afterBlock, afterTurn, atReturn, Atoms, fmOf, Given, Item, ‵, raw, _⊛_, ⋆, anyQ, atRet, _$_, _∵_, !, qed, by, move, use1, drop, split, join, rewrite, fsplit, fjoin, suffices, frame, done, whole, sub, look-in, agg, look, init, forget, stop, hop, fld, from, load, of-opd, and-then, no-more, addr, assigns, land, exec, returns, enter, alloc1, alloc0, params1, pass1, pass0, Fun, givenOf, tables, tablesOf, owns, Is, uint-makes, RefT, sliceTy, sliceVal, MutSlice, Room, finally, slice-vals, mut-slice-tells, row, plain, u8, onEntry, tripleOf, Contract, Triple, cited, nothing, owned, heard, says, Stays, gave-slice, walkOf, ends-at, walked, goes-gave-slice, word, byte, loop, id⊢}
+use Rattle.calls.proofs.Walk.{_≡_, refl, sym, _∙_, ap, subst, ℕ, _<_, _^_, List, [], _∷_, length, URA, fullShare, named, w8, w64, tyBool, tyPtr, vint, Val, SProp, ent, emp, via, fst∗, Lft, GName, Share, ftrue, fat, flft, Memory, Routine, Heap, Out, Env, Wp, WpFn, Tables, afterSeq, afterBlock, afterTurn, atReturn, Atoms, fmOf, Given, Item, ‵, _⊛_, ⋆, anyQ, atRet, _$_, _∵_, !, qed, by, move, drop, split, join, rewrite, fsplit, fjoin, suffices, frame, done, whole, sub, look-in, agg, look, init, forget, stop, hop, fld, from, load, of-opd, and-then, no-more, addr, assigns, land, exec, returns, enter, alloc1, alloc0, params1, pass1, pass0, Fun, givenOf, tables, tablesOf, owns, Is, uint-makes, RefT, sliceTy, sliceVal, MutSlice, Room, finally, slice-vals, mut-slice-tells, row, plain, u8, onEntry, tripleOf, Contract, Triple, cited, nothing, owned, heard, says, Stays, gave-slice, walkOf, ends-at, walked, goes-gave-slice, word, byte, loop, id⊢}
 use denote.Struct.Laws as LL
 use Rattle.device.specs.declared.device.Device.{Device}
 use Rattle.device.proofs.device.Device.Laws.{mir as dev}
 use Rattle.device.specs.Step.{bounded}
 use Rattle.calls.specs.Calls.{boundaryRefusal, boundaryAfter}
-use Rattle.calls.specs.Judging.{unjudged, judgedFrom}
 use Rattle.calls.specs.Changes.{span, boundarySpan}
 use Rattle.calls.proofs.Judged.{boundary-refusal-found}
 use Rattle.chain.proofs.Sweep.{boundary-within, boundary-swept}
 use Rattle.calls.specs.declared.judging.Judged.{Judged}
 use Rattle.calls.proofs.judging.Judged as J
 use Rattle.calls.proofs.judging.Judged.Laws as J′
-use Rattle.calls.proofs.Judges.{jval, jvals, jtells, jmade, JudgeC, to-judge, asks-judge}
+use Rattle.calls.proofs.Judges.{jvals, jmade, JudgeC, judges}
 use Rattle.calls.specs.declared.changes.Span.{Span}
 use Rattle.calls.proofs.Dev.{D, val, vals, tells, made, lawful}
-use Rattle.calls.proofs.Lent.{ref, sl, opened, final, lends-shared, returned-shared, free, calls-plain, calls-val, closes}
+use Rattle.calls.proofs.Lent.{ref, sl, opened, final, free, calls-plain, free-all, closes}
 use Rattle.chain.proofs.Sweep.{sweep-none, length-sweep, turnsOf, Within, at-first}
-use Rattle.chain.proofs.Loop.{sliceD, refI, sval, SIs, Locals, Source, local, Swept, found-at, Goes, Reading, Storing, At, Tested, Read, Unread, Stores, Leaves, free-all, read, sweeps}
+use Rattle.chain.proofs.Loop.{sliceD, refI, sval, SIs, Locals, Source, local, Swept, found-at, Goes, Reading, Storing, At, Tested, Read, Unread, Stores, Leaves, read, sweeps}
 use package.mir.Syntax.{place, copy, Body, seq, call}
 use Rattle.calls.proofs.changes.Span as Sp
 use Rattle.calls.proofs.changes.Span.Laws as Sp′
@@ -143,9 +142,7 @@ module _ {M : Type 1} (𝓤 : URA M) (H : Heap 𝓤) (A : Atoms 𝓤) (W : Given
       -- the records are judged
       assigns ! (addr ! (from ! (fld ! refl (hop ! (look-in ! 28 (sub ! 0 refl (whole !))) (stop !))))) (from ! (stop !)) (init ! 20 refl (tt, tt)) $
       assigns ! (agg ! (and-then ! (load ! (from ! (stop !)) (look ! 20 refl)) (and-then ! (load ! (from ! (fld ! refl (stop !))) (look-in ! 28 (sub ! 1 refl (whole !)))) (no-more !)))) (from ! (stop !)) (init ! 18 refl (tt, (tt, (record { fits = g .0 }, tt)))) $
-      lends-shared ! tt D fullShare xs b o g (λ ν δ. join ! $ use1 W (raw (JudgeC 𝓤 H A mem run .pre (to-judge 𝓤 H A mem run b o xs ν δ))) (asks-judge 𝓤 H A W mem run b o xs ν δ) $
-      calls-val ! (fmOf 𝓤 H (W .laws) 𝓣) judge.ended (judge.clauses 𝓤 H A mem run) known-judge (to-judge 𝓤 H A mem run b o xs ν δ) jval jtells (and-then ! (load ! (from ! (stop !)) (look ! 19 refl)) (no-more !)) (λ j zs j-is. heard ! (j ≡ judgedFrom unjudged xs) (λ e.
-      use1 W (‵ (flft (ν ∷ []) fullShare) ⊛ ‵ ftrue) (id⊢ 𝓤 _) $ split ! $ move ! (1 ∷ []) $ drop ! $ move ! (1 ∷ []) $ drop ! $ returned-shared ! tt D fullShare xs b o $
+      judges ! (fmOf 𝓤 H (W .laws) 𝓣) mem run known-judge fullShare xs b o g (λ ν δ. (and-then ! (load ! (from ! (stop !)) (look ! 19 refl)) (no-more !))) (λ j j-is e.
       land ! (from ! (stop !)) (init ! 26 refl (LL.lawful J.the-type J′.the-laws 𝓤 H A W .typed j _ j-is .0)) $
       -- the records that change
       assigns ! (of-opd ! (load ! (from ! (fld ! refl (stop !))) (look-in ! 28 (sub ! 1 refl (whole !))))) (from ! (stop !)) (init ! 16 refl (tt, record { fits = g .0 })) $
@@ -159,7 +156,7 @@ module _ {M : Type 1} (𝓤 : URA M) (H : Heap 𝓤) (A : Atoms 𝓤) (W : Given
       rewrite ! 22 (λ (j : ℕ). ‵ (fat fullShare word l₄ 0 (vint w64 j))) (at-first (S .from)) refl $
       rewrite ! 0 (λ (zs : List Device). ‵ (row D fullShare zs b o)) (sym (sweep-none f (S .from) xs)) refl $
       forget ! 16 refl $ forget ! 18 refl $ forget ! 20 refl $ forget ! 26 refl $
-      move ! (0 ∷ 1 ∷ 22 ∷ 23 ∷ 24 ∷ 25 ∷ 28 ∷ 29 ∷ 14 ∷ 15 ∷ 4 ∷ 5 ∷ 2 ∷ 3 ∷ 12 ∷ 13 ∷ []) $ by ! (enters 𝓣 known g s-is l₀ l₁ l₂ l₃ l₄ l₅ l₆ l₇ l₈ l₉ l₁₀ l₁₁ l₁₂ l₁₃ l₁₄)))))))))))))))))))))
+      move ! (0 ∷ 1 ∷ 22 ∷ 23 ∷ 24 ∷ 25 ∷ 28 ∷ 29 ∷ 14 ∷ 15 ∷ 4 ∷ 5 ∷ 2 ∷ 3 ∷ 12 ∷ 13 ∷ []) $ by ! (enters 𝓣 known g s-is l₀ l₁ l₂ l₃ l₄ l₅ l₆ l₇ l₈ l₉ l₁₀ l₁₁ l₁₂ l₁₃ l₁₄)))))))))))))))))))
 
 pub bb-boundary-spec : {M : Type 1} → stated.statement M
 unfolding code.routine tablesOf

@@ -10,9 +10,9 @@ use Rattle.calls.proofs.Judged.{fresh-refusal-found}
 use Rattle.chain.proofs.Sweep.{fresh-within, fresh-swept}
 use Rattle.calls.specs.declared.changes.Span.{Span}
 use Rattle.calls.proofs.Dev.{D, val, tells, lawful}
-use Rattle.calls.proofs.Lent.{ref, sl, opened, final, hold, free, calls-plain, closes}
+use Rattle.calls.proofs.Lent.{ref, sl, opened, final, hold, free, calls-plain, free-all, closes}
 use Rattle.chain.proofs.Sweep.{sweep-none, length-sweep, turnsOf, Within, at-first}
-use Rattle.chain.proofs.Loop.{sliceD, sval, SIs, Locals, local, Swept, Goes, Storing, At, Tested, Stores, Leaves, free-all, sweeps}
+use Rattle.chain.proofs.Loop.{sliceD, sval, SIs, Locals, local, Swept, Goes, Storing, At, Tested, Stores, Leaves, sweeps}
 use package.mir.Syntax.{place, copy, Body, seq, call}
 use Rattle.calls.proofs.changes.Span as Sp
 use Rattle.calls.proofs.changes.Span.Laws as Sp′

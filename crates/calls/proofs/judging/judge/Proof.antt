@@ -1,6 +1,6 @@
 -- `calls::judge` meets its contract: a walk of its MIR, by hand. Before turn i what was found is the judgement of the first i records; each
 -- turn reads one record and judges it by value.
-use Rattle.calls.proofs.Walk.{_≡_, refl, sym, _∙_, subst, ℕ, zero, suc, _+_, _*_, _<_, _^_, arith, Bool, List, [], _∷_, length, getD, take, lit<, URA, fullShare, Ty, named, imm, w64, tyBool, tyPtr, tyRef, vbool, vint, vptr, Val, SProp, ent, emp, via, fst∗, Lft, GName, Share, ftrue, fat, flft, Memory, Routine, Heap, Out, Env, Wp, WpFn, Tables, afterSeq, afterBlock, afterTurn, atReturn, Atoms, fmOf, Given, Item, ‵, _⊛_, ⋆, anyQ, atRet, _$_, _∵_, !, qed, by, move, drop, split, join, rewrite, fsplit, fjoin, suffices, frame, done, whole, sub, look-in, look, look-raw, store, init, forget, stop, hop, fld, from, load, lit, of-opd, and-then, no-more, bin, assigns, assigns-last, land, stays, leaves-loop, exec, returns, enter, alloc1, alloc0, params1, pass1, pass0, free1, free0, Fun, givenOf, tables, tablesOf, yes, owns, pointee, Is, shows, RefT, now, sliceTy, sliceVal, ShrSlice, Room, slice-vals, shr-slice-tells, row, plain, shrSliceOf, onEntry, tripleOf, Contract, Triple, cited, nothing, owned, heard, says, Stays, stay-dropped, walkOf, ends-at, walked, goes-dropped, word}
+use Rattle.calls.proofs.Walk.{_≡_, refl, sym, _∙_, subst, ℕ, zero, suc, _+_, _*_, _<_, _^_, arith, Bool, List, [], _∷_, length, getD, take, lit<, URA, fullShare, Ty, named, imm, w64, tyBool, tyPtr, tyRef, vbool, vint, vptr, Val, SProp, ent, emp, via, fst∗, Lft, GName, Share, ftrue, fat, flft, Memory, Routine, Heap, Out, Env, Wp, WpFn, Tables, afterSeq, afterBlock, afterTurn, atReturn, Atoms, fmOf, Given, Item, ‵, _⊛_, ⋆, anyQ, atRet, _$_, _∵_, !, qed, by, move, drop, split, join, rewrite, fsplit, fjoin, suffices, frame, done, whole, sub, look-in, look, look-raw, store, init, forget, stop, hop, fld, from, load, lit, of-opd, and-then, no-more, bin, assigns, assigns-last, land, stays, leaves-loop, exec, returns, enter, alloc1, alloc0, params1, pass1, pass0, Fun, givenOf, tables, tablesOf, yes, owns, pointee, Is, shows, RefT, now, sliceTy, sliceVal, ShrSlice, Room, slice-vals, shr-slice-tells, row, plain, shrSliceOf, onEntry, tripleOf, Contract, Triple, cited, nothing, owned, heard, says, Stays, stay-dropped, walkOf, ends-at, walked, goes-dropped, word}
 use package.mir.Syntax.{loop}
 use base.Logic.{id⊢}
 use denote.Struct.Laws as LL
@@ -12,7 +12,7 @@ use Rattle.calls.specs.Judging.{unjudged, judgedWith, judgedFrom}
 use Rattle.calls.proofs.judging.Judged as J
 use Rattle.calls.proofs.judging.Judged.Laws as J′
 use Rattle.calls.proofs.Dev.{D, val, vals, tells, made, lawful, copied, place-fits, place-at, size, out, back}
-use Rattle.calls.proofs.Lent.{ref, sl, Seen, looked, shut, hold, free, Again, again, loops, calls-plain, closes}
+use Rattle.calls.proofs.Lent.{ref, sl, Seen, looked, shut, hold, free, Again, again, loops, calls-plain, free-all, closes}
 use borrow.Author.Tests.{lt-ltb, le-ltb}
 use Rattle.calls.proofs.Judged.{judged-next, judged-none}
 use Rattle.calls.proofs.judging.judge_none as none
@@ -135,7 +135,7 @@ module _ {M : Type 1} (𝓤 : URA M) (H : Heap 𝓤) (A : Atoms 𝓤) (W : Given
         assigns ! (of-opd ! (load ! (from ! (stop !)) (look ! 12 refl))) (from ! (stop !)) (init ! 16 refl (LL.lawful J.the-type J′.the-laws 𝓤 H A W .typed fin _ f-is .0)) $
         shut ! tt D qs xs b o $
         returns ! (look ! 15 refl) $ forget ! 5 refl $ forget ! 7 refl $ forget ! 9 refl $ forget ! 11 refl $ forget ! 13 refl $ forget ! 15 refl $
-        move ! (15 ∷ 16 ∷ []) $ free1 ! $ move ! (13 ∷ 14 ∷ []) $ free1 ! $ move ! (11 ∷ 12 ∷ []) $ free1 ! $ move ! (9 ∷ 10 ∷ []) $ free1 ! $ move ! (7 ∷ 8 ∷ []) $ free1 ! $ move ! (5 ∷ 6 ∷ []) $ free1 ! $ move ! (3 ∷ 4 ∷ []) $ free1 ! $ move ! (1 ∷ 2 ∷ []) $ free1 ! $ free0 ! $ by ! (exits f-is)
+        move ! (15 ∷ 16 ∷ 13 ∷ 14 ∷ 11 ∷ 12 ∷ 9 ∷ 10 ∷ 7 ∷ 8 ∷ 5 ∷ 6 ∷ 3 ∷ 4 ∷ 1 ∷ 2 ∷ []) $ free-all ! E $ by ! (exits f-is)
 
     turns : (t i : ℕ) → Ok t i → ent 𝓤 (⋆ 𝓤 H A (At i)) (Wp 𝓤 H (𝓣 .C) (𝓣 .Λ) E m.turn-1 (afterTurn 𝓤 H (Again 𝓤 H A Ok At t) Left))
     turns zero i k = subst (λ (j : ℕ). JIs (jAt j) → ent 𝓤 (⋆ 𝓤 H A (At j)) (Wp 𝓤 H (𝓣 .C) (𝓣 .Λ) E m.turn-1 (afterTurn 𝓤 H (Again 𝓤 H A Ok At zero) Left))) (omega (arith, k .0)) (ends (Again 𝓤 H A Ok At zero)) (k .1)

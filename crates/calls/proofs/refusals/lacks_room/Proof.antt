@@ -1,9 +1,11 @@
+use mathlib.Core.Path.{_∙_}
+use borrow.Author.Tests.{lt-ltb}
 use Rattle.calls.proofs.Judged.{room-small, room-test}
 use Rattle.calls.proofs.refusals.lacks_room.Statement.{statement}
 use Rattle.calls.proofs.refusals.lacks_room.Tie as tie
 
 returns : tie.Need-returns
-returns c = room-small _ _ (c .if1 .taken)
+returns c = let a = c .before .args in lt-ltb (a .room) 23 (c .if1 .taken) ∙ room-small (a .n) (a .room) (c .if1 .taken)
 
 returns-2 : tie.Need-returns-2
 returns-2 c = room-test _ _ (c .if1 .left)

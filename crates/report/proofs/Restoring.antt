@@ -21,7 +21,7 @@ use Rattle.frames.specs.declared.told.Read.{Read}
 use Rattle.frames.specs.declared.told.Read.the-variants as R
 use Rattle.frames.proofs.told.Read.{the-type}
 use Rattle.report.specs.Lines.{trailingLine, partLine, frameLine}
-use Rattle.report.specs.Report.{toldOf, frameBits, answerOf, isRefused, lineOf, restoreOrder, linesOf, configurationOf, behind, allLines, reportOf}
+use Rattle.report.specs.Report.{toldOf, frameBits, answerOf, isRefused, lineOf, afterConfiguration, linesOf, configurationOf, behind, allLines, reportOf}
 use Rattle.report.specs.declared.arguments.Asked.{Asked}
 use Rattle.report.specs.declared.arguments.Asked.the-variants as A
 use Rattle.report.proofs.Cases.{not-first}
@@ -31,10 +31,10 @@ use Rattle.report.proofs.Putting as put
 module _ (part devices configuration : ℕ) (input : List ℕ) where
   -- the lines from a frame on
   abbrev pub linesFrom : ℕ → ℕ → List ℕ
-  linesFrom place from = linesOf part devices configuration (drop place restoreOrder) (drop from input)
+  linesFrom place from = linesOf part devices configuration (drop place afterConfiguration) (drop from input)
 
   -- the line of one frame, for which the reader answers `answer`, and those of the next
-  pub lines-step : (place from : ℕ) (c : Command) (answer : Read) (n : ℕ) → place < 3 → c ≡ getD restoreOrder place Individual
+  pub lines-step : (place from : ℕ) (c : Command) (answer : Read) (n : ℕ) → place < 3 → c ≡ getD afterConfiguration place Individual
       → n ≡ frameBits (toldOf part devices c configuration) → answer ≡ answerOf (toldOf part devices c configuration) (drop from input)
       → linesFrom place from ≡ frameLine c n answer ++ cond (isRefused answer) [] (linesFrom (place + 1) (from + bytesFor n))
   unfolding linesOf
@@ -42,13 +42,13 @@ module _ (part devices configuration : ℕ) (input : List ℕ) where
       let t = toldOf part devices c configuration in
       let r = answerOf t (drop from input) in
       ap (λ (cs : List Command). linesOf part devices configuration cs (drop from input))
-      (drop-cons restoreOrder place Individual h ∙ ap₂ (λ (k : Command) (m : ℕ). k ∷ drop m restoreOrder) (sym e) (sym (add-one place)))
-      ∙ ap (λ (l : List ℕ). lineOf t r ++ cond (isRefused r) [] (linesOf part devices configuration (drop (place + 1) restoreOrder) l))
+      (drop-cons afterConfiguration place Individual h ∙ ap₂ (λ (k : Command) (m : ℕ). k ∷ drop m afterConfiguration) (sym e) (sym (add-one place)))
+      ∙ ap (λ (l : List ℕ). lineOf t r ++ cond (isRefused r) [] (linesOf part devices configuration (drop (place + 1) afterConfiguration) l))
       (drop-drop (bytesFor (frameBits t)) from input)
       ∙ ap₂ (λ (a : Read) (m : ℕ). frameLine c m a ++ cond (isRefused a) [] (linesFrom (place + 1) (from + bytesFor m))) (sym g) (sym f)
 
   -- the same, refused and accepted
-  pub lines-refused : (place from : ℕ) (c : Command) (answer : Read) (n : ℕ) → place < 3 → c ≡ getD restoreOrder place Individual
+  pub lines-refused : (place from : ℕ) (c : Command) (answer : Read) (n : ℕ) → place < 3 → c ≡ getD afterConfiguration place Individual
       → n ≡ frameBits (toldOf part devices c configuration) → answer ≡ answerOf (toldOf part devices c configuration) (drop from input)
       → isRefused answer ≡ true → linesFrom place from ≡ frameLine c n answer
   lines-refused place from c answer n h e f g r =
@@ -56,7 +56,7 @@ module _ (part devices configuration : ℕ) (input : List ℕ) where
       ∙ ap (λ (b : Bool). frameLine c n answer ++ cond b [] (linesFrom (place + 1) (from + bytesFor n))) r
       ∙ append-nil (frameLine c n answer)
 
-  pub lines-accepted : (place from : ℕ) (c : Command) (answer : Read) (n : ℕ) → place < 3 → c ≡ getD restoreOrder place Individual
+  pub lines-accepted : (place from : ℕ) (c : Command) (answer : Read) (n : ℕ) → place < 3 → c ≡ getD afterConfiguration place Individual
       → n ≡ frameBits (toldOf part devices c configuration) → answer ≡ answerOf (toldOf part devices c configuration) (drop from input)
       → isRefused answer ≡ false → linesFrom place from ≡ frameLine c n answer ++ linesFrom (place + 1) (from + bytesFor n)
   lines-accepted place from c answer n h e f g r =
@@ -85,11 +85,11 @@ module _ (part devices : ℕ) (input : List ℕ) where
 
   -- where it gives one
   pub all-accepted : (b n : ℕ) (rest : List ℕ) → n ≡ frameBits (configurationOf part devices) → rest ≡ drop (bytesFor n) input
-      → partLine part devices (multiplex b) ++ (frameLine Configuration n (R.Byte b) ++ linesOf part devices b restoreOrder rest) ≡ allLines part devices input (R.Byte b)
+      → partLine part devices (multiplex b) ++ (frameLine Configuration n (R.Byte b) ++ linesOf part devices b afterConfiguration rest) ≡ allLines part devices input (R.Byte b)
   unfolding allLines
   all-accepted b n rest f g =
-      ap (λ (l : List ℕ). partLine part devices (multiplex b) ++ (frameLine Configuration n (R.Byte b) ++ linesOf part devices b restoreOrder l)) g
-      ∙ ap (λ (m : ℕ). partLine part devices (multiplex b) ++ (frameLine Configuration m (R.Byte b) ++ linesOf part devices b restoreOrder (drop (bytesFor m) input))) f
+      ap (λ (l : List ℕ). partLine part devices (multiplex b) ++ (frameLine Configuration n (R.Byte b) ++ linesOf part devices b afterConfiguration l)) g
+      ∙ ap (λ (m : ℕ). partLine part devices (multiplex b) ++ (frameLine Configuration m (R.Byte b) ++ linesOf part devices b afterConfiguration (drop (bytesFor m) input))) f
 
 -- ---- how long a report can be
 
@@ -115,14 +115,14 @@ unfolding allLines
 length-allLines part devices input (R.Byte b) =
     let t = configurationOf part devices in
     let line = lineOf t (R.Byte b) in
-    let rest = linesOf part devices b restoreOrder (behind t input) in
+    let rest = linesOf part devices b afterConfiguration (behind t input) in
     omega (
       arith,
       length-append (partLine part devices (multiplex b)) (line ++ rest),
       length-append line rest,
       put.length-partLine part devices (multiplex b),
       put.length-frameLine Configuration (frameBits t) (R.Byte b),
-      length-linesOf part devices b restoreOrder (behind t input),
+      length-linesOf part devices b afterConfiguration (behind t input),
     )
 length-allLines part devices input (R.Bytes n) = omega (arith, put.length-frameLine Configuration (frameBits (configurationOf part devices)) (R.Bytes n))
 length-allLines part devices input (R.Values n) = omega (arith, put.length-frameLine Configuration (frameBits (configurationOf part devices)) (R.Values n))

@@ -9,12 +9,13 @@ use lib.ListN.{length, take, drop}
 use Rattle.bits.specs.Bits.{bytesFor}
 use Rattle.parts.specs.Parts.{partOf, multiplex, sliceBits}
 use Rattle.parts.specs.declared.command.Command.{Command}
-use Rattle.parts.specs.declared.command.Command.the-variants.{Individual, Calibration, Global, Configuration}
+use Rattle.parts.specs.declared.command.Command.the-variants.{Configuration}
 use Rattle.frames.specs.Reading.{read}
 use Rattle.frames.specs.declared.told.Told.{Told}
 use Rattle.frames.specs.declared.told.Tail.{Tail}
 use Rattle.frames.specs.declared.told.Read.{Read}
 use Rattle.frames.specs.declared.told.Read.the-variants as R
+use Rattle.model.specs.Restore.{restoreOrder}
 use Rattle.report.specs.Lines.{refusedLine, trailingLine, partLine, frameLine}
 use Rattle.report.specs.declared.arguments.Asked.{Asked}
 use Rattle.report.specs.declared.arguments.Asked.the-variants as A
@@ -56,8 +57,8 @@ abbrev pub lineOf : Told → Read → List ℕ
 lineOf t answer = frameLine (t .command) (frameBits t) answer
 
 -- the frames behind the configuration frame, in restore order
-abbrev pub restoreOrder : List Command
-restoreOrder = Calibration ∷ Global ∷ Individual ∷ []
+abbrev pub afterConfiguration : List Command
+afterConfiguration = drop 1 restoreOrder
 
 -- their lines: a refused frame's line is last; input behind the last frame is refused too
 unfoldable pub linesOf : ℕ → ℕ → ℕ → List Command → List ℕ → List ℕ
@@ -77,7 +78,7 @@ unfoldable pub allLines : ℕ → ℕ → List ℕ → Read → List ℕ
 allLines part devices input (R.Byte b) =
     partLine part devices (multiplex b)
     ++ (lineOf (configurationOf part devices) (R.Byte b)
-    ++ linesOf part devices b restoreOrder (behind (configurationOf part devices) input))
+    ++ linesOf part devices b afterConfiguration (behind (configurationOf part devices) input))
 allLines part devices input (R.Bytes n) = lineOf (configurationOf part devices) (R.Bytes n)
 allLines part devices input (R.Values n) = lineOf (configurationOf part devices) (R.Values n)
 allLines part devices input (R.Refused number) = lineOf (configurationOf part devices) (R.Refused number)

@@ -3,7 +3,7 @@ ghost use mathlib.Core.Path.{_≡_};
 ghost use Prim.Native.Nat.{_<_};
 ghost use lib.ListN.{getD, take, drop};
 ghost use Rattle.parts.specs.declared.command.Command.the-variants as C;
-ghost use Rattle.report.specs.Report.{frameBits, answerOf, isRefused, restoreOrder};
+ghost use Rattle.report.specs.Report.{frameBits, answerOf, isRefused, afterConfiguration};
 use frames::Read;
 use frames::Tail;
 use frames::Told;
@@ -38,7 +38,7 @@ pub fn read_front(told: Told, input: &[u8]) -> Read
 // The frames behind the configuration frame, in restore order.
 pub fn command_at(place: usize) -> Command
     requires { ⌜ place < 3 ⌝ }
-    ensures { λ r. ⌜ r ≡ getD restoreOrder place C.Individual ⌝ }
+    ensures { λ r. ⌜ r ≡ getD afterConfiguration place C.Individual ⌝ }
 {
     if place == 0 {
         return Command::Calibration;

@@ -4,7 +4,7 @@ ghost use Prim.Native.Nat.{_+_, _≤_};
 ghost use lib.ListN.{length};
 ghost use Rattle.bits.specs.Bits.{over};
 ghost use Rattle.report.specs.Lines.{Put};
-ghost use Rattle.report.specs.Report.{linesOf, restoreOrder, allLines, configurationOf, answerOf, reportOf};
+ghost use Rattle.report.specs.Report.{linesOf, afterConfiguration, allLines, configurationOf, answerOf, reportOf};
 use crate::arguments::Asked;
 use crate::lines::put_frame;
 use crate::lines::put_part;
@@ -69,7 +69,7 @@ fn put_rest(
     at: usize,
 ) -> usize
     requires { ⌜ at + 448 ≤ length (now out) ⌝ }
-    ensures { λ r. ⌜ Put (linesOf part devices configuration restoreOrder (now (input .entry))) at (now (out .entry)) r (now (out .exit)) ⌝ }
+    ensures { λ r. ⌜ Put (linesOf part devices configuration afterConfiguration (now (input .entry))) at (now (out .entry)) r (now (out .exit)) ⌝ }
 {
     let mut from: usize = 0;
     let mut end = at;

@@ -5,7 +5,7 @@ use Prim.Native.Nat.{ℕ, _+_, _-_, _*_, _≤_}
 use native.Mathlib.Omega.{arith}
 use lib.ListN.{length}
 use borrow.Author.Needs.{needs}
-use Rattle.report.specs.Report.{toldOf, answerOf, restoreOrder, linesOf}
+use Rattle.report.specs.Report.{toldOf, answerOf, afterConfiguration, linesOf}
 use Rattle.report.proofs.Putting as put
 use Rattle.report.proofs.Restoring as laws
 use Rattle.report.proofs.whole.put_rest.Statement.{statement}
@@ -17,7 +17,7 @@ Inv-loop part devices configuration input out₀ at from₀ end₀ place₀ out 
     × (from ≤ place * 4294967296)
     × (end ≤ at + 96 * place)
     × (length out ≡ length out₀)
-    × put.Ahead (linesOf part devices configuration restoreOrder input) at out₀ (laws.linesFrom part devices configuration input place from) end out
+    × put.Ahead (linesOf part devices configuration afterConfiguration input) at out₀ (laws.linesFrom part devices configuration input place from) end out
 
 abbrev μ-loop : tie.MeasureT-loop
 μ-loop part devices configuration input out₀ at from₀ end₀ place₀ out from end place = 3 - place

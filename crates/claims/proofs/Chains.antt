@@ -2,7 +2,7 @@
 -- said of the claim's own terms. Assumes nothing.
 use mathlib.Core.Path.{_≡_, ap, _∙_}
 use mathlib.Core.Bool.{true, false}
-use mathlib.Core.List.{List, [], _∷_}
+use mathlib.Core.List.{List, _∷_}
 use Prim.Native.Nat.{ℕ}
 use lib.ListN.{length}
 use borrow.Author.Tests.{eq-eqb}
@@ -13,11 +13,11 @@ use Rattle.calls.specs.Calls.{runRefusal}
 use Rattle.calls.specs.History.{Call, fresh, refusalOf, after, afterCalls}
 use Rattle.calls.specs.Told.{ownTable}
 use Rattle.calls.proofs.Accepted.{accepted-run}
-use Rattle.model.specs.Lists.{All}
+use Rattle.model.proofs.Lists.{All-weaker}
+use Rattle.link.specs.View.{Arrays}
 use Rattle.link.proofs.View.{Sound}
 use Rattle.link.proofs.Device.{agree, keep}
 use Rattle.link.proofs.Calls.{Whole, own-refusal, whole-calls, whole-start, length-afterCalls, length-after}
-use Rattle.link.proofs.Arrays.{start-arrays}
 use Rattle.link.proofs.Modelled.{call-same}
 use Rattle.link.proofs.Flags.{flag-calls, flag-start}
 use Rattle.turns.proofs.Room.{surplus}
@@ -25,7 +25,7 @@ use Rattle.claims.specs.Claims.{start, startPart, StepModelled, CallMode
 
 pub step-modelled : StepModelled
 step-modelled d s a f =
-    let o : Sound d = record { fit = f; slots = a .slice } in
+    let o : Sound d = record { fit = f; arrays = a } in
     (agree d s o, keep d s o .fit)
 
 pub call-modelled : CallModelled
@@ -45,15 +45,17 @@ whole-begun p records earlier e = whole-calls p (after records (fresh p)) earlie
 pub length-start : (p : ℕ) (records : List Device) (earlier : List Call) → length (start p records earlier) ≡ length records
 length-start p records earlier = length-afterCalls records (fresh p ∷ earlier)
 
-sound-fits : (ds : List Device) → All Sound ds → All (λ d. fits d ≡ true) ds
-sound-fits [] h = tt
-sound-fits (d ∷ ds) h = (h .0 .fit, sound-fits ds (h .1))
-
 pub kept : Kept
 kept p records earlier c e =
     let w = whole-begun p records earlier e in
     let l = length-start p records earlier in
-    (l, w .onePart, sound-fits (start p records earlier) (w .sound), start-arrays p records earlier e, own-refusal _ (start p records earlier) c w ∙ ap (λ (n : ℕ). first (ownTable n c)) l)
+    let now = start p records earlier in (
+      l,
+      w .onePart,
+      All-weaker Sound (λ d. fits d ≡ true) (λ d o. o .fit) now (w .sound),
+      All-weaker Sound Arrays (λ d o. o .arrays) now (w .sound),
+      own-refusal _ now c w ∙ ap (λ (n : ℕ). first (ownTable n c)) l,
+    )
 
 pub flags : Flags
 unfolding afterCalls

@@ -52,7 +52,7 @@ use Rattle.claims.specs.Claims.{start, Begun, DemandThree, Counted, Rest
 use Rattle.claims.proofs.Sent.{quietStates, take-then, take-gap}
 use Rattle.claims.proofs.Chains.{whole-begun, length-start}
 
-module _ (p : ℕ) (records : List Device) (earlier during : List Call) (s : Set) (tail : Command → Tail) (b : Begun p records earlier during s tail) where
+module _ {p : ℕ} {records : List Device} {earlier during : List Call} {s : Set} {tail : Command → Tail} (b : Begun p records earlier during s tail) where
   abbrev now : List Device
   now = start p records earlier
 
@@ -63,7 +63,7 @@ module _ (p : ℕ) (records : List Device) (earlier during : List Call) (s : Set
   devices = b .devices ∙ sym (length-start p records earlier)
 
   proper : Proper s
-  proper = writable-proper s tail (b .writable)
+  proper = writable-proper (b .writable)
 
   ready : Both (Ready (partOf (s .part))) (owned s) (registersIn (map deviceOf now))
   ready = ready-of (s .part) (owned s) now (owned-proper s proper) (length-owned s ∙ devices) (whole .onePart)
@@ -90,7 +90,7 @@ module _ (p : ℕ) (records : List Device) (earlier during : List Call) (s : Set
     waits : (last : List Bool) → fed now during ≡ restoreStates s gap tail ++ quietStates last → Waits (owned s) (afterCalls now during)
     waits last e =
         let ds : List model.Device = map deviceOf now in
-        let f = e ∙ then-lows lines last (restoreStates s gap tail) (restore-states s tail (b .writable) gap) in
+        let f = e ∙ then-lows lines last (restoreStates s gap tail) (restore-states (b .writable) gap) in
         let k : map deviceOf (afterCalls now during) ≡ (runChain ((sendPieces ds pieces) .0) (lows last)) .0 =
         ap (λ (x : List model.Device × List Line). x .0) (seen (lines ++ lows last) f) ∙ rw (chain-append stepDevice ds lines (lows last), pieces-run ds pieces) in
         let h = model-restore.restored (partOf (s .part)) (owned s) gap (tailsOf tail) ds last few ready in
@@ -113,7 +113,7 @@ module _ (p : ℕ) (records : List Device) (earlier during : List Call) (s : Set
         let ds : List model.Device = map deviceOf now in
         let h : 0 < length ds = rw length-map (whole .someDevice) in
         let ls : List Line = flatten (map pieceStates (take j pieces)) in
-        let f = e ∙ then-lows ls last (restorePart s gap tail j) (restore-part s tail (b .writable) gap j) in
+        let f = e ∙ then-lows ls last (restorePart s gap tail j) (restore-part (b .writable) gap j) in
         let x : map lineOf (answers now during) ≡ (runChain ds (ls ++ lows last)) .1 = ap (λ (x : List model.Device × List Line). x .1) (seen (ls ++ lows last) f) in
         let q : (runChain ds (ls ++ lows last)) .1 ≡ (runChain ds ls) .1 =
         rw (chain-append stepDevice ds ls (lows last), quiet-sends last ((runChain ds ls) .0) (rw length-chain h), append-nil) in
@@ -131,7 +131,7 @@ module _ (p : ℕ) (records : List Device) (earlier during : List Call) (s : Set
     cut-at last k i o e h =
         let ds : List model.Device = map deviceOf now in
         let f : fed now during ≡ map stateOf (take k (lines ++ lows last)) =
-        e ∙ ap (λ (l : List ℕ). take k l) (then-lows lines last (restoreStates s gap tail) (restore-states s tail (b .writable) gap)) ∙ take-map stateOf k (lines ++ lows last) in
+        e ∙ ap (λ (l : List ℕ). take k l) (then-lows lines last (restoreStates s gap tail) (restore-states (b .writable) gap)) ∙ take-map stateOf k (lines ++ lows last) in
         let x : map deviceOf (afterCalls now during) ≡ (runChain ds (take k (lines ++ lows last))) .0 =
         ap (λ (x : List model.Device × List Line). x .0) (seen (take k (lines ++ lows last)) f) in
         let g = cut-sent (partOf (s .part)) (owned s) gap (tailsOf tail) ds ready last k i o (registersOf (blank .registers)) (rw (length-owned s) h) in
@@ -148,8 +148,8 @@ in-gap s gap tail last j k h l = take-gap gap (λ c. line.frameStates (written s
 
 pub demand-three : DemandThree
 demand-three p records earlier during s gap tail last k b e = record {
-  restored = λ h later r. held p records earlier during s tail b gap (take (k - length (restoreStates s gap tail)) last) (e ∙ take-then k (restoreStates s gap tail) last h) later r;
-  returned = λ j h l. returned-all p records earlier during s tail b gap (take (k - length (restorePart s gap tail j)) (gapAfter gap last j)) j (e ∙ in-gap s gap tail last j k h l);
+  restored = λ h later r. held b gap (take (k - length (restoreStates s gap tail)) last) (e ∙ take-then k (restoreStates s gap tail) last h) later r;
+  returned = λ j h l. returned-all b gap (take (k - length (restorePart s gap tail j)) (gapAfter gap last j)) j (e ∙ in-gap s gap tail last j k h l);
   cut = cut;
 }
   where
@@ -159,7 +159,7 @@ demand-three p records earlier during s gap tail last k b e = record {
     cut zero o h l = absurd (omega arith)
     cut (suc i) o h l =
         let j : suc i - 1 ≡ i = omega arith in
-        rw j (cut-at p records earlier during s tail b gap last k i o e l)
+        rw j (cut-at b gap last k i o e l)
 
 -- ---- each frame's own return
 
@@ -192,11 +192,11 @@ counted p records earlier former during s gap tail last j b l e f =
     let rs : List (List Bool) = returnsOf (tailsOf tail) (registersAll ds) in
     let flags : Command → ℕ = λ k. faults k (registersAll ds) in
     let b′ : Begun p records earlier former s tail = record { accepted = b .accepted; writable = b .writable; devices = b .devices; part = b .part; runs = runs-front ds former during (b .runs) } in
-    let x = returned-all p records earlier former s tail b′ gap [] j (e ∙ sym (append-nil (restorePart s gap tail j))) in
+    let x = returned-all b′ gap [] j (e ∙ sym (append-nil (restorePart s gap tail j))) in
     let n : flatten (take (suc j) (map (framePart s gap tail) restoreOrder)) ≡ restorePart s gap tail j ++ framePart s gap tail c =
     flatten-take-suc (map (framePart s gap tail) restoreOrder) j (rw length-map l) ∙ rw (getD-map (framePart s gap tail) restoreOrder j Individual [] l) in
     let g : fed ds (former ++ during) ≡ restorePart s gap tail (suc j) ++ quietStates last = rw (fed-append ds former during, e, f, n, append-assoc) in
-    let y = returned-all p records earlier (former ++ during) s tail b gap last (suc j) g in
+    let y = returned-all b gap last (suc j) g in
     let r : flatten (take (suc j) rs) ≡ flatten (take j rs) ++ returnOf c (flags c) (tailBits (tail c)) =
     flatten-take-suc rs j (rw length-map l) ∙ rw (getD-map (λ (k : Command). returnOf k (flags k) (tailBits (tail k))) restoreOrder j Individual [] l) in
     let k : dataBits (answers ds former) ++ dataBits (answers now during) ≡ flatten (take j rs) ++ returnOf c (flags c) (tailBits (tail c)) =
@@ -204,11 +204,11 @@ counted p records earlier former during s gap tail last j b l e f =
     let z : dataBits (answers now during) ≡ returnOf c (flags c) (tailBits (tail c)) =
     sym (drop-at (dataBits (answers ds former)) (dataBits (answers now during)) _ refl) ∙ ap (drop (length (dataBits (answers ds former)))) k
     ∙ drop-at (flatten (take j rs)) (returnOf c (flags c) (tailBits (tail c))) (length (dataBits (answers ds former))) (ap (λ (a : List Bool). length a) (sym x)) in
-    let m : flags c ≤ s .devices = rw (devices p records earlier (former ++ during) s tail b) (rw length-map at (howMany-le (fault c) (registersAll ds))) in
+    let m : flags c ≤ s .devices = rw (devices b) (rw length-map at (howMany-le (fault c) (registersAll ds))) in
     ap (λ (a : List Bool). reader.returned (s .part) (s .devices) c (tail c) (bytesOf a)) z
     ∙ return-read (s .part) (s .devices) c (tail c) (flags c)
     (told-zero (told s c) (tail c) (byteOf s c) (s .calibration) (s .individual) (frameLength (told s c) (tail c)) (b .writable .accepted c))
-    (taken s tail (b .writable) c .tail-low) m
+    (taken (b .writable) c .tail-low) m
 
 -- ---- the claims can be met
 
@@ -233,7 +233,7 @@ restorable p records earlier s gap tail out fresh writable devices part l =
     let now : List Device = start p records earlier in
     let during : List Call = run ss out ∷ [] in
     let b : Begun p records earlier during s tail = record { accepted = fresh; writable = writable; devices = devices; part = part; runs = (tt, tt) } in
-    let a : allBelow ss 4 ≡ true = rw (restore-states s tail writable gap) (states-below (piecesStates (partOf (s .part)) (owned s) gap (tailsOf tail))) in
-    let r = run-accepted _ now ss out (whole p records earlier during s tail b) a l in
+    let a : allBelow ss 4 ≡ true = rw (restore-states writable gap) (states-below (piecesStates (partOf (s .part)) (owned s) gap (tailsOf tail))) in
+    let r = run-accepted _ now ss out (whole b) a l in
     let e = fed-one now ss out r in
-    (r, b, e, held p records earlier during s tail b gap [] e [] tt)
+    (r, b, e, held b gap [] e [] tt)

@@ -36,11 +36,11 @@ both e f = ap₂ _&&_ e f
 accepts : (s : Set) (tail : Command → Tail) (ds : List Device) → Writable s tail → Whole (s .part) ds → s .devices ≡ length ds → compareRefusal s ds ≡ 0
 unfolding compareRefusal
 accepts s tail ds w h l =
-    let proper = writable-proper s tail w in
+    let proper = writable-proper w in
     let some : 1 ≤ s .devices = omega (arith, l, h .someDevice) in
     let few : s .devices ≤ 1023 = omega (arith, l, h .fewDevices) in
-    let global : ltb (s .global) (subframes (partOf (s .part)) (s .configuration)) ≡ true = not-false _ (taken s tail w Global .value) in
-    let individual : allBelow (s .individual) (limit (partOf (s .part))) ≡ true = not-false _ (taken s tail w Individual .value) in
+    let global : ltb (s .global) (subframes (partOf (s .part)) (s .configuration)) ≡ true = not-false _ (taken w Global .value) in
+    let individual : allBelow (s .individual) (limit (partOf (s .part))) ≡ true = not-false _ (taken w Individual .value) in
     let parts : every (hasPart (s .part)) ds ≡ true = every-all (λ d. d .registers .part ≡ s .part) (hasPart (s .part)) (λ d e. eq-eqb (d .registers .part) (s .part) e) ds (h .onePart) in
     none (compareTable s ds) (
       ap not (both (h .knownPart) (every-all (λ d. d .registers .part ≡ s .part) (λ d. known (d .registers .part)) (λ d e. ap known e ∙ h .knownPart) ds (h .onePart))),
@@ -62,9 +62,9 @@ restored-same p records earlier during later s gap tail last b e r =
     let ds : List Device = start p records earlier in
     let calls : List Call = during ++ (later ++ boundary ∷ []) in
     let now : List Device = afterCalls ds calls in
-    let w = whole-runs (s .part) ds during (whole p records earlier during s tail b) (b .runs) in
+    let w = whole-runs (s .part) ds during (whole b) (b .runs) in
     let v = whole-boundary (s .part) (afterCalls (afterCalls ds during) later) (whole-settles (s .part) (afterCalls ds during) later w r) in
     let same : afterCalls (afterCalls (afterCalls ds during) later) (boundary ∷ []) ≡ now =
     sym (calls-append ds during (later ++ boundary ∷ []) ∙ calls-append (afterCalls ds during) later (boundary ∷ [])) in
-    holds-same s now (accepts s tail now (b .writable) (subst (Whole (s .part)) same v) (devices p records earlier during s tail b ∙ sym (length-afterCalls ds calls)))
-    (held p records earlier during s tail b gap last e later r)
+    holds-same s now (accepts s tail now (b .writable) (subst (Whole (s .part)) same v) (devices b ∙ sym (length-afterCalls ds calls)))
+    (held b gap last e later r)

@@ -182,9 +182,11 @@ unfolding runRefusal
 runs ds ss out =
     let table = runTable ds ss (length out) in
     let n : ℕ = length (chainReturned ds ss) in
-    let e = sym (ran-answer (first table) n) in
-    subst (λ (r : Ran). Answers (λ (q : Ran). q .refusal) table (λ m. ran m 0) (ran 0 n) r × Leaves (r .refusal) out (over (chainReturned ds ss) out) (content (first table) out (over (chainReturned ds ss) out))) e
-    (answers table refl refl (λ (q : Ran). q .refusal) (λ m. ran m 0) (ran 0 n) refl itself, leaves table refl refl (λ (q : Ran). q .refusal) (λ m. ran m 0) (ran 0 n) refl itself out _)
+    let number : Ran → ℕ = λ q. q .refusal in
+    let refused : ℕ → Ran = λ m. ran m 0 in
+    let left : List ℕ = over (chainReturned ds ss) out in
+    subst (λ (r : Ran). Answers number table refused (ran 0 n) r × Leaves (r .refusal) out left (content (first table) out left)) (sym (ran-answer (first table) n))
+    (answers table refl refl number refused (ran 0 n) refl itself, leaves table refl refl number refused (ran 0 n) refl itself out _)
 
 -- ---- a comparison that is not refused has the number 0
 

@@ -37,7 +37,8 @@ use Rattle.machine.proofs.Machine.{chain-append, chain-nil, chain-holds, length
 use Rattle.device.specs.Run.{stepRecord}
 use Rattle.link.specs.View.{phaseIn, deviceOf}
 use Rattle.link.proofs.View.{Sound}
-use Rattle.link.proofs.Device.{keep, step-part, chain-keep}
+use Rattle.link.proofs.Arrays.{bounded-arrays, faulted-arrays, fresh-arrays}
+use Rattle.link.proofs.Device.{step-part, chain-keep}
 
 -- ---- what an accepted call leaves
 
@@ -111,24 +112,21 @@ boundary-same (d ∷ ds) = rw (activated-phase (d .registers) (phaseOf (d .place
 -- ---- a whole chain stays whole
 
 bounded-sound : (d : Device) → Sound d → Sound (bounded d)
-bounded-sound d o = record { fit = kept-bounded d (o .fit); slots = o .slots }
+bounded-sound d o = record { fit = kept-bounded d (o .fit); arrays = bounded-arrays d (o .arrays) }
 
 digit-lt : (b : Bool) → digit b < 2
 digit-lt true = omega arith
 digit-lt false = omega arith
-
-faulted-slots : (d : Device) (kind flag : ℕ) → (faulted d kind flag) .registers .slice ≡ d .registers .slice
-faulted-slots d kind flag = cond-both (λ (r : Registers). r .slice ≡ d .registers .slice) (eqb kind 0) _ _ (λ _. refl) (λ _. refl)
 
 faulted-part : (d : Device) (kind flag : ℕ) → (faulted d kind flag) .registers .part ≡ d .registers .part
 faulted-part d kind flag = cond-both (λ (r : Registers). r .part ≡ d .registers .part) (eqb kind 0) _ _ (λ _. refl) (λ _. refl)
 
 faulted-sound : (kind : ℕ) (flag : Bool) (d : Device) → Sound d → Sound (faulted d kind (digit flag))
 faulted-sound kind flag d o =
-    record { fit = kept-faulted d kind (digit flag) (digit-lt flag) (o .fit); slots = rw (faulted-slots d kind (digit flag)) (o .slots) }
+    record { fit = kept-faulted d kind (digit flag) (digit-lt flag) (o .fit); arrays = faulted-arrays d kind (digit flag) (o .arrays) }
 
 fresh-sound : (p : ℕ) → Sound (freshDevice p)
-fresh-sound p = record { fit = kept-fresh p; slots = refl }
+fresh-sound p = record { fit = kept-fresh p; arrays = fresh-arrays p }
 
 -- every record, of a list made by a change of each, or of one
 map-All : (P : Device → Type 0) (f : Device → Device) → ((d : Device) → P d → P (f d)) → (ds : List Device) → All P ds → All P (map f ds)
@@ -139,28 +137,6 @@ set-All : (P : Device → Type 0) (f : Device → Device) → ((d : Device) → 
 set-All P f k [] i z h = tt
 set-All P f k (d ∷ ds) zero z h = (k d (h .0), h .1)
 set-All P f k (d ∷ ds) (suc i) z h = (h .0, set-All P f k ds i z (h .1))
-
--- ---- what fresh devices have and nothing that is called takes away
-
-module _ (P : Device → Type 0) (new : (q : ℕ) → P (freshDevice q)) (stepped : (d : Device) (s : ℕ) → P d → P ((stepRecord d s) .0))
-    (activated : (d : Device) → P d → P (bounded d)) (flagged : (kind : ℕ) (flag : Bool) (d : Device) → P d → P (faulted d kind (digit flag))) where
-  pub effect-keeps : (ds : List Device) (c : Call) → All P ds → All P (effect ds c)
-  effect-keeps ds (fresh q) h = All-replicate P (length ds) (freshDevice q) (new q)
-  effect-keeps ds (run ss out) h = chain-holds stepRecord P stepped ds ss h
-  effect-keeps ds boundary h = map-All P bounded activated ds h
-  effect-keeps ds (fault device kind flag) h = set-All P (λ d. faulted d kind (digit flag)) (flagged kind flag) ds (device - 1) blank h
-
-  calls-keep : (ds : List Device) (cs : List Call) → All P ds → All P (afterCalls ds cs)
-  unfolding afterCalls
-  calls-keep ds [] h = h
-  calls-keep ds (c ∷ cs) h =
-      calls-keep (after ds c) cs (rw (after-effect ds c) (cond-both (All P) (eqb (refusalOf ds c) 0) _ _ (λ _. effect-keeps ds c h) (λ _. h)))
-
-  pub start-keeps : (p : ℕ) (records : List Device) (earlier : List Call) → refusalOf records (fresh p) ≡ 0 → All P (afterCalls records (fresh p ∷ earlier))
-  unfolding afterCalls
-  start-keeps p records earlier e =
-      calls-keep (after records (fresh p)) earlier
-      (rw (after-effect records (fresh p), eq-eqb (refusalOf records (fresh p)) 0 e) (All-replicate P (length records) (freshDevice p) (new p)))
 
 -- ---- so no call is refused for the records, whatever is called
 
@@ -180,7 +156,10 @@ whole-fresh q ds a =
     }
 
 sound-effect : (ds : List Device) (c : Call) → All Sound ds → All Sound (effect ds c)
-sound-effect ds c h = effect-keeps Sound fresh-sound keep bounded-sound faulted-sound ds c h
+sound-effect ds (fresh q) h = All-replicate Sound (length ds) (freshDevice q) (fresh-sound q)
+sound-effect ds (run ss out) h = chain-keep ds ss h
+sound-effect ds boundary h = map-All Sound bounded bounded-sound ds h
+sound-effect ds (fault device kind flag) h = set-All Sound (λ d. faulted d kind (digit flag)) (faulted-sound kind flag) ds (device - 1) blank h
 
 whole-from : (p : ℕ) (ds es : List Device) → Whole p ds → length es ≡ length ds → All (λ d. d .registers .part ≡ p) es → All Sound es → Whole p es
 whole-from p ds es w l a o = record { someDevice = rw l (w .someDevice); fewDevices = rw l (w .fewDevices); knownPart = w .knownPart; onePart = a; sound = o }
@@ -189,7 +168,7 @@ whole-effect : (p : ℕ) (ds : List Device) (c : Call) → Whole p ds → refusa
 whole-effect p ds (fresh q) w a = rw (eq-eqb (refusalOf ds (fresh q)) 0 a) (whole-fresh q ds a)
 whole-effect p ds (run ss out) w a =
     whole-from p ds ((chain stepRecord ds ss) .0) w (length-chain stepRecord ds ss)
-    (chain-holds stepRecord (λ d. d .registers .part ≡ p) (λ d s h. step-part d s ∙ h) ds ss (w .onePart)) (chain-keep ds ss (w .sound))
+    (chain-holds stepRecord (λ d. d .registers .part ≡ p) (λ d s h. step-part d s ∙ h) ds ss (w .onePart)) (sound-effect ds (run ss out) (w .sound))
 whole-effect p ds boundary w a =
     whole-from p ds (boundaryDevices ds) w (length-map ds bounded) (map-All (λ d. d .registers .part ≡ p) bounded (λ d h. h) ds (w .onePart))
     (sound-effect ds boundary (w .sound))

@@ -7,7 +7,7 @@ use Prim.Native.Nat.{ℕ, zero, suc, _+_, _-_, _*_, _/_, _%_, _≤_, _<_}
 use native.Mathlib.Nat.{mod-lt}
 use native.Mathlib.Omega.{arith}
 use lib.Dec.{eqb, ltb, leb, lit<}
-use lib.ListN.{length, length-set}
+use lib.ListN.{length}
 use borrow.Author.Tests.{leb-true, ltb-true, ltb-false, le-ltb}
 use Rattle.parts.specs.Parts.{partOf, multiplex, fieldWidth, fieldLimit}
 use Rattle.parts.specs.Wire.{low, high, lineOf, header}
@@ -36,6 +36,7 @@ use Rattle.link.proofs.Numbers.{digit-bit}
 use Rattle.device.specs.Run.{stepRecord}
 use Rattle.link.specs.View.{phaseIn, viewed, deviceOf}
 use Rattle.link.proofs.View.{Sound, seen, seen-sending}
+use Rattle.link.proofs.Arrays.{step-arrays}
 use Rattle.link.proofs.Header.{rising-same, opening-same, counting-same}
 use Rattle.link.proofs.Slice.{slice-same}
 
@@ -114,36 +115,13 @@ agree d s o = go (ltb s 2) refl
         let l = ltb-false s 2 e in
         let t = and-both (placeFits (d .place) (d .registers)) _ (o .fit) in
         rw (line-high s l)
-        (high-same (d .registers) (phaseOf (d .place)) s l (o .slots) (below-of (d .registers) (t .1)) (phase-good (d .place) (d .registers) (t .0)))
+        (high-same (d .registers) (phaseOf (d .place)) s l (o .arrays .slice) (below-of (d .registers) (t .1)) (phase-good (d .place) (d .registers) (t .0)))
 
 -- ---- a record that fits still does
 
-stored-slots : (r : Registers) (c : Command) → (stored r c) .slice ≡ r .slice
-stored-slots r Individual = cond-both (λ (q : Registers). q .slice ≡ r .slice) (eqb (multiplex (r .configuration)) 0) _ _ (λ _. refl) (λ _. refl)
-stored-slots r Calibration = refl
-stored-slots r Global = cond-both (λ (q : Registers). q .slice ≡ r .slice) (copies (r .slice)) _ _ (λ _. refl) (λ _. refl)
-stored-slots r Configuration = cond-both (λ (q : Registers). q .slice ≡ r .slice) (copies (r .slice)) _ _ (λ _. refl) (λ _. refl)
-
-abbrev Slots : Stepped → Type 0
-Slots s = length (s .device .registers .slice) ≡ 48
-
-high-slots : (r : Registers) (p : Phase) (s : ℕ) → length (r .slice) ≡ 48 → Slots (stepHigh r p s)
-high-slots r (Hunting w) s h = h
-high-slots r (Opening read) s h = h
-high-slots r (Counting c read) s h = h
-high-slots r (Slice c n t) s h =
-    let q : Registers = took r (t / fieldWidth (partOf (r .part)) c) (s % 2) (fieldLimit (partOf (r .part)) c) in
-    let l : length (q .slice) ≡ 48 = simp length-set h in
-    cond-both Slots (ltb (t + 1) (sliceLength r c)) _ _ (λ _. l) (λ _. rw (stored-slots q c) l)
-high-slots r Passing s h = h
-high-slots r Lost s h = h
-
 pub keep : (d : Device) (s : ℕ) → Sound d → Sound ((stepRecord d s) .0)
 unfolding stepRecord
-keep d s o = record {
-  fit = kept d s (o .fit);
-  slots = cond-both Slots (ltb s 2) _ _ (λ _. o .slots) (λ _. high-slots (d .registers) (phaseOf (d .place)) s (o .slots));
-}
+keep d s o = record { fit = kept d s (o .fit); arrays = step-arrays d s (o .arrays) }
 
 -- ---- what no slice touches, no step changes
 

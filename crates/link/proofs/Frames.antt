@@ -42,7 +42,7 @@ take-bytes : (bs : List Bool) (n : ℕ) → length bs ≡ n → take n (fields 8
 unfolding padded
 take-bytes bs n e = ap (λ (l : List Bool). take n l) (bits-of-bytes bs) ∙ take-at bs (replicate ((8 - length bs % 8) % 8) false) n e
 
-module _ (s : Set) (tail : Command → Tail) (w : Writable s tail) where
+module _ {s : Set} {tail : Command → Tail} (w : Writable s tail) where
   -- what the writer accepts
   pub taken : (c : Command) → accepted.Writable (told s c) (tail c) (byteOf s c) (s .calibration) (s .individual) (frameLength (told s c) (tail c))
   taken c = accepted.writable (told s c) (tail c) (byteOf s c) (s .calibration) (s .individual) (frameLength (told s c) (tail c)) (w .accepted c)

@@ -86,7 +86,7 @@ set-map f (y ∷ ys) (suc i) x = rw (set-map f ys i x)
 -- records that fit and whose arrays have their lengths
 all-sound : (ds : List Device) → allFit ds ≡ true → All Arrays ds → All Sound ds
 all-sound [] e h = tt
-all-sound (d ∷ ds) e h = let f = and-both (fits d) (allFit ds) e in (record { fit = f .0; slots = h .0 .slice }, all-sound ds (f .1) (h .1))
+all-sound (d ∷ ds) e h = let f = and-both (fits d) (allFit ds) e in (record { fit = f .0; arrays = h .0 }, all-sound ds (f .1) (h .1))
 
 accepted-given : (ds : List Device) (ss out : List ℕ) → refusalOf ds (run ss out) ≡ 0 → given ds (run ss out) ≡ ss
 unfolding refusalOf

@@ -3,7 +3,6 @@ use mathlib.Core.Path.{_≡_, ap}
 use mathlib.Core.Bool.{Bool, true}
 use mathlib.Core.List.{List, [], _∷_, _++_, map}
 use Prim.Native.Nat.{ℕ, suc}
-use lib.ListN.{length}
 use Rattle.parts.specs.Wire.{Line, high, lineOf}
 use Rattle.device.specs.Step.{sentStates, at, sending, step}
 use Rattle.device.specs.Judgement.{fits}
@@ -13,14 +12,14 @@ use Rattle.registers.specs.declared.registers.Registers.{Registers}
 use Rattle.device.specs.declared.device.Device.{Device}
 use Rattle.device.specs.declared.device.Stepped.{Stepped}
 use Rattle.phases.proofs.Places.{Small, phase-place}
-use Rattle.model.specs.Device.{taking, slice, finish, stepDevice}
+use Rattle.model.specs.Device.{taking, finish, stepDevice}
 use Rattle.model.specs.Device as model
-use Rattle.link.specs.View.{viewed, deviceOf}
+use Rattle.link.specs.View.{viewed, deviceOf, Arrays}
 
--- a record that fits, whose slice has the length that its type says
+-- a record that fits, whose arrays have the lengths that their types say
 pub record Sound (d : Device) : Type 0 where
   pub fit : fits d ≡ true
-  pub slots : length (d .registers .slice) ≡ 48
+  pub arrays : Arrays d
 
 abbrev Outcome : Type 0
 Outcome = model.Device × List Line

@@ -2,7 +2,7 @@
 ghost use mathlib.Core.Path.{_≡_};
 ghost use lib.ListN.{length};
 ghost use Rattle.parts.specs.Parts.{commandAt};
-ghost use Rattle.frames.specs.Writing.{written, writtenOut};
+ghost use Rattle.frame_writer.specs.Writing.{written, writtenOut};
 ghost use Rattle.frames.specs.Reading.{read, readBytes, readValues};
 ghost use Rattle.frames.specs.Returns.{returned};
 ghost use Rattle.capi.specs.Answers.{toldBy, tailOf, ofWritten, given, listed, ofRead, returnRefusal, ofReturned};
@@ -45,7 +45,7 @@ pub extern "C" fn bb_write(
 {
     let told = told_by(part, devices, command, configuration);
     let behind = tail_of(tail, long);
-    let written = frames::write(told, behind, byte, bytes, values, out);
+    let written = frame_writer::write(told, behind, byte, bytes, values, out);
     of_written(written)
 }
 

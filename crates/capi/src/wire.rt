@@ -3,7 +3,7 @@ ghost use mathlib.Core.Path.{_≡_};
 ghost use lib.ListN.{length};
 ghost use Rattle.parts.specs.Parts.{commandAt};
 ghost use Rattle.frames.specs.Frames.{tailOf};
-ghost use Rattle.frames.specs.Writing.{written, writtenOut};
+ghost use Rattle.frame_writer.specs.Writing.{written, writtenOut};
 ghost use Rattle.frames.specs.Reading.{read, readBytes, readValues};
 ghost use Rattle.frames.specs.Returns.{returned};
 ghost use Rattle.capi.specs.Answers.{toldBy, ofWritten, given, listed, ofRead, returnRefusal, ofReturned};
@@ -49,7 +49,7 @@ pub extern "C" fn bb_write(
         number: tail,
         length: long,
     };
-    let written = frames::write(told, behind, byte, bytes, values, out);
+    let written = frame_writer::write(told, behind, byte, bytes, values, out);
     of_written(written)
 }
 

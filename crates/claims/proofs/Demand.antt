@@ -20,7 +20,7 @@ use Rattle.parts.specs.declared.command.Command.the-variants.{Individual}
 use Rattle.line.specs.States.{dataBits}
 use Rattle.line.specs.States as line
 use Rattle.frames.specs.Frames.{tailBits, frameLength, toldRows}
-use Rattle.frames.specs.Writing.{writeTable, writeRefusal}
+use Rattle.frame_writer.specs.Writing.{writeTable, writeRefusal}
 use Rattle.frames.specs.Returns as reader
 use Rattle.frames.specs.declared.told.Told.{Told}
 use Rattle.frames.specs.declared.told.Tail.{Tail}

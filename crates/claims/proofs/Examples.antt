@@ -10,7 +10,7 @@ use Rattle.bits.specs.Bits.{bits, number, fields, split, padded, bytesOf, over}
 use Rattle.parts.specs.Parts.{partOf}
 use Rattle.parts.specs.Wire.{commandCount, header, frame, clocked}
 use Rattle.frames.specs.Frames.{frameBits, frameOf}
-use Rattle.frames.specs.Writing.{writeRefusal, written, writtenOut}
+use Rattle.frame_writer.specs.Writing.{writeRefusal, written, writtenOut}
 use Rattle.frames.specs.Reading.{heldFields, readRefusal}
 use Rattle.machine.specs.Machine.{run, chain}
 use Rattle.device.specs.Run.{stepRecord}

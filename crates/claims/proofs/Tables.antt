@@ -14,7 +14,7 @@ use Rattle.parts.specs.declared.command.Command.{Command}
 use Rattle.parts.specs.declared.command.Command.the-variants.{Individual, Calibration, Global, Configuration}
 use Rattle.line.specs.States.{frameRows, clockedAnswer, clockedOut, stateRows, packedAnswer, packedOut}
 use Rattle.line.specs.declared.states.Line.the-variants as L
-use Rattle.frames.specs.Writing.{writeTable, writeRefusal, written, writtenOut}
+use Rattle.frame_writer.specs.Writing.{writeTable, writeRefusal, written, writtenOut}
 use Rattle.frames.specs.Reading.{heldFields, found, readTable, readRefusal, read, readBytes, readValues}
 use Rattle.frames.specs.Returns.{returnTable, returnRefusal, returned}
 use Rattle.frames.specs.declared.told.Told.{Told}

@@ -19,7 +19,7 @@ use Rattle.parts.specs.declared.command.Command.the-variants.{Individual}
 use Rattle.line.specs.States.{dataBits, frameStates, frameRows, clockedAnswer, clockedOut, stateRows, packedAnswer, packedOut}
 use Rattle.line.specs.declared.states.Line.the-variants as L
 use Rattle.frames.specs.Frames.{fieldCount, frameOf}
-use Rattle.frames.specs.Writing.{settings, writeTable, written, writtenOut}
+use Rattle.frame_writer.specs.Writing.{settings, writeTable, written, writtenOut}
 use Rattle.frames.specs.Reading.{heldFields, roomShort, readTable, found, bytesFound, valuesFound, read, readBytes, readValues}
 use Rattle.frames.specs.Returns as returns
 use Rattle.frames.specs.declared.told.Told.{Told}

@@ -13,7 +13,7 @@ use Rattle.parts.specs.Wire.{frame, statesOf}
 use Rattle.parts.specs.declared.command.Command.{Command}
 use Rattle.parts.specs.declared.command.Command.the-variants.{Individual, Calibration, Global, Configuration}
 use Rattle.line.specs.States.{dataBits}
-use Rattle.frames.specs.Writing.{written, writtenOut}
+use Rattle.frame_writer.specs.Writing.{written, writtenOut}
 use Rattle.frames.specs.Reading.{readRefusal}
 use Rattle.frames.specs.declared.told.Told.{Told}
 use Rattle.frames.specs.declared.told.Tail.{Tail}

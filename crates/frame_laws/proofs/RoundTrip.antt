@@ -18,7 +18,7 @@ use Rattle.tables.proofs.Booleans.{and-left, or-second, or-none}
 use Rattle.parts.specs.declared.command.Command.{Command}
 use Rattle.parts.specs.declared.command.Command.the-variants.{Individual, Calibration, Global, Configuration}
 use Rattle.frames.specs.Frames.{fieldCount, fieldBits, slicesBits, frameBits, frameOf, frameLength, allSame, tailHigh, toldRows}
-use Rattle.frames.specs.Writing.{given, settings, listWrong, valueHigh, writeTable, writeRefusal, written, writtenOut}
+use Rattle.frame_writer.specs.Writing.{given, settings, listWrong, valueHigh, writeTable, writeRefusal, written, writtenOut}
 use Rattle.frames.specs.Reading.{heldFields, roomShort, copyHigh, copiesDiffer, bodyRows, readTable, readRefusal, found, bytesFound, valuesFound, read, readBytes, readValues}
 use Rattle.frames.specs.declared.told.Told.{Told}
 use Rattle.frames.specs.declared.told.Tail.{Tail}
@@ -27,6 +27,7 @@ use Rattle.frames.specs.declared.told.Read.{Read}
 use Rattle.frames.specs.declared.told.Read.the-variants as R
 use Rattle.frames.proofs.Tests as tests
 use Rattle.frames.proofs.Accepted as accepted
+use Rattle.frame_writer.proofs.Writable as writer
 use Rattle.frames.proofs.Lengths as lengths
 use Rattle.frames.proofs.Pieces.{length-slices, length-frameOf}
 use Rattle.frame_laws.specs.RoundTrip.{ReadBack, WrittenAgain, byteOf, byteRead, bytesRead, valuesRead}
@@ -64,17 +65,17 @@ module _ (t : Told) (tail : Tail) (byte : ℕ) (bytes values : List ℕ) (room :
   abbrev bs : List Bool
   bs = fields (fieldBits t) vs
 
-  writable : accepted.Writable t tail byte bytes values room
-  writable = accepted.writable t tail byte bytes values room taken
+  writable : writer.Writable t tail byte bytes values room
+  writable = writer.writable t tail byte bytes values room taken
 
   len : length vs ≡ fieldCount t
-  len = accepted.length-given t (t .command) byte bytes values (writable .list)
+  len = writer.length-given t (t .command) byte bytes values (writable .list)
 
   long : length bs ≡ slicesBits t
   long = length-slices t tail vs len
 
   held : heldFields t (frameOf t tail vs) ≡ vs
-  held = frame.held-frame t tail vs len (accepted.given-below t (t .command) byte bytes values (writable .value) small smalls)
+  held = frame.held-frame t tail vs len (writer.given-below t (t .command) byte bytes values (writable .value) small smalls)
 
   clear : rows.Clear (writeTable t tail byte bytes values room)
   unfolding writeRefusal

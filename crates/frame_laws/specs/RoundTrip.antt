@@ -5,7 +5,7 @@ use mathlib.Core.List.{List}
 use lib.ListN.{length, take}
 use Rattle.bits.specs.Bits.{over}
 use Rattle.frames.specs.Frames.{fieldCount}
-use Rattle.frames.specs.Writing.{written, writtenOut}
+use Rattle.frame_writer.specs.Writing.{written, writtenOut}
 use Rattle.frames.specs.Reading.{found, bytesFound, valuesFound, read, readBytes, readValues}
 use Rattle.frames.specs.declared.told.Told.{Told}
 use Rattle.frames.specs.declared.told.Tail.{Tail}

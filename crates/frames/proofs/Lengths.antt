@@ -1,16 +1,15 @@
 -- Lengths: slices and fields go by cases over rows and commands, and what is small fits. Assumes nothing.
 use mathlib.Core.Path.{_≡_, refl, sym, ap, _∙_}
-use Prim.Native.Nat.{ℕ, _+_, _*_, _/_, _%_, _^_, _<_, _≤_}
+use Prim.Native.Nat.{ℕ, _+_, _*_, _/_, _%_, _<_, _≤_}
 use native.Mathlib.Nat.{mod-lt, mul-assoc, mul-left-comm, mul-mod-right, mul-le-mul-left, mul-le-mul-right}
 use native.Mathlib.Omega.{arith}
 use lib.ListN.{getD}
 use Rattle.bits.specs.Bits.{bytesFor}
 use Rattle.parts.specs.Parts.{max6974, max6975, partOf, multiplex, glb4, subframes, fieldWidth, sliceFields, sliceBits}
-use Rattle.parts.proofs.Laws.{each-row, code-lt}
+use Rattle.parts.proofs.Laws.{each-row}
 use Rattle.parts.specs.declared.command.Command.{Command}
 use Rattle.parts.specs.declared.command.Command.the-variants.{Individual, Calibration, Global, Configuration}
 use Rattle.frames.specs.Frames.{fieldCount, fieldBits, slicesBits, frameLength}
-use Rattle.frames.specs.Writing.{headerNumber}
 use Rattle.frames.specs.declared.told.Told.{Told}
 use Rattle.frames.specs.declared.told.Tail.{Tail}
 use Rattle.frames.proofs.Tests.{below-all}
@@ -78,6 +77,3 @@ pub subframes-small : (n g : ℕ) → subframes (partOf n) g < 256
 subframes-small n g =
     each-row (λ p. (i : ℕ) → getD (p .subframesBy) i 0 < 256) (below-all (max6974 .subframesBy) 256 (omega arith) refl)
     (below-all (max6975 .subframesBy) 256 (omega arith) refl) n (multiplex g + 2 * glb4 g)
-
-pub header-small : (c : Command) → headerNumber c < 2 ^ 24
-header-small c = omega (arith, code-lt c)

@@ -1,5 +1,4 @@
--- What a frame is, and what the writer, the reader and the return reader answer, for any input.
+-- What a frame is, and what the reader and the return reader answer, for any input.
 pub mod Frames
-pub mod Writing
 pub mod Reading
 pub mod Returns

@@ -11,10 +11,9 @@ use parts::Command;
 
 // A tail has bits above its length.
 pub fn is_tail_high(tail: Tail) -> bool
-    requires { ⌜ tail .length ≤ 64 ⌝ }
     ensures { λ r. ⌜ r ≡ tailHigh tail ⌝ }
 {
-    if tail.length == 64 {
+    if 64 <= tail.length {
         return false;
     }
     0 < tail.number >> tail.length

@@ -1,6 +1,8 @@
 // How many fields, bits and bytes a told frame has.
 ghost use mathlib.Core.Path.{_≡_};
+ghost use mathlib.Core.Bool.{_&&_, cond};
 ghost use Prim.Native.Nat.{_<_, _≤_};
+ghost use lib.Dec.{ltb, leb};
 ghost use Rattle.frames.specs.Frames.{fieldCount, slicesBits, frameLength};
 use crate::told::Tail;
 use crate::told::Told;
@@ -29,4 +31,27 @@ pub fn frame_length(told: Told, tail: Tail) -> usize
     ensures { λ r. ⌜ r ≡ frameLength told tail ⌝ }
 {
     (24 + slices_bits(told) + (tail.length as usize) + 7) / 8
+}
+
+// The fields of all slices, for any N: 0 where it is refused.
+pub fn told_fields(told: Told) -> usize
+    ensures { λ r. ⌜ r ≡ cond (ltb (told .devices) 1024) (fieldCount told) 0 ⌝ }
+{
+    if told.devices >= 1024 {
+        return 0;
+    }
+    field_count(told)
+}
+
+// The bytes of the frame, for any N and any tail: 0 where one of them is refused.
+pub fn told_length(told: Told, tail: Tail) -> usize
+    ensures { λ r. ⌜ r ≡ cond (ltb (told .devices) 1024 && leb (tail .length) 64) (frameLength told tail) 0 ⌝ }
+{
+    if told.devices >= 1024 {
+        return 0;
+    }
+    if tail.length > 64 {
+        return 0;
+    }
+    frame_length(told, tail)
 }

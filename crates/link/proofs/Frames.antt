@@ -18,11 +18,11 @@ use Rattle.parts.specs.declared.command.Command.{Command}
 use Rattle.parts.specs.declared.command.Command.the-variants.{Individual, Calibration, Global, Configuration}
 use Rattle.line.specs.States as line
 use Rattle.frames.specs.Frames.{tailBits, frameBits, frameOf, frameLength}
-use Rattle.frames.specs.Writing.{settings}
+use Rattle.frame_writer.specs.Writing.{settings}
 use Rattle.frames.specs.declared.told.Tail.{Tail}
 use Rattle.frames.proofs.Lengths.{subframes-small}
-use Rattle.frames.proofs.Accepted.{length-given}
-use Rattle.frames.proofs.Accepted as accepted
+use Rattle.frame_writer.proofs.Writable.{length-given}
+use Rattle.frame_writer.proofs.Writable as writer
 use Rattle.frames.proofs.Pieces.{length-frameBits}
 use Rattle.registers.proofs.Below.{below-head}
 use Rattle.model.specs.Lists.{All}
@@ -44,8 +44,8 @@ take-bytes bs n e = ap (λ (l : List Bool). take n l) (bits-of-bytes bs) ∙ tak
 
 module _ {s : Set} {tail : Command → Tail} (w : Writable s tail) where
   -- what the writer accepts
-  pub taken : (c : Command) → accepted.Writable (told s c) (tail c) (byteOf s c) (s .calibration) (s .individual) (frameLength (told s c) (tail c))
-  taken c = accepted.writable (told s c) (tail c) (byteOf s c) (s .calibration) (s .individual) (frameLength (told s c) (tail c)) (w .accepted c)
+  pub taken : (c : Command) → writer.Writable (told s c) (tail c) (byteOf s c) (s .calibration) (s .individual) (frameLength (told s c) (tail c))
+  taken c = writer.writable (told s c) (tail c) (byteOf s c) (s .calibration) (s .individual) (frameLength (told s c) (tail c)) (w .accepted c)
 
   pub writable-proper : Proper s
   writable-proper =

@@ -12,7 +12,7 @@ use Rattle.parts.specs.declared.command.Command.{Command}
 use Rattle.parts.specs.declared.command.Command.the-variants.{Individual, Calibration, Global, Configuration}
 use Rattle.line.specs.States.{frameStates}
 use Rattle.frames.specs.Frames.{slicesBits, tailBits, frameOf, frameLength}
-use Rattle.frames.specs.Writing.{settings, writeRefusal}
+use Rattle.frame_writer.specs.Writing.{settings, writeRefusal}
 use Rattle.frames.specs.declared.told.Told.{Told}
 use Rattle.frames.specs.declared.told.Tail.{Tail}
 use Rattle.model.specs.Set.{Set, owned}

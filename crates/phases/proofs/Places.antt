@@ -1,6 +1,6 @@
 -- Phases and their numbers in the record: the round trip, and when two places are the same. By cases on the phase.
 -- Assumes nothing.
-use mathlib.Core.Path.{_≡_, refl, ap, sym}
+use mathlib.Core.Path.{_≡_, refl, ap}
 use mathlib.Core.Bool.{true}
 use Prim.Native.Nat.{_<_}
 use native.Mathlib.Nat.{mod-lt, mod-eq-of-lt}

@@ -107,7 +107,7 @@ fn frame_case(
     cases::bytes(should);
     cases::text(b", came out");
     let mut out = [0u8; 64];
-    match frames::write(told, tail, byte, bytes, values, &mut out) {
+    match frame_writer::write(told, tail, byte, bytes, values, &mut out) {
         Written::Refused(number) => {
             cases::refusal(number);
             cases::verdict(false);

@@ -127,7 +127,7 @@ fn case(name: &[u8], should: u8, came: u8) {
 
 fn write_refusal(told: Told, tail: Tail, byte: u8, values: &[u16]) -> u8 {
     let mut out = [0u8; 64];
-    match frames::write(told, tail, byte, b"", values, &mut out) {
+    match frame_writer::write(told, tail, byte, b"", values, &mut out) {
         Written::Bytes(_) => 0,
         Written::Refused(number) => number,
     }

@@ -76,7 +76,7 @@ fn load(chain: [Device; 3], configuration: u8, values: &[u16], count: usize) -> 
 fn send(chain: [Device; 3], command: Command, configuration: u8, values: &[u16]) -> [Device; 3] {
     let told = frame_of(6974, 3, command, configuration);
     let mut frame = [0u8; 219];
-    let written = frames::write(told, no_tail(), configuration, b"", values, &mut frame);
+    let written = frame_writer::write(told, no_tail(), configuration, b"", values, &mut frame);
     let Written::Bytes(n) = written else {
         return chain;
     };

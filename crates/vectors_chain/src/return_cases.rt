@@ -23,7 +23,7 @@ pub fn run() {
     let tail = tail_of(0xA5, 8);
     let bytes = b"\xA9\x10\x01\xA9\x10\x01\xA9\x10\x01";
     let mut frame = [0u8; 13];
-    frames::write(told, tail, 0, bytes, &[0u16; 1], &mut frame);
+    frame_writer::write(told, tail, 0, bytes, &[0u16; 1], &mut frame);
     let mut states = [0u8; 104];
     line::frame_states(&frame, 104, &mut states);
     let mut returned = [0u8; 127];
@@ -44,7 +44,7 @@ pub fn run() {
 pub fn run_joined() {
     let told = frame_of(6974, 1023, Command::Configuration, 0);
     let mut frame = [0u8; 3072];
-    frames::write(told, no_tail(), 0, b"", &[0u16; 1], &mut frame);
+    frame_writer::write(told, no_tail(), 0, b"", &[0u16; 1], &mut frame);
     let mut states = [0u8; 24576];
     line::frame_states(&frame, 24576, &mut states);
     let end = least(join(&mut states, 24576, 341), 24576);

@@ -1,14 +1,19 @@
--- A shift by the length leaves something exactly when bits stand above it; a length of 64 leaves no room for one.
+-- A shift by the length leaves something exactly when bits stand above it; a length of 64 or more leaves no room for one.
 use borrow.Author.Needs.{needs}
 use Rattle.frames.proofs.judge.is_tail_high.Statement.{statement}
 use Rattle.frames.proofs.judge.is_tail_high.Tie as tie
-use Prim.Native.Nat.{_^_}
+use Prim.Native.Nat.{_^_, _<_}
+use native.Mathlib.Nat.{lt-of-lt-of-le}
+use lib.Pow.{pow-mono}
 use native.Mathlib.Omega.{arith}
 use borrow.Author.Tests.{lt-ltb}
 use Rattle.frames.proofs.Tests as tests
 
 returns : tie.Need-returns
-returns c = rw (c .if1 .taken, lt-ltb (c .before .before .args .tail .number) (2 ^ 64) (omega arith))
+returns c =
+    let tail = c .before .before .args .tail in
+    let b : tail .number < 2 ^ 64 = omega arith in
+    rw (lt-ltb (tail .number) (2 ^ tail .length) (lt-of-lt-of-le b (pow-mono (c .if1 .taken))))
 
 cast-result : tie.Need-cast-result
 cast-result c = search needs

@@ -1,0 +1,2 @@
+-- What the frame writer answers, for any input.
+pub mod Writing

@@ -58,13 +58,13 @@ sum-next : (a t k : ℕ) → a + k + t * k ≡ a + suc t * k
 sum-next a t k = omega (arith, suc-mul t k)
 
 module _ (p : Part) (bytes values : List ℕ) (ds : List Device) where
-  -- the devices' own from a place on, and the answer of those
-  abbrev from : ℕ → ℕ → ℕ → ℕ → ℕ → ℕ → ℕ → Compared
-  from configuration global left index b v n =
-      difference n (deal p left configuration global (drop b bytes) (drop v values)) (drop index ds)
+  -- the answer of the devices from where a search stands, so many of them
+  abbrev from : Search → ℕ → Compared
+  from s left =
+      difference (suc (s .index)) (deal p left (s .configuration) (s .global) (drop (s .bytes) bytes) (drop (s .values) values)) (drop (s .index) ds)
 
   abbrev rest : Search → Compared
-  rest s = cond (s .going) (from (s .configuration) (s .global) (s .devices - s .index) (s .index) (s .bytes) (s .values) (suc (s .index))) (s .answer)
+  rest s = cond (s .going) (from s (s .devices - s .index)) (s .answer)
 
   -- t devices are left
   pub record Live (t : ℕ) (s : Search) : Type 0 where
@@ -86,7 +86,7 @@ module _ (p : Part) (bytes values : List ℕ) (ds : List Device) where
 
   pub stands-end : (t : ℕ) (fin : Compared) (s : Search) → Stands t fin s → s .going ≡ false → s .answer ≡ fin
   stands-end t fin s st e =
-      ap (λ (b : Bool). cond b (from (s .configuration) (s .global) (s .devices - s .index) (s .index) (s .bytes) (s .values) (suc (s .index))) (s .answer)) (sym e)
+      ap (λ (b : Bool). cond b (from s (s .devices - s .index)) (s .answer)) (sym e)
       ∙ st .answered
 
   module _ (t : ℕ) (fin : Compared) (s : Search) (st : Stands (suc t) fin s) (e : s .going ≡ true) where
@@ -120,7 +120,8 @@ module _ (p : Part) (bytes values : List ℕ) (ds : List Device) where
         }
 
     abbrev after : ℕ → ℕ → Compared
-    after banks fields = from (s .configuration) (s .global) t (s .index + 1) (s .bytes + banks) (s .values + fields) (suc (s .index + 1))
+    after banks fields =
+        difference (suc (s .index + 1)) (deal p t (s .configuration) (s .global) (drop (s .bytes + banks) bytes) (drop (s .values + fields) values)) (drop (s .index + 1) ds)
 
     abbrev whole : ℕ → ℕ → Compared
     whole banks fields = inGroups (s .index + 1) 1 (groups (own banks fields) d) (after banks fields)
@@ -143,8 +144,8 @@ module _ (p : Part) (bytes values : List ℕ) (ds : List Device) where
         ∙ turn
         ∙ ap (λ (n : ℕ). difference n (deal p (suc t) (s .configuration) (s .global) (drop (s .bytes) bytes) (drop (s .values) values)) (d ∷ drop (s .index + 1) ds)) (add-one (s .index))
         ∙ ap (λ (r : List Device). difference (suc (s .index)) (deal p (suc t) (s .configuration) (s .global) (drop (s .bytes) bytes) (drop (s .values) values)) r) now
-        ∙ ap (λ (n : ℕ). from (s .configuration) (s .global) n (s .index) (s .bytes) (s .values) (suc (s .index))) left
-        ∙ ap (λ (b : Bool). cond b (from (s .configuration) (s .global) (s .devices - s .index) (s .index) (s .bytes) (s .values) (suc (s .index))) (s .answer)) (sym e)
+        ∙ ap (from s) left
+        ∙ ap (λ (b : Bool). cond b (from s (s .devices - s .index)) (s .answer)) (sym e)
         ∙ st .answered
 
     settled : (b : Bool) → eqb (a .group) 0 ≡ b → cond b (after (s .banks) (s .fields)) a ≡ fin
@@ -156,15 +157,15 @@ module _ (p : Part) (bytes values : List ℕ) (ds : List Device) where
     onward-answered z = go (ltb (s .index + 1) (s .devices)) refl
       where
         go : (u : Bool) → ltb (s .index + 1) (s .devices) ≡ u
-            → cond u (from (s .configuration) (s .global) (s .devices - (s .index + 1)) (s .index + 1) (s .bytes + s .banks) (s .values + s .fields) (suc (s .index + 1))) a ≡ fin
+            → cond u (from (onward s a) (s .devices - (s .index + 1))) a ≡ fin
         go true f =
             let left : s .devices - (s .index + 1) ≡ t = omega (arith, here .left) in
-            ap (λ (n : ℕ). from (s .configuration) (s .global) n (s .index + 1) (s .bytes + s .banks) (s .values + s .fields) (suc (s .index + 1))) left
+            ap (from (onward s a)) left
             ∙ settled true z
         go false f =
             let none : 0 ≡ t = omega (arith, here .left, ltb-false (s .index + 1) (s .devices) f) in
             inGroups-same (s .index + 1) 0 (groups (own (s .banks) (s .fields)) d) z
-            ∙ ap (λ (n : ℕ). from (s .configuration) (s .global) n (s .index + 1) (s .bytes + s .banks) (s .values + s .fields) (suc (s .index + 1))) none
+            ∙ ap (from (onward s a)) none
             ∙ settled true z
 
     onward-live : ltb (s .index + 1) (s .devices) ≡ true → (0 < t) × Live t (onward s a)

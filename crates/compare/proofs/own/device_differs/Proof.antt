@@ -139,10 +139,11 @@ returns-4 c =
     let v = c .before .before in
     let g = v .before .before in
     let l = g .before .before .before in
+    let f = l .before .before .before .before .if1 .left in
     let s = from-values v in
     let k = value-found v in
     c .differs4 .ensures ∙ ap (λ (k : ℕ). compared 0 (number s) 4 k) k
-    ∙ individual-differs (number s) (own s) (s .args .device) (l .before .before .before .before .if1 .left) (calibration-same l) (g .if3 .left) (omega (arith, c .before .if4 .taken, k, fields s))
+    ∙ individual-differs (number s) (own s) (s .args .device) f (calibration-same l) (g .if3 .left) (omega (arith, c .before .if4 .taken, k, fields s))
 
 differs-requires-5 : tie.Need-differs-requires-5
 differs-requires-5 c κs = search needs
@@ -152,9 +153,10 @@ returns-5 c =
     let v = c .before .before in
     let g = v .before .before in
     let l = g .before .before .before in
+    let f = l .before .before .before .before .if1 .left in
     let s = from-values v in
     c .differs5 .ensures
-    ∙ none-differs (number s) (own s) (s .args .device) (l .before .before .before .before .if1 .left) (calibration-same l) (g .if3 .left) (omega (arith, c .before .if4 .left, value-found v, fields s))
+    ∙ none-differs (number s) (own s) (s .args .device) f (calibration-same l) (g .if3 .left) (omega (arith, c .before .if4 .left, value-found v, fields s))
 
 pub device-differs-spec : {M : Type 1} → statement M
 device-differs-spec =

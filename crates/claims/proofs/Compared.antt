@@ -27,18 +27,32 @@ use Rattle.compare.proofs.Found.{inGroups-none, begin-live}
 
 -- ---- the devices
 
-difference-holds : (n : ℕ) (os : List Own) (ds : List Device) → All Sized os → All Arrays ds → length os ≡ length ds → difference n os ds ≡ same → Both Holds os ds
+-- as many of one as of the other, each with lists of the lengths that it should have
+record Comparable (os : List Own) (ds : List Device) : Type 0 where
+  pub sized : All Sized os
+  pub arrays : All Arrays ds
+  pub lengths : length os ≡ length ds
+
+comparable-rest : {o : Own} {os : List Own} {d : Device} {ds : List Device} → Comparable (o ∷ os) (d ∷ ds) → Comparable os ds
+comparable-rest c = let l = c .lengths in record { sized = c .sized .1; arrays = c .arrays .1; lengths = omega (arith, l) }
+
+-- the first device, where none of its groups differs
+first-holds : (n : ℕ) (o : Own) (os : List Own) (d : Device) (ds : List Device) → Comparable (o ∷ os) (d ∷ ds) → eqb (inGroups n 1 (groups o d) same .group) 0 ≡ true → Holds o d
+first-holds n o os d ds c f =
+    equal-holds o d (c .sized .0) (c .arrays .0) (groups-equal n 0 (groups o d) (sides o d (c .sized .0) (c .arrays .0)) f)
+
+difference-holds : (n : ℕ) (os : List Own) (ds : List Device) → Comparable os ds → difference n os ds ≡ same → Both Holds os ds
 unfolding difference
-difference-holds n [] [] s r l e = tt
-difference-holds n [] (d ∷ ds) s r l e = absurd (omega (arith, l))
-difference-holds n (o ∷ os) [] s r l e = absurd (omega (arith, l))
-difference-holds n (o ∷ os) (d ∷ ds) s r l e =
-    go (eqb (inGroups n 1 (groups o d) same .group) 0) refl (difference-holds (suc n) os ds (s .1) (r .1) (omega (arith, l)))
+difference-holds n [] [] c e = tt
+difference-holds n [] (d ∷ ds) c e = absurd (omega (arith, c .lengths))
+difference-holds n (o ∷ os) [] c e = absurd (omega (arith, c .lengths))
+difference-holds n (o ∷ os) (d ∷ ds) c e =
+    go (eqb (inGroups n 1 (groups o d) same .group) 0) refl (difference-holds (suc n) os ds (comparable-rest c))
     (sym (inGroups-none n 0 (groups o d) (difference (suc n) os ds)) ∙ e)
   where
     go : (b : Bool) → eqb (inGroups n 1 (groups o d) same .group) 0 ≡ b → (difference (suc n) os ds ≡ same → Both Holds os ds)
         → cond b (difference (suc n) os ds) (inGroups n 1 (groups o d) same) ≡ same → Holds o d × Both Holds os ds
-    go true f ih z = (equal-holds o d (s .0) (r .0) (groups-equal n 0 (groups o d) (sides o d (s .0) (r .0)) f), ih z)
+    go true f ih z = (first-holds n o os d ds c f, ih z)
     go false f ih z = absurd (eqb-false (inGroups n 1 (groups o d) same .group) 0 f (ap (λ (a : Compared). a .group) z))
 
 holds-difference : (n : ℕ) (os : List Own) (ds : List Device) → All Sized os → Both Holds os ds → difference n os ds ≡ same
@@ -54,13 +68,13 @@ record DeviceAt (n : ℕ) (z : Own) (os : List Own) (ds : List Device) (a : Comp
   pub before : Both Holds (take i os) (take i ds)
   pub group : GroupAt (n + i) 0 (groups (getD os i z) (getD ds i blank)) a h
 
-device-named : {A : Type 0} (z : Own) (n : ℕ) (os : List Own) (ds : List Device) → All Sized os → All Arrays ds → length os ≡ length ds
+device-named : {A : Type 0} (z : Own) (n : ℕ) (os : List Own) (ds : List Device) → Comparable os ds
     → (difference n os ds ≡ same → ⊥) → ((i h : ℕ) → DeviceAt n z os ds (difference n os ds) i h → A) → A
 unfolding difference
-device-named z n [] ds s r l e k = absurd (e refl)
-device-named z n (o ∷ os) [] s r l e k = absurd (omega (arith, l))
-device-named {A} z n (o ∷ os) (d ∷ ds) s r l e k =
-    go (eqb (inGroups n 1 (groups o d) same .group) 0) refl (device-named z (suc n) os ds (s .1) (r .1) (omega (arith, l)))
+device-named z n [] ds c e k = absurd (e refl)
+device-named z n (o ∷ os) [] c e k = absurd (omega (arith, c .lengths))
+device-named {A} z n (o ∷ os) (d ∷ ds) c e k =
+    go (eqb (inGroups n 1 (groups o d) same .group) 0) refl (device-named z (suc n) os ds (comparable-rest c))
   where
     apart : difference n (o ∷ os) (d ∷ ds) ≡ cond (eqb (inGroups n 1 (groups o d) same .group) 0) (difference (suc n) os ds) (inGroups n 1 (groups o d) same)
     apart = inGroups-none n 0 (groups o d) (difference (suc n) os ds)
@@ -75,12 +89,12 @@ device-named {A} z n (o ∷ os) (d ∷ ds) s r l e k =
         let m : suc n + i ≡ n + suc i = omega arith in
         k (suc i) h (record {
           inside = omega (arith, q .inside);
-          before = (equal-holds o d (s .0) (r .0) (groups-equal n 0 (groups o d) (sides o d (s .0) (r .0)) f), q .before);
+          before = (first-holds n o os d ds c f, q .before);
           group = subst (λ (u : ℕ). GroupAt u 0 (groups (getD os i z) (getD ds i blank)) (difference n (o ∷ os) (d ∷ ds)) h) m
               (subst (λ (a : Compared). GroupAt (suc n + i) 0 (groups (getD os i z) (getD ds i blank)) a h) (sym (by true f)) (q .group));
         }))
     go false f ih =
-        group-named n 0 (groups o d) (sides o d (s .0) (r .0)) f (λ h q.
+        group-named n 0 (groups o d) (sides o d (c .sized .0) (c .arrays .0)) f (λ h q.
         let m : n ≡ n + 0 = omega arith in
         k 0 h (record {
           inside = omega arith;
@@ -121,13 +135,16 @@ module _ (s : Set) (ds : List Device) where
         zero-plus : (n : ℕ) → 0 + n ≡ n
         zero-plus n = omega arith
 
-    lengths : length os ≡ length ds
-    lengths = length-owned s ∙ begin-live (given (s .part) (s .devices) (s .configuration) (s .global)) (s .calibration) (s .individual) ds e .1 .devices
+    long : length os ≡ length ds
+    long = length-owned s ∙ begin-live (given (s .part) (s .devices) (s .configuration) (s .global)) (s .calibration) (s .individual) ds e .1 .devices
+
+    comparable : All Arrays ds → Comparable os ds
+    comparable r = record { sized = sized; arrays = r; lengths = long }
 
 pub same-holds : SameHolds
 same-holds s ds r e =
     let a : compareRefusal s ds ≡ 0 = same-accepted s ds e in
-    difference-holds 1 (owned s) ds (sized s ds a) r (lengths s ds a)
+    difference-holds 1 (owned s) ds (comparable s ds a r)
     (sym (accepted s ds a) ∙ e)
 
 pub holds-same : HoldsSame
@@ -159,7 +176,7 @@ first-named z os ds a i h q =
 
 pub named : Named
 named s ds z r a n =
-    device-named z 1 (owned s) ds (sized s ds a) r (lengths s ds a)
+    device-named z 1 (owned s) ds (comparable s ds a r)
     (λ q. n (accepted s ds a ∙ q))
     (λ i h q. subst (λ (c : Compared). FirstDifference c z (owned s) ds) (sym (accepted s ds a))
     (first-named z (owned s) ds (difference 1 (owned s) ds) i h q))

@@ -98,7 +98,7 @@ high-same r (Counting c read) s h e b g =
     ∙ counting-same r c read (s % 2) (leb-true 1 read (f .0)) (ltb-true read 1024 (f .1)) (mod-lt s (lit< tt))
 high-same r (Slice c n t) s h e b g =
     let f = and-both (ltb n 1024) (ltb t (sliceLength r c)) (g .1) in
-    slice-same r c n t (s % 2) (mod-lt s (lit< tt)) (ltb-true t (sliceLength r c) (f .1)) e b
+    slice-same r c n t (s % 2) (record { small = mod-lt s (lit< tt); room = ltb-true t (sliceLength r c) (f .1); slots = e; below = b })
 high-same r Passing s h e b g = seen-sending r Passing (One s) (lit< tt) ∙ rw (line-high s h) (passing-same r (eqb (s % 2) 1))
 high-same r Lost s h e b g = seen-sending r Lost Nothing (lit< tt) ∙ lost-same r (eqb (s % 2) 1)
 

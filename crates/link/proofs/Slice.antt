@@ -129,7 +129,14 @@ header-same : (c : Command) (n : ℕ) → map lineOf (sentStates (Header c n)) �
 unfolding headerStates
 header-same c n = lines-states (clocked (header c n))
 
-module _ (r : Registers) (c : Command) (n t bit : ℕ) (small : bit < 2) (room : t < sliceLength r c) (h : length (r .slice) ≡ 48) (b : Below r) where
+-- a bit of a slice that is not yet whole, in a record that the view speaks of
+pub record Coming (r : Registers) (c : Command) (t bit : ℕ) : Type 0 where
+  pub small : bit < 2
+  pub room : t < sliceLength r c
+  pub slots : length (r .slice) ≡ 48
+  pub below : Below r
+
+module _ (r : Registers) (c : Command) (n t bit : ℕ) (x : Coming r c t bit) where
   abbrev w : ℕ
   w = fieldWidth (partOf (r .part)) c
 
@@ -152,7 +159,7 @@ module _ (r : Registers) (c : Command) (n t bit : ℕ) (small : bit < 2) (room :
   fit-slots Configuration = rw (banks-three (r .part)) (omega arith)
 
   bits-next : gotten w (next-r .slice) (t + 1) ≡ gotten w (r .slice) t ++ eqb bit 1 ∷ []
-  bits-next = gotten-next w bit (field-width-pos c (r .part)) small (r .slice) t (rw h (omega (arith, fit-slots c)))
+  bits-next = gotten-next w bit (field-width-pos c (r .part)) (x .small) (r .slice) t (rw (x .slots) (omega (arith, x .room, fit-slots c)))
 
   pub slice-same : seen (collected r c n t bit) ≡ stepDevice (viewed r (Slice c n t)) (high (eqb bit 1))
   slice-same = go (ltb (t + 1) all) refl
@@ -166,9 +173,9 @@ module _ (r : Registers) (c : Command) (n t bit : ℕ) (small : bit < 2) (room :
           ∙ rw bits-next (sym (take-more (registersOf r) (slice c n) (all - suc t) (all - suc (t + 1)) (gotten w (r .slice) t) (eqb bit 1) (omega arith)))
       go false e =
           let l = ltb-false (t + 1) all e in
-          let q : t + 1 ≡ all = omega arith in
-          let x : gotten w (next-r .slice) all ≡ gotten w (r .slice) t ++ eqb bit 1 ∷ [] = rw q at bits-next in
-          let y = load-same next-r (simp length-set h) (took-below r c (t / w) bit b) c in
+          let q : t + 1 ≡ all = omega (arith, x .room) in
+          let m : gotten w (next-r .slice) all ≡ gotten w (r .slice) t ++ eqb bit 1 ∷ [] = rw q at bits-next in
+          let y = load-same next-r (simp length-set (x .slots)) (took-below r c (t / w) bit (x .below)) c in
           seen-sending (stored next-r c) Passing (Header c (raised n (fault next-r c))) (lit< tt)
-          ∙ rw (header-same c (raised n (fault next-r c)), fault-took r (t / w) bit (fieldLimit (partOf (r .part)) c) c, y, x, ← raised-same n (fault r c), ← fault-same r c)
+          ∙ rw (header-same c (raised n (fault next-r c)), fault-took r (t / w) bit (fieldLimit (partOf (r .part)) c) c, y, m, ← raised-same n (fault r c), ← fault-same r c)
           (sym (take-last (registersOf r) (slice c n) (all - suc t) (gotten w (r .slice) t) (eqb bit 1) (omega arith)))

@@ -14,7 +14,8 @@ use borrow.Author.Tests.{le-leb, lt-leb}
 use Rattle.parts.specs.Wire.{Line, low, high, lows, highs, frame}
 use Rattle.parts.specs.declared.command.Command.{Command}
 use Rattle.machine.specs.Machine.{run}
-use Rattle.model.specs.Device.{Registers, Device, Phase, hunting, lost, taking, passing, Field, command, count, slice, at, sliceLength, load, fault, counted, headerStates, frameStates, stepDevice, runDevice, runChain, registersIn}
+use Rattle.model.specs.Device.{Registers, Device, Phase, hunting, lost, taking, passing, Field, command, count, slice, at}
+use Rattle.model.specs.Device.{sliceLength, load, fault, counted, headerStates, frameStates, stepDevice, runDevice, runChain, registersIn}
 use Rattle.model.specs.Restore.{Piece, pieceStates}
 use Rattle.model.proofs.Lists.{take-append, take-map, append-nil-left, append-nil-right, leb-same}
 use Rattle.machine.proofs.Machine.{run-append, chain-cons, chain-empty, chain-nil, chain-append, chain-silent}

@@ -14,7 +14,8 @@ use Rattle.parts.specs.declared.command.Command.{Command}
 use Rattle.parts.specs.declared.command.Command.the-variants.{Individual, Calibration, Global, Configuration}
 use Rattle.model.specs.Lists.{Both, howMany}
 use Rattle.machine.specs.Machine.{run, chain}
-use Rattle.model.specs.Device.{Registers, Device, Phase, hunting, taking, passing, Field, command, count, slice, at, sliceLength, load, fault, faults, counted, finish, headerStates, frameStates, stepDevice, runDevice, runChain, registersIn, window}
+use Rattle.model.specs.Device.{Registers, Device, Phase, hunting, taking, passing, Field, command, count, slice, at}
+use Rattle.model.specs.Device.{sliceLength, load, fault, faults, counted, finish, headerStates, frameStates, stepDevice, runDevice, runChain, registersIn, window}
 use Rattle.model.proofs.Lists.{howMany-cons}
 use Rattle.machine.proofs.Machine.{run-then, chain-cons, chain-nil}
 use Rattle.model.proofs.Wire.{pairs, header-states, frame-states}

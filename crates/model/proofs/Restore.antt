@@ -14,7 +14,8 @@ use Rattle.parts.specs.declared.command.Command.{Command}
 use Rattle.parts.specs.declared.command.Command.the-variants.{Individual, Calibration, Global, Configuration}
 use Rattle.model.specs.Lists.{Both, howMany}
 use Rattle.machine.specs.Machine.{andThen}
-use Rattle.model.specs.Device.{Values, Registers, Device, at, sliceLength, multiplexed, withIndividual, load, fault, faults, activated, frameStates, stepDevice, runChain, boundary, registersIn}
+use Rattle.model.specs.Device.{Values, Registers, Device, at, sliceLength, multiplexed, withIndividual, load, fault, faults, activated}
+use Rattle.model.specs.Device.{frameStates, stepDevice, runChain, boundary, registersIn}
 use Rattle.model.specs.Set.{Own, OwnProper, sliceOf}
 use Rattle.model.specs.Restore.{Piece, pieceStates, pieceOf, piecesOf, returnsOf, InUse, RegistersHold}
 use Rattle.model.proofs.Lists.{both-map, howMany-le}

@@ -67,26 +67,27 @@ next-bit n k = rw (pow-succ' 2 k) (mod-mul n (lit< tt) (pow-pos k))
 high-load : (r : Registers) (p : Phase) (b : ℕ) → phaseOf (placeOf p) ≡ p → step (at r p) (b + 2) ≡ stepHigh r p (b + 2)
 high-load r p b e = let h : 2 ≤ b + 2 = omega arith in rw (le-ltb (b + 2) 2 h, e)
 
--- the count bits that are left, after m
-counted : (k : ℕ) (r : Registers) (c : Command) (n m v : ℕ) → v ≡ m * 2 ^ suc k + n % 2 ^ suc k → 1024 ≤ v → v < 2048
-    → run (at r (Counting c m)) (bitStates (suc k) n) ≡ (at r (Slice c (v % 1024) 0), [])
-unfolding machine.run stepRecord bitStates
-counted zero r c n m v e l u =
-    let b : n / 2 ^ 0 % 2 < 2 = mod-lt (n / 2 ^ 0) (lit< tt) in
-    let f : v ≡ m * 2 + n / 2 ^ 0 % 2 = omega arith in
-    let g : 1024 ≤ m * 2 + n / 2 ^ 0 % 2 = omega arith in
-    rw (high-load r (Counting c m) (n / 2 ^ 0 % 2) (count-place c m), high-bit (n / 2 ^ 0 % 2) b, le-ltb (m * 2 + n / 2 ^ 0 % 2) 1024 g, f)
-counted (suc k) r c n m v e l u =
-    let x = n / 2 ^ suc k % 2 in
-    let p = 2 ^ suc k in
-    let b : x < 2 = mod-lt (n / p) (lit< tt) in
-    let f : v ≡ (m * 2 + x) * p + n % p =
-    let e′ = rw (next-bit n (suc k), pow-succ' 2 (suc k)) at e in
-    rw (add-mul (m * 2) x p, mul-assoc m 2 p) (omega arith) in
-    let two : 2 ≤ p = rw (pow-succ' 2 k) (omega (arith, pow-pos k)) in
-    let g : m * 2 + x < 1024 = omega (arith, mul-le-mul-left (m * 2 + x) two) in
-    rw (high-load r (Counting c m) x (count-place c m), high-bit x b, lt-ltb (m * 2 + x) 1024 g)
-    (counted k r c n (m * 2 + x) v f l u)
+module _ (r : Registers) (c : Command) (n : ℕ) where
+  -- the count bits that are left, after m
+  counted : (k m v : ℕ) → v ≡ m * 2 ^ suc k + n % 2 ^ suc k → 1024 ≤ v → v < 2048
+      → run (at r (Counting c m)) (bitStates (suc k) n) ≡ (at r (Slice c (v % 1024) 0), [])
+  unfolding machine.run stepRecord bitStates
+  counted zero m v e l u =
+      let b : n / 2 ^ 0 % 2 < 2 = mod-lt (n / 2 ^ 0) (lit< tt) in
+      let f : v ≡ m * 2 + n / 2 ^ 0 % 2 = omega arith in
+      let g : 1024 ≤ m * 2 + n / 2 ^ 0 % 2 = omega arith in
+      rw (high-load r (Counting c m) (n / 2 ^ 0 % 2) (count-place c m), high-bit (n / 2 ^ 0 % 2) b, le-ltb (m * 2 + n / 2 ^ 0 % 2) 1024 g, f)
+  counted (suc k) m v e l u =
+      let x = n / 2 ^ suc k % 2 in
+      let p = 2 ^ suc k in
+      let b : x < 2 = mod-lt (n / p) (lit< tt) in
+      let f : v ≡ (m * 2 + x) * p + n % p =
+      let e′ = rw (next-bit n (suc k), pow-succ' 2 (suc k)) at e in
+      rw (add-mul (m * 2) x p, mul-assoc m 2 p) (omega arith) in
+      let two : 2 ≤ p = rw (pow-succ' 2 k) (omega (arith, pow-pos k)) in
+      let g : m * 2 + x < 1024 = omega (arith, mul-le-mul-left (m * 2 + x) two) in
+      rw (high-load r (Counting c m) x (count-place c m), high-bit x b, lt-ltb (m * 2 + x) 1024 g)
+      (counted k (m * 2 + x) v f l u)
 
 all-count : (n : ℕ) → n < 1024 → 1024 + n ≡ 1 * 2 ^ 10 + n % 2 ^ 10
 all-count n h = omega arith
@@ -97,4 +98,4 @@ low-count n h = omega arith
 pub run-header : (d : Device) (c : Command) (n : ℕ) → n < 1024 → run d (statesOf (header c n)) ≡ (sliceStart d c n, [])
 run-header d c n h =
     ap (λ (ss : List ℕ). run d ss) (header-parts c n) ∙ synced d _ ∙ commanded (d .registers) c (bitStates 10 n)
-    ∙ (rw (low-count n h) at (counted 9 (d .registers) c n 1 (1024 + n) (all-count n h) (omega arith) (omega arith)))
+    ∙ (rw (low-count n h) at (counted (d .registers) c n 9 1 (1024 + n) (all-count n h) (omega arith) (omega arith)))

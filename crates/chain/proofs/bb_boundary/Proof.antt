@@ -1,6 +1,12 @@
 -- `chain::bb_boundary` meets its contract: a walk of its MIR, by hand. Records are judged once; the loop is proofs/Loop's, each record is made by
 -- `boundary` of the one that stands there.
-use Rattle.calls.proofs.Walk.{_≡_, refl, sym, _∙_, ap, subst, ℕ, _<_, _^_, List, [], _∷_, length, URA, fullShare, named, w8, w64, tyBool, tyPtr, vint, Val, SProp, ent, emp, via, fst∗, Lft, GName, Share, ftrue, fat, flft, Memory, Routine, Heap, Out, Env, Wp, WpFn, Tables, afterSeq, afterBlock, afterTurn, atReturn, Atoms, fmOf, Given, Item, ‵, _⊛_, ⋆, anyQ, atRet, _$_, _∵_, !, qed, by, move, drop, split, join, rewrite, fsplit, fjoin, suffices, frame, done, whole, sub, look-in, agg, look, init, forget, stop, hop, fld, from, load, of-opd, and-then, no-more, addr, assigns, land, exec, returns, enter, alloc1, alloc0, params1, pass1, pass0, Fun, givenOf, tables, tablesOf, owns, Is, uint-makes, RefT, sliceTy, sliceVal, MutSlice, Room, finally, slice-vals, mut-slice-tells, row, plain, u8, onEntry, tripleOf, Contract, Triple, cited, nothing, owned, heard, says, Stays, gave-slice, walkOf, ends-at, walked, goes-gave-slice, word, byte, loop, id⊢}
+use Rattle.calls.proofs.Walk.{_≡_, refl, sym, _∙_, ap, subst, ℕ, _<_, _^_, List, [], _∷_, length, URA, fullShare, named, w8, w64, tyBool, tyPtr, vint, Val, SProp, ent}
+use Rattle.calls.proofs.Walk.{emp, via, fst∗, Lft, GName, Share, ftrue, fat, flft, Memory, Routine, Heap, Out, Env, Wp, WpFn, Tables, afterSeq, afterBlock, afterTurn}
+use Rattle.calls.proofs.Walk.{atReturn, Atoms, fmOf, Given, Item, ‵, _⊛_, ⋆, anyQ, atRet, _$_, _∵_, !, qed, by, move, drop, split, join, rewrite, fsplit, fjoin, suffices}
+use Rattle.calls.proofs.Walk.{frame, done, whole, sub, look-in, agg, look, init, forget, stop, hop, fld, from, load, of-opd, and-then, no-more, addr, assigns, land, exec}
+use Rattle.calls.proofs.Walk.{returns, enter, alloc1, alloc0, params1, pass1, pass0, Fun, givenOf, tables, tablesOf, owns, Is, uint-makes, RefT, sliceTy, sliceVal}
+use Rattle.calls.proofs.Walk.{MutSlice, Room, finally, slice-vals, mut-slice-tells, row, plain, u8, onEntry, tripleOf, Contract, Triple, cited, nothing, owned, heard}
+use Rattle.calls.proofs.Walk.{says, Stays, gave-slice, walkOf, ends-at, walked, goes-gave-slice, word, byte, loop, id⊢}
 use denote.Struct.Laws as LL
 use Rattle.device.specs.declared.device.Device.{Device}
 use Rattle.device.proofs.device.Device.Laws.{mir as dev}

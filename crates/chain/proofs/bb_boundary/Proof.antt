@@ -23,8 +23,8 @@ use Rattle.calls.specs.declared.changes.Span.{Span}
 use Rattle.calls.proofs.Dev.{D, val, vals, tells, made, lawful}
 use Rattle.calls.proofs.Lent.{ref, sl, opened, final, free, calls-plain, free-all, closes}
 use Rattle.chain.proofs.Sweep.{sweep-none, length-sweep, turnsOf, Within, at-first}
-use Rattle.chain.proofs.Loop.{sliceD, refI, sval, SIs, Locals, Source, local, Swept, found-at, Goes, Reading, Storing, At, Tested, Read, Unread, Stores, Leaves, read, sweeps}
-use package.mir.Syntax.{place, copy, Body, seq, call}
+use Rattle.chain.proofs.Loop.{sliceD, refI, sval, SIs, Locals, Source, local, Swept, found-at, Goes, rest-of, Reading, At, Tested, Read, Unread, Stores, Leaves, read, sweeps}
+use package.mir.Syntax.{Body}
 use Rattle.calls.proofs.changes.Span as Sp
 use Rattle.calls.proofs.changes.Span.Laws as Sp′
 use Rattle.device.proofs.device.Device.boundary as step
@@ -105,8 +105,9 @@ module _ {M : Type 1} (𝓤 : URA M) (H : Heap 𝓤) (A : Atoms 𝓤) (W : Given
     abbrev Γ : List (Item 𝓤)
     Γ = free word l₇ (free (sliceTy refI) l₆ (free refI l₅ (free J′.mir l₂ (free byte l₀ []))))
 
+    -- the call that makes the record, and what follows it
     abbrev Calling : Body
-    Calling = seq (call #step (copy (place 12 []) ∷ []) (place 9 [])) (Storing L)
+    Calling = rest-of (rest-of (rest-of (rest-of (rest-of m.turn-1))))
 
     abbrev Left : Out → SProp 𝓤
     Left = afterBlock 𝓤 H (afterSeq 𝓤 H (Wp 𝓤 H (𝓣 .C) (𝓣 .Λ) E m.t-8 (atReturn 𝓤 H E Post)) (atReturn 𝓤 H E Post))

@@ -19,8 +19,8 @@ use Rattle.calls.specs.declared.changes.Span.{Span}
 use Rattle.calls.proofs.Dev.{D, val, tells, lawful}
 use Rattle.calls.proofs.Lent.{ref, sl, opened, final, hold, free, calls-plain, free-all, closes}
 use Rattle.chain.proofs.Sweep.{sweep-none, length-sweep, turnsOf, Within, at-first}
-use Rattle.chain.proofs.Loop.{sliceD, sval, SIs, Locals, local, Swept, Goes, Storing, At, Tested, Stores, Leaves, sweeps}
-use package.mir.Syntax.{place, copy, Body, seq, call}
+use Rattle.chain.proofs.Loop.{sliceD, sval, SIs, Locals, local, Swept, Goes, rest-of, At, Tested, Stores, Leaves, sweeps}
+use package.mir.Syntax.{Body}
 use Rattle.calls.proofs.changes.Span as Sp
 use Rattle.calls.proofs.changes.Span.Laws as Sp′
 use Rattle.device.proofs.device.Device.fresh as step
@@ -94,8 +94,9 @@ module _ {M : Type 1} (𝓤 : URA M) (H : Heap 𝓤) (A : Atoms 𝓤) (W : Given
     abbrev Γ : List (Item 𝓤)
     Γ = free word l₅ (hold (tyInt w16) l₂ (vint w16 part) (free byte l₀ []))
 
+    -- the call that makes the record, and what follows it
     abbrev Calling : Body
-    Calling = seq (call #step (copy (place 2 []) ∷ []) (place 7 [])) (Storing L)
+    Calling = rest-of (rest-of m.turn-1)
 
     abbrev Left : Out → SProp 𝓤
     Left = afterBlock 𝓤 H (afterSeq 𝓤 H (Wp 𝓤 H (𝓣 .C) (𝓣 .Λ) E m.t-5 (atReturn 𝓤 H E Post)) (atReturn 𝓤 H E Post))

@@ -1,4 +1,5 @@
--- The record's row and its laws, under short names: each is the generated module's. A Device is plain data, so what it owns is made anew wherever it is asked for (`made`), and it is read through a `&[Device]` (`copied`).
+-- The record's row and its laws, under short names: each is the generated module's. A Device is plain data, so what it owns is made anew
+-- wherever it is asked for (`made`), and it is read through a `&[Device]` (`copied`).
 use Prim.Native.Nat.{ℕ, _+_, _<_, _*_, _^_}
 use native.Mathlib.Omega.{arith}
 use mathlib.Core.List.{List, [], _∷_}

@@ -1,5 +1,6 @@
--- A slice that a function was lent, as a row of elements in memory. A walk opens each `&mut [T]` once, at entry, and shuts it once, before it returns. In between the slice is `row`, memory of the walk's own:
--- an element is read and written there (`Dev.antt`'s `out`, `into`), and the row is lent on for a call and comes back (`lends`, `returned`). It says nothing of the crate, and holds for any T.
+-- A slice that a function was lent, as a row of elements in memory. A walk opens each `&mut [T]` once, at entry, and shuts it once, before it
+-- returns. In between the slice is `row`, memory of the walk's own: an element is read and written there (`Dev.antt`'s `out`, `into`), and the
+-- row is lent on for a call and comes back (`lends`, `returned`). It says nothing of the crate, and holds for any T.
 --     ref b o γ ys         the reference's value.        sl b o n     its machine value
 --     Open                 what is kept while a `&κ mut [T]` is open, one item
 --     opened, final        own (the `&κ mut [T]` at ys) ∗ [κ]_q  becomes  row ys ∗ Open;  row zs ∗ Open  becomes  finally zs ∗ [κ]_q, zs as long as ys. `finally` is what `gave-slice` has at exit

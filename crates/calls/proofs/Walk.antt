@@ -1,4 +1,4 @@
--- The names that a walk cites, passed on, so that a proof has one `use` line for them. The line may be copied whole: a name that a proof does not use costs nothing.
+-- The names that a walk cites, passed on, so that a proof finds them in one place.
 pub use mathlib.Core.Path.{_≡_, refl, sym, _∙_, ap, subst}
 pub use Prim.Native.Nat.{ℕ, zero, suc, _+_, _-_, _*_, _<_, _≤_, _^_}
 pub use native.Mathlib.Nat.{lt-irrefl}

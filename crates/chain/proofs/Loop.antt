@@ -2,8 +2,12 @@
 -- stored there, and the index grows by one. It holds for any function that has such a loop, whatever its locals: `Locals` says which of them the
 -- loop uses. How the record is made is the function's own part (`sweeps`'s `make`); where it is made of the record that stands there, `read`
 -- walks the reading.
-use Rattle.calls.proofs.Walk.{_≡_, refl, sym, _∙_, ap, subst, ℕ, zero, suc, _+_, _*_, _<_, _^_, arith, Bool, true, List, [], _∷_, length, getD, set, URA, fullShare, Ty, named, erased, mut, imm, w64, tyBool, tyPtr, tyRef, vbool, vint, vptr, Val, SProp, ent, Lft, GName, Share, fat, Heap, Out, Env, Wp, Tables, afterTurn, Atoms, Given, Item, ‵, ⋆, anyQ, _$_, _∵_, !, qed, by, rewrite, whole, sub, look-in, look, look-raw, store, store-raw, init, forget, stop, hop, fld, from, load, lit, of-opd, bin, assigns, assigns-last, stays, leaves-loop, exec, pointee, Is, sliceTy, sliceVal, Room, row, word, loop}
-use package.mir.Syntax.{Step as PStep, deref, field, place, copy, int, rvOpd, op2, mul, add, lt, offset, unsigned, Body, skip, seq, assign, cond, exit}
+use Rattle.calls.proofs.Walk.{_≡_, refl, sym, _∙_, ap, subst, ℕ, zero, suc, _+_, _*_, _<_, _^_, arith, Bool, true, List, [], _∷_, length, getD, set, URA, fullShare, Ty}
+use Rattle.calls.proofs.Walk.{named, erased, mut, imm, w64, tyBool, tyPtr, tyRef, vbool, vint, vptr, Val, SProp, ent, Lft, GName, Share, fat, Heap, Out, Env, Wp, Tables}
+use Rattle.calls.proofs.Walk.{afterTurn, Atoms, Given, Item, ‵, ⋆, anyQ, _$_, _∵_, !, qed, by, rewrite, whole, sub, look-in, look, look-raw, store, store-raw, init}
+use Rattle.calls.proofs.Walk.{forget, stop, hop, fld, from, load, lit, of-opd, bin, assigns, assigns-last, stays, leaves-loop, exec, pointee, Is, sliceTy, sliceVal, Room}
+use Rattle.calls.proofs.Walk.{row, word, loop}
+use package.mir.Syntax.{Step as PStep, deref, field, place, copy, int, rvOpd, op2, mul, add, lt, offset, unsigned, Body, skip, seq, assign, block, cond, switch, exit, return, call}
 use prog.Wp.{Spot, spotOf, exits}
 use types.Run.{Walks, Finds}
 use borrow.Author.Tests.{lt-ltb, le-ltb}
@@ -81,6 +85,19 @@ abbrev pub Goes : Swept → ℕ → Type 0
 Goes Y k = place-of Y k < Y .span .to
 
 -- ---- the code, by the locals' numbers
+
+-- what follows the first statement
+abbrev pub rest-of : Body → Body
+rest-of (seq a b) = b
+rest-of skip = skip
+rest-of (assign p r) = skip
+rest-of (block b) = skip
+rest-of (loop b) = skip
+rest-of (cond c a b) = skip
+rest-of (switch c arms) = skip
+rest-of (exit n) = skip
+rest-of return = skip
+rest-of (call f xs d) = skip
 
 module _ {M : Type 1} {𝓤 : URA M} {H : Heap 𝓤} {E : Env 𝓤 H} (L : Locals 𝓤 H E) where
   abbrev pub Testing : Body → Body

@@ -1,6 +1,12 @@
 -- `chain::bb_boundary` meets its contract: a walk of its MIR, by hand. Records are judged once; the loop is proofs/Loop's, each record is made by
 -- `boundary` of the one that stands there.
-use Rattle.calls.proofs.Walk.{_≡_, refl, sym, _∙_, ap, subst, ℕ, _<_, _^_, List, [], _∷_, length, URA, fullShare, named, w8, w64, tyBool, tyPtr, vint, Val, SProp, ent, emp, via, fst∗, Lft, GName, Share, ftrue, fat, flft, Memory, Routine, Heap, Out, Env, Wp, WpFn, Tables, afterSeq, afterBlock, afterTurn, atReturn, Atoms, fmOf, Given, Item, ‵, _⊛_, ⋆, anyQ, atRet, _$_, _∵_, !, qed, by, move, drop, split, join, rewrite, fsplit, fjoin, suffices, frame, done, whole, sub, look-in, agg, look, init, forget, stop, hop, fld, from, load, of-opd, and-then, no-more, addr, assigns, land, exec, returns, enter, alloc1, alloc0, params1, pass1, pass0, Fun, givenOf, tables, tablesOf, owns, Is, uint-makes, RefT, sliceTy, sliceVal, MutSlice, Room, finally, slice-vals, mut-slice-tells, row, plain, u8, onEntry, tripleOf, Contract, Triple, cited, nothing, owned, heard, says, Stays, gave-slice, walkOf, ends-at, walked, goes-gave-slice, word, byte, loop, id⊢}
+use Rattle.calls.proofs.Walk.{_≡_, refl, sym, _∙_, ap, subst, ℕ, _<_, _^_, List, [], _∷_, length, URA, fullShare, named, w8, w64, tyBool, tyPtr, vint, Val, SProp, ent}
+use Rattle.calls.proofs.Walk.{emp, via, fst∗, Lft, GName, Share, ftrue, fat, flft, Memory, Routine, Heap, Out, Env, Wp, WpFn, Tables, afterSeq, afterBlock, afterTurn}
+use Rattle.calls.proofs.Walk.{atReturn, Atoms, fmOf, Given, Item, ‵, _⊛_, ⋆, anyQ, atRet, _$_, _∵_, !, qed, by, move, drop, split, join, rewrite, fsplit, fjoin, suffices}
+use Rattle.calls.proofs.Walk.{frame, done, whole, sub, look-in, agg, look, init, forget, stop, hop, fld, from, load, of-opd, and-then, no-more, addr, assigns, land, exec}
+use Rattle.calls.proofs.Walk.{returns, enter, alloc1, alloc0, params1, pass1, pass0, Fun, givenOf, tables, tablesOf, owns, Is, uint-makes, RefT, sliceTy, sliceVal}
+use Rattle.calls.proofs.Walk.{MutSlice, Room, finally, slice-vals, mut-slice-tells, row, plain, u8, onEntry, tripleOf, Contract, Triple, cited, nothing, owned, heard}
+use Rattle.calls.proofs.Walk.{says, Stays, gave-slice, walkOf, ends-at, walked, goes-gave-slice, word, byte, loop, id⊢}
 use denote.Struct.Laws as LL
 use Rattle.device.specs.declared.device.Device.{Device}
 use Rattle.device.proofs.device.Device.Laws.{mir as dev}
@@ -17,8 +23,8 @@ use Rattle.calls.specs.declared.changes.Span.{Span}
 use Rattle.calls.proofs.Dev.{D, val, vals, tells, made, lawful}
 use Rattle.calls.proofs.Lent.{ref, sl, opened, final, free, calls-plain, free-all, closes}
 use Rattle.chain.proofs.Sweep.{sweep-none, length-sweep, turnsOf, Within, at-first}
-use Rattle.chain.proofs.Loop.{sliceD, refI, sval, SIs, Locals, Source, local, Swept, found-at, Goes, Reading, Storing, At, Tested, Read, Unread, Stores, Leaves, read, sweeps}
-use package.mir.Syntax.{place, copy, Body, seq, call}
+use Rattle.chain.proofs.Loop.{sliceD, refI, sval, SIs, Locals, Source, local, Swept, found-at, Goes, rest-of, Reading, At, Tested, Read, Unread, Stores, Leaves, read, sweeps}
+use package.mir.Syntax.{Body}
 use Rattle.calls.proofs.changes.Span as Sp
 use Rattle.calls.proofs.changes.Span.Laws as Sp′
 use Rattle.device.proofs.device.Device.boundary as step
@@ -99,8 +105,9 @@ module _ {M : Type 1} (𝓤 : URA M) (H : Heap 𝓤) (A : Atoms 𝓤) (W : Given
     abbrev Γ : List (Item 𝓤)
     Γ = free word l₇ (free (sliceTy refI) l₆ (free refI l₅ (free J′.mir l₂ (free byte l₀ []))))
 
+    -- the call that makes the record, and what follows it
     abbrev Calling : Body
-    Calling = seq (call #step (copy (place 12 []) ∷ []) (place 9 [])) (Storing L)
+    Calling = rest-of (rest-of (rest-of (rest-of (rest-of m.turn-1))))
 
     abbrev Left : Out → SProp 𝓤
     Left = afterBlock 𝓤 H (afterSeq 𝓤 H (Wp 𝓤 H (𝓣 .C) (𝓣 .Λ) E m.t-8 (atReturn 𝓤 H E Post)) (atReturn 𝓤 H E Post))

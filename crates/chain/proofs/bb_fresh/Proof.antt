@@ -1,5 +1,12 @@
 -- `chain::bb_fresh` meets its contract: a walk of its MIR, by hand. The loop is proofs/Loop's; each record is made by `fresh`, whatever was there.
-use Rattle.calls.proofs.Walk.{_≡_, refl, sym, _∙_, ap, subst, ℕ, _<_, _^_, List, [], _∷_, length, URA, fullShare, named, w8, w16, w64, tyInt, tyBool, tyPtr, vint, Val, SProp, ent, emp, via, fst∗, Lft, GName, Share, ftrue, fat, flft, Memory, Routine, Heap, Out, Env, Wp, WpFn, Tables, afterSeq, afterBlock, afterTurn, atReturn, Atoms, fmOf, Given, Item, ‵, _⊛_, ⋆, anyQ, atRet, _$_, _∵_, !, qed, by, move, drop, split, join, rewrite, fsplit, fjoin, suffices, frame, done, whole, sub, look-in, look, init, forget, stop, fld, from, load, of-opd, and-then, no-more, assigns, land, exec, returns, enter, alloc1, alloc0, params1, pass1, pass0, Fun, givenOf, tables, tablesOf, yes, owns, Is, uint-vals, uint-tells, uint-makes, RefT, sliceVal, MutSlice, Room, finally, slice-vals, mut-slice-tells, row, plain, u8, u16, onEntry, tripleOf, Contract, Triple, cited, nothing, owned, heard, says, Stays, gave-slice, stay-dropped, walkOf, ends-at, walked, goes-gave-slice, goes-dropped, word, byte, loop, id⊢}
+use Rattle.calls.proofs.Walk.{_≡_, refl, sym, _∙_, ap, subst, ℕ, _<_, _^_, List, [], _∷_, length, URA, fullShare, named, w8, w16, w64, tyInt, tyBool, tyPtr, vint, Val}
+use Rattle.calls.proofs.Walk.{SProp, ent, emp, via, fst∗, Lft, GName, Share, ftrue, fat, flft, Memory, Routine, Heap, Out, Env, Wp, WpFn, Tables, afterSeq, afterBlock}
+use Rattle.calls.proofs.Walk.{afterTurn, atReturn, Atoms, fmOf, Given, Item, ‵, _⊛_, ⋆, anyQ, atRet, _$_, _∵_, !, qed, by, move, drop, split, join, rewrite, fsplit}
+use Rattle.calls.proofs.Walk.{fjoin, suffices, frame, done, whole, sub, look-in, look, init, forget, stop, fld, from, load, of-opd, and-then, no-more, assigns, land}
+use Rattle.calls.proofs.Walk.{exec, returns, enter, alloc1, alloc0, params1, pass1, pass0, Fun, givenOf, tables, tablesOf, yes, owns, Is, uint-vals, uint-tells}
+use Rattle.calls.proofs.Walk.{uint-makes, RefT, sliceVal, MutSlice, Room, finally, slice-vals, mut-slice-tells, row, plain, u8, u16, onEntry, tripleOf, Contract, Triple}
+use Rattle.calls.proofs.Walk.{cited, nothing, owned, heard, says, Stays, gave-slice, stay-dropped, walkOf, ends-at, walked, goes-gave-slice, goes-dropped, word, byte}
+use Rattle.calls.proofs.Walk.{loop, id⊢}
 use denote.Struct.Laws as LL
 use Rattle.device.specs.declared.device.Device.{Device}
 use Rattle.device.proofs.device.Device.Laws.{mir as dev}
@@ -12,8 +19,8 @@ use Rattle.calls.specs.declared.changes.Span.{Span}
 use Rattle.calls.proofs.Dev.{D, val, tells, lawful}
 use Rattle.calls.proofs.Lent.{ref, sl, opened, final, hold, free, calls-plain, free-all, closes}
 use Rattle.chain.proofs.Sweep.{sweep-none, length-sweep, turnsOf, Within, at-first}
-use Rattle.chain.proofs.Loop.{sliceD, sval, SIs, Locals, local, Swept, Goes, Storing, At, Tested, Stores, Leaves, sweeps}
-use package.mir.Syntax.{place, copy, Body, seq, call}
+use Rattle.chain.proofs.Loop.{sliceD, sval, SIs, Locals, local, Swept, Goes, rest-of, At, Tested, Stores, Leaves, sweeps}
+use package.mir.Syntax.{Body}
 use Rattle.calls.proofs.changes.Span as Sp
 use Rattle.calls.proofs.changes.Span.Laws as Sp′
 use Rattle.device.proofs.device.Device.fresh as step
@@ -87,8 +94,9 @@ module _ {M : Type 1} (𝓤 : URA M) (H : Heap 𝓤) (A : Atoms 𝓤) (W : Given
     abbrev Γ : List (Item 𝓤)
     Γ = free word l₅ (hold (tyInt w16) l₂ (vint w16 part) (free byte l₀ []))
 
+    -- the call that makes the record, and what follows it
     abbrev Calling : Body
-    Calling = seq (call #step (copy (place 2 []) ∷ []) (place 7 [])) (Storing L)
+    Calling = rest-of (rest-of m.turn-1)
 
     abbrev Left : Out → SProp 𝓤
     Left = afterBlock 𝓤 H (afterSeq 𝓤 H (Wp 𝓤 H (𝓣 .C) (𝓣 .Λ) E m.t-5 (atReturn 𝓤 H E Post)) (atReturn 𝓤 H E Post))

@@ -1,12 +1,17 @@
 -- `three::fault_three` meets its contract: a walk of its MIR, by hand. The array is taken apart into a row, lent to `bb_set_fault`, and read whole again.
-use Rattle.calls.proofs.Walk.{_≡_, refl, sym, _∙_, subst, ℕ, not, eqb, List, [], _∷_, length, lit<, URA, fullShare, named, erased, mut, w8, w64, tyRef, vint, Val, SProp, ent, emp, via, fst∗, GName, ftrue, fat, flft, Memory, Routine, Heap, WpFn, Tables, Atoms, fmOf, Given, Item, ‵, raw, _⊛_, ⋆, _$_, _∵_, !, qed, by, move, use1, drop, split, join, rewrite, fsplit, fjoin, feqL, suffices, frame, done, agg, look, init, forget, stop, from, load, lit, of-opd, and-then, no-more, addr, assigns, land, returns, enter, alloc1, alloc0, params1, pass1, pass0, free1, free0, Fun, givenOf, tables, tablesOf, yes, owns, pointee, Is, uint-vals, uint-tells, uint-makes, sliceTy, sliceVal, MutSlice, Room, row, plain, u8, usize, onEntry, tripleOf, Contract, Triple, cited, nothing, owned, heard, says, Stays, stay-dropped, walkOf, ends-at, walked, goes-dropped, id⊢}
+use Rattle.calls.proofs.Walk.{_≡_, refl, sym, _∙_, subst, ℕ, not, eqb, List, [], _∷_, length, lit<, URA, fullShare, named, erased, mut, w8, w64, tyRef, vint, Val, SProp}
+use Rattle.calls.proofs.Walk.{ent, emp, via, fst∗, GName, ftrue, fat, flft, Memory, Routine, Heap, WpFn, Tables, Atoms, fmOf, Given, Item, ‵, raw, _⊛_, ⋆, _$_, _∵_, ! }
+use Rattle.calls.proofs.Walk.{qed, by, move, use1, drop, split, join, rewrite, fsplit, fjoin, feqL, suffices, frame, done, agg, look, init, forget, stop, from, load, lit}
+use Rattle.calls.proofs.Walk.{of-opd, and-then, no-more, addr, assigns, land, returns, enter, alloc1, alloc0, params1, pass1, pass0, Fun, givenOf, tables}
+use Rattle.calls.proofs.Walk.{tablesOf, yes, owns, pointee, Is, uint-vals, uint-tells, uint-makes, sliceTy, sliceVal, MutSlice, Room, row, plain, u8, usize, onEntry}
+use Rattle.calls.proofs.Walk.{tripleOf, Contract, Triple, cited, nothing, owned, heard, says, Stays, stay-dropped, walkOf, ends-at, walked, goes-dropped, id⊢}
 use types.Kit.{cut}
 use denote.Array.{Array, array-vals, array-tells, array-makes, array-lawful}
 use denote.Builtin.{ArrayOf}
 use Rattle.device.specs.declared.device.Device.{Device}
 use Rattle.calls.specs.Calls.{faultRefusal, faultAfter}
 use Rattle.calls.proofs.Dev.{D, vals, tells, made, lawful}
-use Rattle.calls.proofs.Lent.{ref, sl, lends, returned, apart, whole-again, calls-val, closes}
+use Rattle.calls.proofs.Lent.{ref, sl, lends, returned, apart, whole-again, calls-val, free-all, closes}
 use Rattle.chain.proofs.bb_set_fault as callee
 use Rattle.chain.proofs.bb_set_fault.Symbol as callee-def
 use Rattle.chain.proofs.bb_set_fault.Symbol.{name as #callee}
@@ -77,8 +82,7 @@ module _ {M : Type 1} (𝓤 : URA M) (H : Heap 𝓤) (A : Atoms 𝓤) (W : Given
         land ! (from ! (stop !)) (init ! 5 refl (tt, record { fits = is′ .1 })) $
         assigns ! (of-opd ! (load ! (from ! (stop !)) (look ! 0 refl))) (from ! (stop !)) (init ! 16 refl (typed zs _ isA .0)) $
         returns ! (look ! 16 refl) $ forget ! 0 refl $ forget ! 1 refl $ forget ! 3 refl $ forget ! 5 refl $ forget ! 8 refl $ forget ! 10 refl $ forget ! 12 refl $ forget ! 14 refl $ forget ! 16 refl $
-        move ! (16 ∷ 17 ∷ []) $ free1 ! $ move ! (14 ∷ 15 ∷ []) $ free1 ! $ move ! (12 ∷ 13 ∷ []) $ free1 ! $ move ! (10 ∷ 11 ∷ []) $ free1 ! $ move ! (8 ∷ 9 ∷ []) $ free1 ! $ move ! (0 ∷ 7 ∷ []) $ free1 ! $
-        move ! (4 ∷ 5 ∷ []) $ free1 ! $ move ! (2 ∷ 3 ∷ []) $ free1 ! $ free1 ! $ free0 ! $ drop ! $ drop ! $ by ! (exits isA)))))))))))))))
+        move ! (16 ∷ 17 ∷ 14 ∷ 15 ∷ 12 ∷ 13 ∷ 10 ∷ 11 ∷ 8 ∷ 9 ∷ 0 ∷ 7 ∷ 5 ∷ 6 ∷ 3 ∷ 4 ∷ 1 ∷ 2 ∷ []) $ free-all ! _ $ drop ! $ drop ! $ by ! (exits isA)))))))))))))))
 
 pub fault-three-spec : {M : Type 1} → stated.statement M
 unfolding code.routine tablesOf

@@ -1,6 +1,13 @@
 -- `calls::judge` meets its contract: a walk of its MIR, by hand. Before turn i what was found is the judgement of the first i records; each
 -- turn reads one record and judges it by value.
-use Rattle.calls.proofs.Walk.{_≡_, refl, sym, _∙_, subst, ℕ, zero, suc, _+_, _*_, _<_, _^_, arith, Bool, List, [], _∷_, length, getD, take, lit<, URA, fullShare, Ty, named, imm, w64, tyBool, tyPtr, tyRef, vbool, vint, vptr, Val, SProp, ent, emp, via, fst∗, Lft, GName, Share, ftrue, fat, flft, Memory, Routine, Heap, Out, Env, Wp, WpFn, Tables, afterSeq, afterBlock, afterTurn, atReturn, Atoms, fmOf, Given, Item, ‵, _⊛_, ⋆, anyQ, atRet, _$_, _∵_, !, qed, by, move, drop, split, join, rewrite, fsplit, fjoin, suffices, frame, done, whole, sub, look-in, look, look-raw, store, init, forget, stop, hop, fld, from, load, lit, of-opd, and-then, no-more, bin, assigns, assigns-last, land, stays, leaves-loop, exec, returns, enter, alloc1, alloc0, params1, pass1, pass0, Fun, givenOf, tables, tablesOf, yes, owns, pointee, Is, shows, RefT, now, sliceTy, sliceVal, ShrSlice, Room, slice-vals, shr-slice-tells, row, plain, shrSliceOf, onEntry, tripleOf, Contract, Triple, cited, nothing, owned, heard, says, Stays, stay-dropped, walkOf, ends-at, walked, goes-dropped, word}
+use Rattle.calls.proofs.Walk.{_≡_, refl, sym, _∙_, subst, ℕ, zero, suc, _+_, _*_, _<_, _^_, arith, Bool, List, [], _∷_, length, getD, take, lit<, URA, fullShare}
+use Rattle.calls.proofs.Walk.{Ty, named, imm, w64, tyBool, tyPtr, tyRef, vbool, vint, vptr, Val, SProp, ent, emp, via, fst∗, Lft, GName, Share, ftrue, fat, flft}
+use Rattle.calls.proofs.Walk.{Memory, Routine, Heap, Out, Env, Wp, WpFn, Tables, afterSeq, afterBlock, afterTurn, atReturn, Atoms, fmOf, Given, Item, ‵, _⊛_, ⋆}
+use Rattle.calls.proofs.Walk.{anyQ, atRet, _$_, _∵_, !, qed, by, move, drop, split, join, rewrite, fsplit, fjoin, suffices, frame, done, whole, sub, look-in, look}
+use Rattle.calls.proofs.Walk.{look-raw, store, init, forget, stop, hop, fld, from, load, lit, of-opd, and-then, no-more, bin, assigns, assigns-last, land, stays}
+use Rattle.calls.proofs.Walk.{leaves-loop, exec, returns, enter, alloc1, alloc0, params1, pass1, pass0, Fun, givenOf, tables, tablesOf, yes, owns, pointee, Is}
+use Rattle.calls.proofs.Walk.{shows, RefT, now, sliceTy, sliceVal, ShrSlice, Room, slice-vals, shr-slice-tells, row, plain, shrSliceOf, onEntry, tripleOf}
+use Rattle.calls.proofs.Walk.{Contract, Triple, cited, nothing, owned, heard, says, Stays, stay-dropped, walkOf, ends-at, walked, goes-dropped, word}
 use package.mir.Syntax.{loop}
 use base.Logic.{id⊢}
 use denote.Struct.Laws as LL

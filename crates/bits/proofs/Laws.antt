@@ -260,27 +260,11 @@ split-bytes n ys h b =
     ∙ ap (λ (k : ℕ). split 8 k (fields 8 (take n ys) ++ fields 8 (drop n ys))) (sym e)
     ∙ split-fields 8 (take n ys) (fields 8 (drop n ys)) (below-take 256 n ys (omega arith) b)
 
--- what packing writes, with anything after it, is what unpacking reads
-pub round-trip : (w : ℕ) (vs rest : List ℕ) → ((i : ℕ) → getD vs i 0 < 2 ^ w) → split w (length vs) (fields 8 (bytesOf (fields w vs) ++ rest)) ≡ vs
-unfolding padded
-round-trip w vs rest h =
-    let pad : List Bool = replicate ((8 - length (fields w vs) % 8) % 8) false in
-    ap (split w (length vs))
-    (fields-append 8 (bytesOf (fields w vs)) rest ∙ ap (λ (z : List Bool). z ++ fields 8 rest) (bits-of-bytes (fields w vs))
-    ∙ append-assoc (fields w vs) pad (fields 8 rest))
-    ∙ split-fields w vs (pad ++ fields 8 rest) h
-
 -- ---- a list with a part replaced
 
 pub length-over : (ys l : List ℕ) → length ys ≤ length l → length (over ys l) ≡ length l
 unfolding over
 length-over ys l h = omega (arith, length-append ys (drop (length ys) l), length-drop (length ys) l)
-
-pub length-overAt : (at : ℕ) (ys l : List ℕ) → at + length ys ≤ length l → length (overAt at ys l) ≡ length l
-unfolding overAt
-length-overAt at ys l h =
-    let n : length (drop at l) ≡ length l - at = length-drop at l in
-    omega (arith, length-append (take at l) (over ys (drop at l)), length-take-le at l (omega arith), length-over ys (drop at l) (omega arith))
 
 pub overAt-zero : (ys l : List ℕ) → overAt 0 ys l ≡ over ys l
 unfolding overAt

@@ -122,7 +122,8 @@ pulled-more {src} {p} {q} {r} {w} {v} {vs} d e =
     }
 
 -- the numbers pulled are those of the bits ahead
-pub pulled-split : (all : List Bool) {src : List ℕ} {p r : Reader} {w : ℕ} {vs : List ℕ} → Pulled src p r w vs → ahead src (p .at) (p .have) (p .acc) ≡ all → vs ≡ split w (length vs) all
+pub pulled-split : (all : List Bool) {src : List ℕ} {p r : Reader} {w : ℕ} {vs : List ℕ} → Pulled src p r w vs
+    → ahead src (p .at) (p .have) (p .acc) ≡ all → vs ≡ split w (length vs) all
 pulled-split all {src} {p} {r} {w} {vs} d e =
     sym (ap (split w (length vs)) (sym e ∙ d .said) ∙ split-fields w vs (ahead src (r .at) (r .have) (r .acc)) (d .below))
 
@@ -131,7 +132,8 @@ unfolding ahead bits
 from-start src at acc = refl
 
 -- the number pulled after k bits were pulled from the byte `at` on
-pub pulled-number : (at k : ℕ) {src : List ℕ} {q r : Reader} {w u v : ℕ} → at ≤ length src → Pulled src (record { at = at; acc = 0; have = 0 }) q k (u ∷ []) → Pulled src q r w (v ∷ [])
+pub pulled-number : (at k : ℕ) {src : List ℕ} {q r : Reader} {w u v : ℕ} → at ≤ length src
+    → Pulled src (record { at = at; acc = 0; have = 0 }) q k (u ∷ []) → Pulled src q r w (v ∷ [])
     → v ≡ number (take w (drop (at * 8 + k) (fields 8 src)))
 unfolding split
 pulled-number at k {src} {q} {r} {w} {u} {v} l d e =

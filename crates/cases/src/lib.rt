@@ -5,7 +5,6 @@ mod lists; // lists compared
 mod print; // words, bytes and numbers on standard output
 mod told; // what a frame is told by
 
-pub use lists::both;
 pub use lists::least;
 pub use lists::same_values;
 pub use print::bytes;

@@ -161,7 +161,15 @@ pub length-partLine : (part devices mux : ℕ) → length (partLine part devices
 length-partLine part devices mux =
     let last = decimal mux ++ newline in
     let middle = decimal devices ++ (multiplexedText ++ last) in
-    omega (arith, length-append (decimal mux) newline, length-append (decimal devices) (multiplexedText ++ last), length-append (decimal part) (devicesText ++ middle), length-digitsIn 20 part, length-digitsIn 20 devices, length-digitsIn 20 mux)
+    omega (
+      arith,
+      length-append (decimal mux) newline,
+      length-append (decimal devices) (multiplexedText ++ last),
+      length-append (decimal part) (devicesText ++ middle),
+      length-digitsIn 20 part,
+      length-digitsIn 20 devices,
+      length-digitsIn 20 mux,
+    )
 
 pub length-refusedLine : (n : ℕ) → length (refusedLine n) ≤ 96
 length-refusedLine n = omega (arith, length-append (decimal n) newline, length-digitsIn 20 n)

@@ -65,13 +65,13 @@ module _ (part devices configuration : ℕ) (input : List ℕ) where
       ∙ ap (λ (b : Bool). frameLine c n answer ++ cond b [] (linesFrom (place + 1) (from + bytesFor n))) r
 
   -- behind the last frame
-  pub lines-over : (from : ℕ) → from < length input → linesFrom 3 from ≡ trailingLine
+  pub lines-over : (place from : ℕ) → place ≡ 3 → from < length input → linesFrom place from ≡ trailingLine
   unfolding linesOf
-  lines-over from h = rw (ne-eqb (length (drop from input)) 0 (λ z. omega (arith, length-drop from input)))
+  lines-over place from e h = ap (λ (k : ℕ). linesFrom k from) e ∙ rw (ne-eqb (length (drop from input)) 0 (λ z. omega (arith, length-drop from input)))
 
-  pub lines-none : (from : ℕ) → length input ≤ from → linesFrom 3 from ≡ []
+  pub lines-none : (place from : ℕ) → place ≡ 3 → length input ≤ from → linesFrom place from ≡ []
   unfolding linesOf
-  lines-none from h = rw (eq-eqb (length (drop from input)) 0 (omega (arith, length-drop from input)))
+  lines-none place from e h = ap (λ (k : ℕ). linesFrom k from) e ∙ rw (eq-eqb (length (drop from input)) 0 (omega (arith, length-drop from input)))
 
 -- the lines of all four frames
 module _ (part devices : ℕ) (input : List ℕ) where

@@ -1,5 +1,4 @@
 // Frames a to f and h: written from their settings, compared, and read back.
-use cases::both;
 use cases::frame_of;
 use cases::least;
 use cases::no_tail;
@@ -117,7 +116,7 @@ fn frame_case(
             let frame = &out[..end];
             cases::bytes(frame);
             let back = is_read_back(told, tail, frame, byte, bytes, values);
-            cases::verdict(both(check::same(frame, should), back));
+            cases::verdict(check::same(frame, should) && back);
         }
     }
 }
@@ -147,22 +146,10 @@ fn is_read_back(
 
 // What was read is the byte, or a whole list that is the one written.
 fn is_back(read: Read, byte: u8, bytes_back: bool, values_back: bool) -> bool {
-    let Read::Byte(b) = read else {
-        return is_list_back(read, bytes_back, values_back);
-    };
-    b == byte
-}
-
-fn is_list_back(read: Read, bytes_back: bool, values_back: bool) -> bool {
-    let Read::Bytes(n) = read else {
-        return are_values_back(read, values_back);
-    };
-    both(n == 3, bytes_back)
-}
-
-fn are_values_back(read: Read, values_back: bool) -> bool {
-    let Read::Values(n) = read else {
-        return false;
-    };
-    both(n == 24, values_back)
+    match read {
+        Read::Byte(b) => b == byte,
+        Read::Bytes(n) => n == 3 && bytes_back,
+        Read::Values(n) => n == 24 && values_back,
+        Read::Refused(_) => false,
+    }
 }

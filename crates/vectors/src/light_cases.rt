@@ -153,13 +153,7 @@ fn lit_words(lit: Lit) {
 }
 
 fn is_same(a: Lit, b: Lit) -> bool {
-    if a.count != b.count {
-        return false;
-    }
-    if a.first != b.first {
-        return false;
-    }
-    a.last == b.last
+    a.count == b.count && a.first == b.first && a.last == b.last
 }
 
 // Every clock of subframe 0 is asked for. It is ON: the global byte is the highest.

@@ -137,16 +137,16 @@ fn read_refusal(told: Told, tail: Tail, frame: &[u8]) -> u8 {
     let mut bytes = [0u8; 3];
     let mut values = [0u16; 24];
     let read = frames::read(told, tail, frame, &mut bytes, &mut values);
-    let Read::Refused(number) = read else {
-        return 0;
-    };
-    number
+    if let Read::Refused(number) = read {
+        number
+    } else {
+        0
+    }
 }
 
 fn return_refusal(devices: usize, tail: Tail, frame: &[u8]) -> u8 {
-    let returned = frames::read_return(6974, devices, Command::Configuration, tail, frame);
-    let Returned::Refused(number) = returned else {
-        return 0;
-    };
-    number
+    match frames::read_return(6974, devices, Command::Configuration, tail, frame) {
+        Returned::Count(_) => 0,
+        Returned::Refused(number) => number,
+    }
 }

@@ -1,7 +1,6 @@
 // The order of individual values: no two are the same. Three devices are loaded multiplexed, with 1, 2, 3, .. in wire order, and then
 // nonmultiplexed, from 145 on. MUX0 and MUX1 take turns in the first slice of each device; the second leaves MUX1.
 ghost use Prim.Native.Nat.{_<_};
-use cases::both;
 use cases::frame_of;
 use cases::least;
 use cases::no_tail;
@@ -112,7 +111,7 @@ fn values_case(name: &[u8], mux0: [u16; 24], mux1: [u16; 24], first0: u16, step:
     cases::values(&mux0);
     cases::text(b", MUX1");
     cases::values(&mux1);
-    cases::verdict(both(is_same(mux0, should0), is_same(mux1, should1)));
+    cases::verdict(is_same(mux0, should0) && is_same(mux1, should1));
 }
 
 fn is_same(a: [u16; 24], b: [u16; 24]) -> bool {

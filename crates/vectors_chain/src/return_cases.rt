@@ -1,6 +1,5 @@
 // Returns: the states of a frame are run through chains, and what comes back is packed, compared and read.
 use crate::lists::copy;
-use cases::both;
 use cases::frame_of;
 use cases::least;
 use cases::no_tail;
@@ -113,7 +112,7 @@ fn return_case(
             let frame = &back[..end];
             cases::bytes(frame);
             let counted = is_counted(devices, command, tail, frame, count);
-            cases::verdict(both(check::same(frame, should), counted));
+            cases::verdict(check::same(frame, should) && counted);
         }
     }
 }
@@ -121,19 +120,14 @@ fn return_case(
 // The return is read, and gives the count.
 fn is_counted(devices: usize, command: Command, tail: Tail, frame: &[u8], count: u16) -> bool {
     cases::text(b", count");
-    let returned = frames::read_return(6974, devices, command, tail, frame);
-    let Returned::Count(n) = returned else {
-        cases::refusal(refusal_of(returned));
-        return false;
-    };
-    cases::count(n as u64);
-    n == count
-}
-
-// The number of a refused return, else 0.
-fn refusal_of(returned: Returned) -> u8 {
-    let Returned::Refused(number) = returned else {
-        return 0;
-    };
-    number
+    match frames::read_return(6974, devices, command, tail, frame) {
+        Returned::Count(n) => {
+            cases::count(n as u64);
+            n == count
+        }
+        Returned::Refused(number) => {
+            cases::refusal(number);
+            false
+        }
+    }
 }

@@ -104,7 +104,7 @@ fn with_slots(first: u16, second: u16, third: u16, taken: u16) -> Device {
     registers.slice[1] = second;
     registers.slice[2] = third;
     Device {
-        registers: registers,
+        registers,
         place: Place {
             phase: SLICE,
             command: 2,
@@ -133,7 +133,7 @@ fn steps(device: Device, states: &[u8]) -> Fed {
 
 fn start(device: Device) -> Fed {
     Fed {
-        device: device,
+        device,
         refusal: 0,
         sent: 0,
         count: 0,
@@ -164,19 +164,15 @@ fn states_of(sent: Sent) -> u32
     match sent {
         Sent::Nothing => 0,
         Sent::One(_) => 1,
-        Sent::Header {
-            command: _,
-            count: _,
-        } => 24,
+        Sent::Header { .. } => 24,
     }
 }
 
 // The count of the last header: that of this one, or the one before.
 fn count_of(sent: Sent, before: u16) -> u16 {
     match sent {
-        Sent::Nothing => before,
-        Sent::One(_) => before,
-        Sent::Header { command: _, count } => count,
+        Sent::Header { count, .. } => count,
+        _ => before,
     }
 }
 
@@ -238,20 +234,10 @@ fn phase_word(phase: u8) {
 }
 
 fn is_same(a: Seen, b: Seen) -> bool {
-    if a.refusal != b.refusal {
-        return false;
-    }
-    if a.phase != b.phase {
-        return false;
-    }
-    if a.configuration != b.configuration {
-        return false;
-    }
-    if a.waiting != b.waiting {
-        return false;
-    }
-    if a.sent != b.sent {
-        return false;
-    }
-    a.count == b.count
+    a.refusal == b.refusal
+        && a.phase == b.phase
+        && a.configuration == b.configuration
+        && a.waiting == b.waiting
+        && a.sent == b.sent
+        && a.count == b.count
 }

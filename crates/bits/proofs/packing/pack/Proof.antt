@@ -1,5 +1,6 @@
 -- Where there is room, the writer stores the bytes of the fields and zeros; else nothing is done. Assumes nothing.
 use native.Mathlib.Omega.{arith}
+use Prim.Native.Nat.{ℕ}
 use lib.ListN.{length}
 use Rattle.bits.proofs.Answers as answers
 use Rattle.bits.proofs.Writing as writing
@@ -19,13 +20,17 @@ push-each-requires : tie.Need-push-each-requires
 push-each-requires c κs =
     let a = c .before .before .before .before .before .args in
     let e = answers.told-true (c .before .before .has-room .ensures) (c .before .if1 .left) in
-    ((omega arith, answers.fits-width 16 (a .width) (length (a .values .now)) (a .at) (length (a .out .now)) e), omega (arith, answers.fits-room 16 (a .width) (length (a .values .now)) (a .at) (length (a .out .now)) e))
+    let n : ℕ = length (a .values .now) in
+    let room : ℕ = length (a .out .now) in
+    ((omega arith, answers.fits-width 16 (a .width) n (a .at) room e), omega (arith, answers.fits-room 16 (a .width) n (a .at) room e))
 
 finish-requires : tie.Need-finish-requires
 finish-requires c κs =
-    let a = c .before .before .before .before .before .before .before .before .before .args in
-    let e = answers.told-true (c .before .before .before .before .before .before .has-room .ensures) (c .before .before .before .before .before .if1 .left) in
-    let d = c .before .before .before .push-each .ensures in
+    let w = c .before .before .before in
+    let t = w .before .before in
+    let a = t .before .before .before .before .args in
+    let e = answers.told-true (t .before .has-room .ensures) (t .if1 .left) in
+    let d = w .push-each .ensures in
     (d .small, omega (arith, answers.fits-room 16 (a .width) (length (a .values .now)) (a .at) (length (a .out .now)) e, d .count))
 
 sub-t9 : tie.Need-sub-t9
@@ -36,11 +41,13 @@ same-length c = search needs
 
 returns-2 : tie.Need-returns-2
 returns-2 c =
-    let s = c .before .before .before .before .before .before .before .before .before .before .before in
+    let w = c .before .before .before .before .before .before .before in
+    let t = w .before .before in
+    let s = t .before .before in
     let a = s .before .before .args in
     let f = c .before .before .before .finish in
-    writing.packed-run 16 (a .width) (a .values .now) (a .at) (answers.told-true (c .before .before .before .before .before .before .before .before .before .before .has-room .ensures) (c .before .before .before .before .before .before .before .before .before .if1 .left))
-    (c .before .before .before .before .before .before .before .push-each .ensures) (f .ensures .0) (omega arith) (f .ensures .1) (omega arith)
+    writing.packed-run 16 (a .width) (a .values .now) (a .at) (answers.told-true (t .before .has-room .ensures) (t .if1 .left))
+    (w .push-each .ensures) (f .ensures .0) (omega arith) (f .ensures .1) (omega arith)
     (λ i. s .slice-known .given i .fits) (λ i. c .before .slice-known3 .given i .fits)
 
 pub pack-spec : {M : Type 1} → statement M

@@ -37,11 +37,13 @@ same-length c = search needs
 
 returns-2 : tie.Need-returns-2
 returns-2 c =
-    let s = c .before .before .before .before .before .before .before .before .before .before .before in
+    let w = c .before .before .before .before .before .before .before in
+    let t = w .before .before in
+    let s = t .before .before in
     let a = s .before .args in
     let f = c .before .before .before .finish in
-    writing.packed-run 64 (a .width) (a .value ∷ []) (a .at) (answers.told-true (c .before .before .before .before .before .before .before .before .before .before .has-room .ensures) (c .before .before .before .before .before .before .before .before .before .if1 .left))
-    (writing.pushed-one (a .width) (a .value) (c .before .before .before .before .before .before .before .push-wide .ensures)) (f .ensures .0) (omega arith) (f .ensures .1) (omega arith)
+    writing.packed-run 64 (a .width) (a .value ∷ []) (a .at) (answers.told-true (t .before .has-room .ensures) (t .if1 .left))
+    (writing.pushed-one (a .width) (a .value) (w .push-wide .ensures)) (f .ensures .0) (omega arith) (f .ensures .1) (omega arith)
     (λ i. s .slice-known .given i .fits) (λ i. c .before .slice-known3 .given i .fits)
 
 pub pack-number-spec : {M : Type 1} → statement M

@@ -46,7 +46,11 @@ loop-less : tie.Need-loop-less Inv-loop μ-loop
 loop-less c = search needs
 
 loop-again : tie.Need-loop-again Inv-loop μ-loop
-loop-again c = (search needs, search needs, below-more (λ (j : ℕ). getD (c .before .before .before .before .before .before .args .a .now) j 0 ≡ getD (c .before .before .before .before .before .before .args .b .now) j 0) (c .before .before .before .before .loop .i) (c .before .before .before .before .loop .inv .2) (search needs))
+loop-again c =
+    let h = c .before .before .before .before in
+    let l = h .loop in
+    let a = h .before .before .args in
+    (search needs, search needs, below-more (λ (j : ℕ). getD (a .a .now) j 0 ≡ getD (a .b .now) j 0) (l .i) (l .inv .2) (search needs))
 
 returns-3 : tie.Need-returns-3 Inv-loop μ-loop
 returns-3 c =

@@ -39,7 +39,9 @@ sub-natural : tie.Need-sub-natural
 sub-natural c = below-fits _ (read-fits _ (c .before .before .before .fits .number)) (c .before .before .if1 .taken)
 
 natural-requires : tie.Need-natural-requires
-natural-requires c κs = subst (λ (y : ℤ). pos 0 ≤ℤ y) (sym (toZ-ofZ w32 _ (sub-natural c))) (below-natural (toZ w32 (ofZ w32 (c .before .before .before .args .number))) (c .before .before .if1 .taken))
+natural-requires c κs =
+    subst (λ (y : ℤ). pos 0 ≤ℤ y) (sym (toZ-ofZ w32 _ (sub-natural c)))
+    (below-natural (toZ w32 (ofZ w32 (c .before .before .before .args .number))) (c .before .before .if1 .taken))
 
 add-print-decimal : tie.Need-add-print-decimal
 add-print-decimal c = search needs

@@ -1,3 +1,4 @@
+-- The byte so far is the number of the bits taken, fewer than eight. Assumes nothing.
 use Rattle.line.specs.States.{dataBits}
 use Rattle.line.proofs.Laws.{number-next, getD-bytesOf, length-padded-eights}
 use Rattle.bits.specs.Bits.{number, padded, bytesFor}
@@ -45,8 +46,9 @@ cast-byte c = omega (arith, c .bit-at .ensures)
 
 add-byte : tie.Need-add-byte Inv-loop μ-loop
 add-byte c = let l = c .before .before .loop in
-    let h : number (take (l .k) (drop (c .before .before .before .before .args .place * 8) (padded (dataBits (c .before .before .before .before .args .states .now))))) < 2 ^ 8
-    = lt-of-lt-of-le (number-take-lt (l .k) (drop (c .before .before .before .before .args .place * 8) (padded (dataBits (c .before .before .before .before .args .states .now))))) (pow-mono {j = 8} (omega arith)) in
+    let a = c .before .before .before .before .args in
+    let ahead : List Bool = drop (a .place * 8) (padded (dataBits (a .states .now))) in
+    let h : number (take (l .k) ahead) < 2 ^ 8 = lt-of-lt-of-le (number-take-lt (l .k) ahead) (pow-mono {j = 8} (omega arith)) in
     omega (arith, h, l .inv .1, c .bit-at .ensures)
 
 add-k : tie.Need-add-k Inv-loop μ-loop

@@ -31,9 +31,12 @@ same-length c = search needs
 
 returns-2 : tie.Need-returns-2
 unfolding packedAnswer packedOut
-returns-2 c = let e = c .before .before .before .before .before .before .judge-states .ensures in
-    let z = c .before .before .before .before .before .if1 .left in
-    (rows.accepted L.Refused e z (ap L.Written (c .bytes-for .ensures)), rows.changed (c .before .before .before .before .before .before .before .before .before .args .out .now) e z (c .before .before .before .put-bytes .ensures))
+returns-2 c =
+    let t = c .before .before .before .before .before in
+    let e = t .before .judge-states .ensures in
+    let z = t .if1 .left in
+    let out = t .before .before .before .before .args .out .now in
+    (rows.accepted L.Refused e z (ap L.Written (c .bytes-for .ensures)), rows.changed out e z (c .before .before .before .put-bytes .ensures))
 
 pub pack-states-spec : {M : Type 1} → statement M
 pack-states-spec =

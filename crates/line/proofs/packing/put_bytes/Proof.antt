@@ -1,3 +1,4 @@
+-- The bytes so far are the first bytes of the packed data bits, pasted over what was lent. Assumes nothing.
 use Rattle.line.specs.States.{dataBits}
 use Rattle.line.proofs.Laws.{paste-next, paste-over}
 use Rattle.bits.specs.Bits.{bytesOf, bytesFor}

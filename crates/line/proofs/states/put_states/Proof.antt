@@ -1,3 +1,4 @@
+-- The states so far are the first states of the frame, pasted over what was lent. Assumes nothing.
 use Rattle.line.specs.States.{frameStates}
 use Rattle.line.proofs.Laws.{length-frameStates, getD-frameStates, paste-next, paste-over, load-le}
 use mathlib.Core.Path.{_≡_, refl, sym, ap, _∙_}

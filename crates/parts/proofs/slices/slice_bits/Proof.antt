@@ -1,3 +1,4 @@
+-- The place in the table is made of three small numbers; what stands there is the law of the table. Assumes nothing.
 use mathlib.Core.Path.{ap₂, _∙_}
 use Prim.Native.Nat.{ℕ, _+_, _*_, _%_, _<_}
 use native.Mathlib.Omega.{arith}

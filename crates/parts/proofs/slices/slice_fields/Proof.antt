@@ -1,3 +1,4 @@
+-- By the command; a part has three banks, so that no product is too large. Assumes nothing.
 use mathlib.Core.Path.{_≡_, refl, ap, _∙_}
 use Rattle.parts.specs.Parts.{partOf, multiplex, sliceFields}
 use Rattle.parts.specs.declared.part.Constants.{Constants}

@@ -1,11 +1,16 @@
 -- `report::put_name` meets its contract. Assumes nothing.
-use mathlib.Core.Path.{sym, ap}
+use mathlib.Core.Path.{_≡_, sym, ap}
+use Prim.Native.Nat.{ℕ}
 use Rattle.parts.specs.declared.command.Command.{Command}
 use Rattle.report.specs.Lines.{labelled, nameText}
 use Rattle.report.proofs.Putting as laws
 use borrow.Author.Needs.{needs}
 use Rattle.report.proofs.lines.put_name.Statement.{statement}
 use Rattle.report.proofs.lines.put_name.Tie as tie
+
+-- the text of the command that the `match` found
+by-name : {c k : Command} (n : ℕ) → c ≡ k → labelled (nameText k) n ≡ labelled (nameText c) n
+by-name n e = ap (λ (k : Command). labelled (nameText k) n) (sym e)
 
 enum-told : tie.Need-enum-told
 enum-told c = search needs
@@ -49,7 +54,8 @@ same-length c = search needs
 returns : tie.Need-returns
 returns c =
     let p = c .before .before in
-    laws.put-same (ap (λ (k : Command). labelled (nameText k) (p .before .before .before .before .before .before .args .bits)) (sym (p .before .before .before .enum-told .given .1))) (p .put-labelled .ensures)
+    let t = p .before .before .before in
+    laws.put-same (by-name (t .before .before .before .args .bits) (t .enum-told .given .1)) (p .put-labelled .ensures)
 
 same-length-2 : tie.Need-same-length-2
 same-length-2 c = search needs
@@ -57,7 +63,8 @@ same-length-2 c = search needs
 returns-2 : tie.Need-returns-2
 returns-2 c =
     let p = c .before .before in
-    laws.put-same (ap (λ (k : Command). labelled (nameText k) (p .before .before .before .before .before .before .args .bits)) (sym (p .before .before .before .enum-told2 .given .1))) (p .put-labelled2 .ensures)
+    let t = p .before .before .before in
+    laws.put-same (by-name (t .before .before .before .args .bits) (t .enum-told2 .given .1)) (p .put-labelled2 .ensures)
 
 same-length-3 : tie.Need-same-length-3
 same-length-3 c = search needs
@@ -65,7 +72,8 @@ same-length-3 c = search needs
 returns-3 : tie.Need-returns-3
 returns-3 c =
     let p = c .before .before in
-    laws.put-same (ap (λ (k : Command). labelled (nameText k) (p .before .before .before .before .before .before .args .bits)) (sym (p .before .before .before .enum-told3 .given .1))) (p .put-labelled3 .ensures)
+    let t = p .before .before .before in
+    laws.put-same (by-name (t .before .before .before .args .bits) (t .enum-told3 .given .1)) (p .put-labelled3 .ensures)
 
 same-length-4 : tie.Need-same-length-4
 same-length-4 c = search needs
@@ -73,7 +81,8 @@ same-length-4 c = search needs
 returns-4 : tie.Need-returns-4
 returns-4 c =
     let p = c .before .before in
-    laws.put-same (ap (λ (k : Command). labelled (nameText k) (p .before .before .before .before .before .before .args .bits)) (sym (p .before .before .before .enum-told4 .given .1))) (p .put-labelled4 .ensures)
+    let t = p .before .before .before in
+    laws.put-same (by-name (t .before .before .before .args .bits) (t .enum-told4 .given .1)) (p .put-labelled4 .ensures)
 
 pub put-name-spec : {M : Type 1} → statement M
 put-name-spec =

@@ -41,7 +41,12 @@ put-requires c κs =
     let q = s .before .before .before .before .before in
     let p = q .before .before .before .before .before in
     let a = p .before .before .before .before .args in
-    omega (arith, laws.labelled-le partText (a .part) (p .put-labelled .ensures), laws.labelled-le devicesText (a .devices) (q .put-labelled2 .ensures), laws.labelled-le multiplexedText (a .multiplexed) (s .put-labelled3 .ensures))
+    omega (
+      arith,
+      laws.labelled-le partText (a .part) (p .put-labelled .ensures),
+      laws.labelled-le devicesText (a .devices) (q .put-labelled2 .ensures),
+      laws.labelled-le multiplexedText (a .multiplexed) (s .put-labelled3 .ensures),
+    )
 
 same-length : tie.Need-same-length
 same-length c = search needs

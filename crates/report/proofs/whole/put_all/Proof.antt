@@ -30,10 +30,12 @@ same-length c = search needs
 
 returns : tie.Need-returns
 returns c =
-    let r = c .before .before .before .before .before in
+    let k = c .before .before .before .before in
+    let r = k .before in
+    let n = r .before .frame-bits in
     let a = r .before .before .before .before .args in
     put.put-same
-    (laws.all-refused (a .part) (a .devices) (a .input .now) (r .read-front .result) (r .before .frame-bits .result) (r .before .frame-bits .ensures .0) (c .before .before .before .before .match .keys2)
+    (laws.all-refused (a .part) (a .devices) (a .input .now) (r .read-front .result) (n .result) (n .ensures .0) (k .match .keys2)
     ∙ ap (allLines (a .part) (a .devices) (a .input .now)) (r .read-front .ensures))
     (c .before .before .put-frame .ensures)
 

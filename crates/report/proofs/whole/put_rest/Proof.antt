@@ -114,7 +114,7 @@ returns-2 c =
     let a = i .before .before .before .before .before .args in
     let past : l .place ≡ 3 = omega arith in
     put.ahead-last
-    (put.ahead-same (ap (λ (k : ℕ). laws.linesFrom (a .part) (a .devices) (a .configuration) (a .input .now) k (l .from)) past ∙ laws.lines-over (a .part) (a .devices) (a .configuration) (a .input .now) (l .from) (i .if2 .taken)) (l .inv .4))
+    (put.ahead-same (laws.lines-over (a .part) (a .devices) (a .configuration) (a .input .now) (l .place) (l .from) past (i .if2 .taken)) (l .inv .4))
     (p .put-trailing .ensures)
 
 same-length-3 : tie.Need-same-length-3 Inv-loop μ-loop
@@ -126,7 +126,7 @@ returns-3 c =
     let a = c .before .before .before .before .before .args in
     let past : l .place ≡ 3 = omega arith in
     put.ahead-none
-    (put.ahead-same (ap (λ (k : ℕ). laws.linesFrom (a .part) (a .devices) (a .configuration) (a .input .now) k (l .from)) past ∙ laws.lines-none (a .part) (a .devices) (a .configuration) (a .input .now) (l .from) (c .if2 .left)) (l .inv .4))
+    (put.ahead-same (laws.lines-none (a .part) (a .devices) (a .configuration) (a .input .now) (l .place) (l .from) past (c .if2 .left)) (l .inv .4))
 
 pub put-rest-spec : {M : Type 1} → statement M
 put-rest-spec =

@@ -1,3 +1,4 @@
+-- The list passes where the flag is 0 and the rest of the list passes. Each turn takes one number off the rest. Assumes nothing.
 use Rattle.tables.specs.Lists.{allBelow}
 use Rattle.tables.proofs.Booleans.{and-false, and-true}
 use Rattle.tables.proofs.Tests.{by-way, allBelow-drop}

@@ -59,9 +59,6 @@ is-read-back-requires c κs = search needs
 same-requires : tie.Need-same-requires
 same-requires c κs = search needs
 
-both-requires : tie.Need-both-requires
-both-requires c κs = search needs
-
 verdict-requires-2 : tie.Need-verdict-requires-2
 verdict-requires-2 c κs = search needs
 
@@ -93,7 +90,6 @@ frame-case-spec =
     bytes-requires-2
     is-read-back-requires
     same-requires
-    both-requires
     verdict-requires-2
     returns
     returns-2)

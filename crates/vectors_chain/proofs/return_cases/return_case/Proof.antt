@@ -23,6 +23,9 @@ slice-aggregate-text-2 c = search needs
 text-requires-3 : tie.Need-text-requires-3
 text-requires-3 c κs = search needs
 
+cast-count : tie.Need-cast-count
+cast-count c = search needs
+
 count-requires : tie.Need-count-requires
 count-requires c κs = search needs
 
@@ -68,9 +71,6 @@ is-counted-requires c κs = search needs
 same-requires : tie.Need-same-requires
 same-requires c κs = search needs
 
-both-requires : tie.Need-both-requires
-both-requires c κs = search needs
-
 verdict-requires-2 : tie.Need-verdict-requires-2
 verdict-requires-2 c κs = search needs
 
@@ -90,6 +90,7 @@ return-case-spec =
     bytes-requires
     slice-aggregate-text-2
     text-requires-3
+    cast-count
     count-requires
     slice-aggregate-text-3
     text-requires-4
@@ -105,7 +106,6 @@ return-case-spec =
     bytes-requires-2
     is-counted-requires
     same-requires
-    both-requires
     verdict-requires-2
     returns
     returns-2)

@@ -79,8 +79,7 @@ fn is_list_wrong(command: Command, n: usize, bytes: usize, values: usize) -> boo
     match command {
         Command::Individual => values != n,
         Command::Calibration => bytes != n,
-        Command::Global => false,
-        Command::Configuration => false,
+        _ => false,
     }
 }
 

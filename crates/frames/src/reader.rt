@@ -75,8 +75,7 @@ fn is_room_short(command: Command, n: usize, bytes: usize, values: usize) -> boo
     match command {
         Command::Individual => values < n,
         Command::Calibration => bytes < n,
-        Command::Global => false,
-        Command::Configuration => false,
+        _ => false,
     }
 }
 
@@ -124,10 +123,8 @@ fn is_copy_high(told: Told, frame: &[u8]) -> bool
     let n = field_count(told);
     let limit = parts::subframes_of(told.part, told.configuration) as u8;
     match command {
-        Command::Individual => false,
-        Command::Calibration => false,
         Command::Global => !held_below(frame, n, limit),
-        Command::Configuration => false,
+        _ => false,
     }
 }
 

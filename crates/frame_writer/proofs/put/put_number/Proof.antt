@@ -27,28 +27,34 @@ same-length : tie.Need-same-length
 same-length c = search needs
 
 returns : tie.Need-returns
-returns c = let s = c .before .before .before .before .before .before .before in
+returns c =
+    let pack-number = c .before .before .before .before .pack-number in
+    let s = c .before .before .before .before .before .before .before in
     let a = s .args in
-    absurd (answers.packed-given 64 (a .width) 1 (a .at) (length (a .out .now)) (s .pre .0) (omega (arith, one-mul (a .width))) (c .before .before .before .before .pack-number .ensures .0) (c .enum-told .given .1))
+    absurd (answers.packed-given 64 (a .width) 1 (a .at) (length (a .out .now)) (s .pre .0) (omega (arith, one-mul (a .width))) (pack-number .ensures .0) (c .enum-told .given .1))
 
 add-result : tie.Need-add-result
-add-result c = let s = c .before .before .before .before .before .before .before .before in
+add-result c =
+    let pack-number = c .before .before .before .before .before .pack-number in
+    let s = c .before .before .before .before .before .before .before .before in
     let a = s .args in
-    omega (arith, one-mul (a .width), answers.packed-bytes 64 (a .width) 1 (a .at) (length (a .out .now)) (s .pre .0) (omega (arith, one-mul (a .width))) (c .before .before .before .before .before .pack-number .ensures .0) (c .before .n .given .1))
+    omega (arith, one-mul (a .width), answers.packed-bytes 64 (a .width) 1 (a .at) (length (a .out .now)) (s .pre .0) (omega (arith, one-mul (a .width))) (pack-number .ensures .0) (c .before .n .given .1))
 
 same-length-2 : tie.Need-same-length-2
 same-length-2 c = search needs
 
 returns-2 : tie.Need-returns-2
-returns-2 c = let s = c .before .before .before .before .before .before .before .before in
+returns-2 c =
+    let pack-number = c .before .before .before .before .before .pack-number in
+    let s = c .before .before .before .before .before .before .before .before in
     let a = s .args in
     let out = a .out .now in (
-      c .before .before .before .before .before .pack-number .ensures .1
+      pack-number .ensures .1
           ∙ packedOut-fits 64 (a .width) (a .value ∷ []) (a .at) out
           (fits-within 64 (a .width) 1 (a .at) (length out) (s .pre .0) (omega (arith, one-mul (a .width))))
           ∙ ap (λ (z : List Bool). overAt (a .at) (bytesOf z) out) (bit.fields-one (a .width) (a .value)),
       ap (λ (k : ℕ). a .at + k)
-          (answers.packed-bytes 64 (a .width) 1 (a .at) (length out) (s .pre .0) (omega (arith, one-mul (a .width))) (c .before .before .before .before .before .pack-number .ensures .0) (c .before .n .given .1)
+          (answers.packed-bytes 64 (a .width) 1 (a .at) (length out) (s .pre .0) (omega (arith, one-mul (a .width))) (pack-number .ensures .0) (c .before .n .given .1)
           ∙ ap bytesFor (one-mul (a .width))),
     )
 

@@ -22,25 +22,31 @@ same-length : tie.Need-same-length
 same-length c = search needs
 
 returns : tie.Need-returns
-returns c = let s = c .before .before .before .before .before .before .before .before in
+returns c =
+    let pack = c .before .before .before .before .pack in
+    let s = c .before .before .before .before .before .before .before .before in
     let a = s .args in
-    absurd (answers.packed-given 16 (a .width) (length (a .values .now)) (a .at) (length (a .out .now)) (s .pre .0) (s .pre .1) (c .before .before .before .before .pack .ensures .0) (c .enum-told .given .1))
+    absurd (answers.packed-given 16 (a .width) (length (a .values .now)) (a .at) (length (a .out .now)) (s .pre .0) (s .pre .1) (pack .ensures .0) (c .enum-told .given .1))
 
 add-result : tie.Need-add-result
-add-result c = let s = c .before .before .before .before .before .before .before .before .before in
+add-result c =
+    let pack = c .before .before .before .before .before .pack in
+    let s = c .before .before .before .before .before .before .before .before .before in
     let a = s .args in
-    omega (arith, answers.packed-bytes 16 (a .width) (length (a .values .now)) (a .at) (length (a .out .now)) (s .pre .0) (s .pre .1) (c .before .before .before .before .before .pack .ensures .0) (c .before .n .given .1))
+    omega (arith, answers.packed-bytes 16 (a .width) (length (a .values .now)) (a .at) (length (a .out .now)) (s .pre .0) (s .pre .1) (pack .ensures .0) (c .before .n .given .1))
 
 same-length-2 : tie.Need-same-length-2
 same-length-2 c = search needs
 
 returns-2 : tie.Need-returns-2
-returns-2 c = let s = c .before .before .before .before .before .before .before .before .before in
+returns-2 c =
+    let pack = c .before .before .before .before .before .pack in
+    let s = c .before .before .before .before .before .before .before .before .before in
     let a = s .args in (
-      c .before .before .before .before .before .pack .ensures .1 ∙ packedOut-fits 16 (a .width) (a .values .now) (a .at) (a .out .now)
+      pack .ensures .1 ∙ packedOut-fits 16 (a .width) (a .values .now) (a .at) (a .out .now)
           (fits-within 16 (a .width) (length (a .values .now)) (a .at) (length (a .out .now)) (s .pre .0) (s .pre .1)),
       ap (λ (k : ℕ). a .at + k)
-          (answers.packed-bytes 16 (a .width) (length (a .values .now)) (a .at) (length (a .out .now)) (s .pre .0) (s .pre .1) (c .before .before .before .before .before .pack .ensures .0) (c .before .n .given .1)),
+          (answers.packed-bytes 16 (a .width) (length (a .values .now)) (a .at) (length (a .out .now)) (s .pre .0) (s .pre .1) (pack .ensures .0) (c .before .n .given .1)),
     )
 
 pub put-values-spec : {M : Type 1} → statement M

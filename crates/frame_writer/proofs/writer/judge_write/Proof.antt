@@ -24,8 +24,10 @@ judge-settings-requires c κs = let a = c .before .before .before .before .args 
 
 returns-2 : tie.Need-returns-2
 unfolding writeRefusal
-returns-2 c = let a = c .before .before .before .before .before .args in
-    rows.later (toldRows (a .told .part) (a .told .devices) (a .tail)) (writeRows (a .told) (a .tail) (a .byte) (a .bytes .now) (a .values .now) (a .room)) refl (c .before .before .judge-told .ensures) (c .before .if1 .left) (c .judge-settings .ensures)
+returns-2 c =
+    let judge-told = c .before .before .judge-told in
+    let a = c .before .before .before .before .before .args in
+    rows.later (toldRows (a .told .part) (a .told .devices) (a .tail)) (writeRows (a .told) (a .tail) (a .byte) (a .bytes .now) (a .values .now) (a .room)) refl (judge-told .ensures) (c .before .if1 .left) (c .judge-settings .ensures)
 
 pub judge-write-spec : {M : Type 1} → statement M
 judge-write-spec =

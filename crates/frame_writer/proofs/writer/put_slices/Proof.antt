@@ -29,61 +29,71 @@ enum-told : tie.Need-enum-told
 enum-told c = search needs
 
 put-values-requires : tie.Need-put-values-requires
-put-values-requires c κs = let a = c .before .before .before .before .before .before .before .before .args in
+put-values-requires c κs =
+    let entry = c .before .before .before .before .before .before .before .before in
+    let a = entry .args in
     let t = a .told in
-    let list = c .before .before .before .before .before .before .before .before .pre .1 in
+    let list = entry .pre .1 in
     let e = c .before .enum-told .given .1 in
     let ew = c .before .before .before .field-width .ensures in
     let ev : a .values .now ≡ settings t (a .byte) (a .bytes .now) (a .values .now) = sym (ap (λ (k : Command). given t k (a .byte) (a .bytes .now) (a .values .now)) e) in
-    (omega (arith, ew, lengths.width-small (t .part) (t .command) .1), omega (arith, c .before .before .before .before .before .before .before .before .pre .2, pieces.length-settings t (a .byte) (a .bytes .now) (a .values .now) list ev ew))
+    (omega (arith, ew, lengths.width-small (t .part) (t .command) .1), omega (arith, entry .pre .2, pieces.length-settings t (a .byte) (a .bytes .now) (a .values .now) list ev ew))
 
 enum-told-2 : tie.Need-enum-told-2
 enum-told-2 c = search needs
 
 put-bytes-requires : tie.Need-put-bytes-requires
-put-bytes-requires c κs = let a = c .before .before .before .before .before .before .before .before .args in
+put-bytes-requires c κs =
+    let entry = c .before .before .before .before .before .before .before .before in
+    let a = entry .args in
     let t = a .told in
-    let list = c .before .before .before .before .before .before .before .before .pre .1 in
+    let list = entry .pre .1 in
     let e = c .before .enum-told2 .given .1 in
     let ew : 8 ≡ fieldBits t = sym (ap (λ (k : Command). fieldWidth (partOf (t .part)) k) e) in
     let ev : a .bytes .now ≡ settings t (a .byte) (a .bytes .now) (a .values .now) = sym (ap (λ (k : Command). given t k (a .byte) (a .bytes .now) (a .values .now)) e) in
-    omega (arith, c .before .before .before .before .before .before .before .before .pre .2, pieces.length-settings t (a .byte) (a .bytes .now) (a .values .now) list ev ew)
+    omega (arith, entry .pre .2, pieces.length-settings t (a .byte) (a .bytes .now) (a .values .now) list ev ew)
 
 enum-told-3 : tie.Need-enum-told-3
 enum-told-3 c = search needs
 
 put-same-requires : tie.Need-put-same-requires
-put-same-requires c κs = let a = c .before .before .before .before .before .before .before .before .args in
+put-same-requires c κs =
+    let entry = c .before .before .before .before .before .before .before .before in
+    let a = entry .args in
     let t = a .told in
-    let list = c .before .before .before .before .before .before .before .before .pre .1 in
+    let list = entry .pre .1 in
     let e = c .before .enum-told3 .given .1 in
     let ew : 8 ≡ fieldBits t = sym (ap (λ (k : Command). fieldWidth (partOf (t .part)) k) e) in
     let n = c .before .before .before .before .told-fields .result in
     let ev : replicate n (a .byte) ≡ settings t (a .byte) (a .bytes .now) (a .values .now)
     = ap (λ (k : ℕ). replicate k (a .byte)) (count (c .before .before .before .before)) ∙ sym (ap (λ (k : Command). given t k (a .byte) (a .bytes .now) (a .values .now)) e) in
-    omega (arith, c .before .before .before .before .before .before .before .before .pre .2, pieces.length-settings t (a .byte) (a .bytes .now) (a .values .now) list ev ew, length-replicate n (a .byte))
+    omega (arith, entry .pre .2, pieces.length-settings t (a .byte) (a .bytes .now) (a .values .now) list ev ew, length-replicate n (a .byte))
 
 enum-told-4 : tie.Need-enum-told-4
 enum-told-4 c = search needs
 
 put-same-requires-2 : tie.Need-put-same-requires-2
-put-same-requires-2 c κs = let a = c .before .before .before .before .before .before .before .before .args in
+put-same-requires-2 c κs =
+    let entry = c .before .before .before .before .before .before .before .before in
+    let a = entry .args in
     let t = a .told in
-    let list = c .before .before .before .before .before .before .before .before .pre .1 in
+    let list = entry .pre .1 in
     let e = c .before .enum-told4 .given .1 in
     let ew : 8 ≡ fieldBits t = sym (ap (λ (k : Command). fieldWidth (partOf (t .part)) k) e) in
     let n = c .before .before .before .before .told-fields .result in
     let ev : replicate n (a .byte) ≡ settings t (a .byte) (a .bytes .now) (a .values .now)
     = ap (λ (k : ℕ). replicate k (a .byte)) (count (c .before .before .before .before)) ∙ sym (ap (λ (k : Command). given t k (a .byte) (a .bytes .now) (a .values .now)) e) in
-    omega (arith, c .before .before .before .before .before .before .before .before .pre .2, pieces.length-settings t (a .byte) (a .bytes .now) (a .values .now) list ev ew, length-replicate n (a .byte))
+    omega (arith, entry .pre .2, pieces.length-settings t (a .byte) (a .bytes .now) (a .values .now) list ev ew, length-replicate n (a .byte))
 
 same-length : tie.Need-same-length
 same-length c = search needs
 
 returns : tie.Need-returns
-returns c = let a = c .before .before .before .before .before .before .before .before .before .before .before .args in
+returns c =
+    let entry = c .before .before .before .before .before .before .before .before .before .before .before in
+    let a = entry .args in
     let t = a .told in
-    let list = c .before .before .before .before .before .before .before .before .before .before .before .pre .1 in
+    let list = entry .pre .1 in
     let e = c .before .before .before .before .enum-told .given .1 in
     let ew = c .before .before .before .before .before .before .field-width .ensures in
     let ev : a .values .now ≡ settings t (a .byte) (a .bytes .now) (a .values .now) = sym (ap (λ (k : Command). given t k (a .byte) (a .bytes .now) (a .values .now)) e) in
@@ -93,21 +103,27 @@ same-length-2 : tie.Need-same-length-2
 same-length-2 c = search needs
 
 returns-2 : tie.Need-returns-2
-returns-2 c = let a = c .before .before .before .before .before .before .before .before .before .before .before .args in
+returns-2 c =
+    let enum-told2 = c .before .before .before .before .enum-told2 in
+    let put-bytes = c .before .before .put-bytes in
+    let entry = c .before .before .before .before .before .before .before .before .before .before .before in
+    let a = entry .args in
     let t = a .told in
-    let list = c .before .before .before .before .before .before .before .before .before .before .before .pre .1 in
-    let e = c .before .before .before .before .enum-told2 .given .1 in
+    let list = entry .pre .1 in
+    let e = enum-told2 .given .1 in
     let ew : 8 ≡ fieldBits t = sym (ap (λ (k : Command). fieldWidth (partOf (t .part)) k) e) in
     let ev : a .bytes .now ≡ settings t (a .byte) (a .bytes .now) (a .values .now) = sym (ap (λ (k : Command). given t k (a .byte) (a .bytes .now) (a .values .now)) e) in
-    pieces.put-whole t (a .byte) (a .bytes .now) (a .values .now) list ev ew refl (λ i. c .before .before .before .before .before .before .before .before .before .before .shared-slice-known .given i .fits) (a .at) (a .out .now) (c .before .before .put-bytes .ensures)
+    pieces.put-whole t (a .byte) (a .bytes .now) (a .values .now) list ev ew refl (λ i. c .before .before .before .before .before .before .before .before .before .before .shared-slice-known .given i .fits) (a .at) (a .out .now) (put-bytes .ensures)
 
 same-length-3 : tie.Need-same-length-3
 same-length-3 c = search needs
 
 returns-3 : tie.Need-returns-3
-returns-3 c = let a = c .before .before .before .before .before .before .before .before .before .before .before .args in
+returns-3 c =
+    let entry = c .before .before .before .before .before .before .before .before .before .before .before in
+    let a = entry .args in
     let t = a .told in
-    let list = c .before .before .before .before .before .before .before .before .before .before .before .pre .1 in
+    let list = entry .pre .1 in
     let e = c .before .before .before .before .enum-told3 .given .1 in
     let ew : 8 ≡ fieldBits t = sym (ap (λ (k : Command). fieldWidth (partOf (t .part)) k) e) in
     let n = c .before .before .before .before .before .before .before .told-fields .result in
@@ -121,9 +137,11 @@ same-length-4 : tie.Need-same-length-4
 same-length-4 c = search needs
 
 returns-4 : tie.Need-returns-4
-returns-4 c = let a = c .before .before .before .before .before .before .before .before .before .before .before .args in
+returns-4 c =
+    let entry = c .before .before .before .before .before .before .before .before .before .before .before in
+    let a = entry .args in
     let t = a .told in
-    let list = c .before .before .before .before .before .before .before .before .before .before .before .pre .1 in
+    let list = entry .pre .1 in
     let e = c .before .before .before .before .enum-told4 .given .1 in
     let ew : 8 ≡ fieldBits t = sym (ap (λ (k : Command). fieldWidth (partOf (t .part)) k) e) in
     let n = c .before .before .before .before .before .before .before .told-fields .result in
@@ -134,4 +152,24 @@ returns-4 c = let a = c .before .before .before .before .before .before .before 
     (c .before .before .put-same2 .ensures .0, c .before .before .put-same2 .ensures .1 ∙ ap (λ (k : ℕ). a .at + k) (sym (length-replicate n (a .byte))))
 
 pub put-slices-spec : {M : Type 1} → statement M
-put-slices-spec = tie.close (tie.spec told-fields-requires field-width-requires enum-told put-values-requires enum-told-2 put-bytes-requires enum-told-3 put-same-requires enum-told-4 put-same-requires-2 same-length returns same-length-2 returns-2 same-length-3 returns-3 same-length-4 returns-4)
+put-slices-spec =
+    tie.close
+    (tie.spec
+    told-fields-requires
+    field-width-requires
+    enum-told
+    put-values-requires
+    enum-told-2
+    put-bytes-requires
+    enum-told-3
+    put-same-requires
+    enum-told-4
+    put-same-requires-2
+    same-length
+    returns
+    same-length-2
+    returns-2
+    same-length-3
+    returns-3
+    same-length-4
+    returns-4)

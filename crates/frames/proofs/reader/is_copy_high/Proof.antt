@@ -2,11 +2,13 @@
 use borrow.Author.Needs.{needs}
 use Rattle.frames.proofs.reader.is_copy_high.Statement.{statement}
 use Rattle.frames.proofs.reader.is_copy_high.Tie as tie
-use mathlib.Core.Path.{sym, ap, _∙_}
+use mathlib.Core.Path.{_≡_, refl, sym, ap, _∙_}
+use mathlib.Core.Bool.{false}
 use native.Mathlib.Omega.{arith}
 use Rattle.parts.specs.Parts.{partOf, fieldWidth}
 use Rattle.parts.specs.declared.command.Command.{Command}
 use Rattle.frames.specs.Reading.{copyHigh, heldFields}
+use Rattle.parts.proofs.Cases.{not-global}
 use Rattle.frames.proofs.Lengths as lengths
 use Rattle.frames.proofs.Pieces as pieces
 
@@ -23,35 +25,23 @@ cast-limit c = let t = c .before .before .before .args .told in
 enum-told : tie.Need-enum-told
 enum-told c = search needs
 
-enum-told-2 : tie.Need-enum-told-2
-enum-told-2 c = search needs
-
-enum-told-3 : tie.Need-enum-told-3
-enum-told-3 c = search needs
-
 held-below-requires : tie.Need-held-below-requires
 held-below-requires c κs = rw (c .before .before .before .field-count .ensures) (c .before .before .before .before .before .pre .1)
 
-enum-told-4 : tie.Need-enum-told-4
-enum-told-4 c = search needs
-
 returns : tie.Need-returns
-returns c = search needs
-
-returns-2 : tie.Need-returns-2
-returns-2 c = search needs
-
-returns-3 : tie.Need-returns-3
-returns-3 c = let s = c .before .before .before .before .before .before in
+returns c = let s = c .before .before .before .before .before .before in
     let t = s .args .told in
     let f = s .args .frame .now in
-    let e = c .before .enum-told3 .given .1 in
+    let e = c .before .enum-told .given .1 in
     let h = pieces.held-bytes t f (ap (λ (k : Command). fieldWidth (partOf (t .part)) k) e) (s .pre .1) (λ i. c .before .before .before .before .before .shared-slice-known .given i .fits) in
     pieces.all-held-below t f h (c .before .before .before .before .field-count .ensures) (c .before .before .before .subframes-of .ensures) (c .held-below .ensures)
     ∙ sym (ap (λ (k : Command). copyHigh t k (heldFields t f)) e)
 
-returns-4 : tie.Need-returns-4
-returns-4 c = search needs
+returns-2 : tie.Need-returns-2
+returns-2 c =
+    let a = c .before .before .before .before .args in
+    let t = a .told in
+    not-global (λ k. false ≡ copyHigh t k (heldFields t (a .frame .now))) refl refl refl (t .command) (c .match .keys2)
 
 pub is-copy-high-spec : {M : Type 1} → statement M
-is-copy-high-spec = tie.close (tie.spec field-count-requires subframes-of-requires cast-limit enum-told enum-told-2 enum-told-3 held-below-requires enum-told-4 returns returns-2 returns-3 returns-4)
+is-copy-high-spec = tie.close (tie.spec field-count-requires subframes-of-requires cast-limit enum-told held-below-requires returns returns-2)

@@ -18,12 +18,16 @@ is-room-short-requires : tie.Need-is-room-short-requires
 is-room-short-requires c κs = search needs
 
 returns-2 : tie.Need-returns-2
-returns-2 c = let p = c .before .before .before in
-    rows.no 4 (rows.agrees refl (p .before .frame-length .ensures) (p .if1 .left)) (rows.yes 5 _ (rw (c .before .before .field-count .ensures) at (sym (c .before .is-room-short .ensures) ∙ c .if2 .taken)))
+returns-2 c =
+    let field-count = c .before .before .field-count in
+    let p = c .before .before .before in
+    rows.no 4 (rows.agrees refl (p .before .frame-length .ensures) (p .if1 .left)) (rows.yes 5 _ (rw (field-count .ensures) at (sym (c .before .is-room-short .ensures) ∙ c .if2 .taken)))
 
 returns-3 : tie.Need-returns-3
-returns-3 c = let p = c .before .before .before in
-    rows.no 4 (rows.agrees refl (p .before .frame-length .ensures) (p .if1 .left)) (rows.no 5 (rw (c .before .before .field-count .ensures) at (sym (c .before .is-room-short .ensures) ∙ c .if2 .left)) refl)
+returns-3 c =
+    let field-count = c .before .before .field-count in
+    let p = c .before .before .before in
+    rows.no 4 (rows.agrees refl (p .before .frame-length .ensures) (p .if1 .left)) (rows.no 5 (rw (field-count .ensures) at (sym (c .before .is-room-short .ensures) ∙ c .if2 .left)) refl)
 
 pub judge-lengths-spec : {M : Type 1} → statement M
 judge-lengths-spec =

@@ -28,8 +28,11 @@ returns c = let a = c .before .before .before .before .before .args in
     )
 
 take-fields-requires : tie.Need-take-fields-requires
-take-fields-requires c κs = let a = c .before .before .before .before .before .before .before .args in
-    let r = accepted.readable (a .told) (a .tail) (a .frame .now) (length (a .bytes .now)) (length (a .values .now)) (sym (c .before .before .before .judge-read .ensures) ∙ c .before .before .if1 .left) in
+take-fields-requires c κs =
+    let judge-read = c .before .before .before .judge-read in
+    let test = c .before .before .if1 in
+    let a = c .before .before .before .before .before .before .before .args in
+    let r = accepted.readable (a .told) (a .tail) (a .frame .now) (length (a .bytes .now)) (length (a .values .now)) (sym (judge-read .ensures) ∙ test .left) in
     let h = lengths.frame-holds (a .told) (a .tail) (length (a .frame .now)) (r .long) in
     (r .told .some, r .told .few, omega arith, r .room)
 

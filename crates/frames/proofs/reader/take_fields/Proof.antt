@@ -28,15 +28,18 @@ enum-told : tie.Need-enum-told
 enum-told c = search needs
 
 take-values-requires : tie.Need-take-values-requires
-take-values-requires c κs = let s = c .before .before .before .before .before .before .before .before in
+take-values-requires c κs =
+    let field-count = c .before .before .before .before .field-count in
+    let field-width = c .before .before .before .field-width in
+    let s = c .before .before .before .before .before .before .before .before in
     let a = s .args in
     let t = a .told in
     let f = a .frame .now in
     let e = c .before .enum-told .given .1 in
     let more = lengths.bytes-more t in
     let q = subst (λ (k : Command). roomShort k (fieldCount t) (length (a .bytes .now)) (length (a .values .now)) ≡ false) e (s .pre .3) in
-    let m : c .before .before .before .before .field-count .result * c .before .before .before .field-width .result ≡ slicesBits t = ap₂ (λ (x y : ℕ). x * y) (c .before .before .before .before .field-count .ensures) (c .before .before .before .field-width .ensures) in
-    (omega (arith, c .before .before .before .field-width .ensures, lengths.width-small (t .part) (t .command) .1), omega (arith, m, s .pre .2), rw (c .before .before .before .before .field-count .ensures) (ltb-false _ _ q))
+    let m : field-count .result * field-width .result ≡ slicesBits t = ap₂ (λ (x y : ℕ). x * y) (field-count .ensures) (field-width .ensures) in
+    (omega (arith, field-width .ensures, lengths.width-small (t .part) (t .command) .1), omega (arith, m, s .pre .2), rw (field-count .ensures) (ltb-false _ _ q))
 
 enum-told-2 : tie.Need-enum-told-2
 enum-told-2 c = search needs
@@ -69,17 +72,22 @@ same-length : tie.Need-same-length
 same-length c = search needs
 
 returns : tie.Need-returns
-returns c = let s = c .before .before .before .before .before .before .before .before .before .before .before in
+returns c =
+    let enum-told = c .before .before .before .before .enum-told in
+    let field-count = c .before .before .before .before .before .before .before .field-count in
+    let take-values = c .before .before .take-values in
+    let field-width = c .before .before .before .before .before .before .field-width in
+    let s = c .before .before .before .before .before .before .before .before .before .before .before in
     let a = s .args in
     let t = a .told in
     let f = a .frame .now in
-    let e = c .before .before .before .before .enum-told .given .1 in
+    let e = enum-told .given .1 in
     let more = lengths.bytes-more t in
     let h = heldFields t f in
     let all = fields 8 (drop 3 f) in (
-      ap Values (c .before .before .before .before .before .before .before .field-count .ensures) ∙ sym (ap (λ (k : Command). found t k h) e),
+      ap Values (field-count .ensures) ∙ sym (ap (λ (k : Command). found t k h) e),
       sym (ap (λ (k : Command). bytesFound k h (a .bytes .now)) e),
-      c .before .before .take-values .ensures ∙ ap₂ (λ (x y : ℕ). over (split x y all) (a .values .now)) (c .before .before .before .before .before .before .field-width .ensures) (c .before .before .before .before .before .before .before .field-count .ensures)
+      take-values .ensures ∙ ap₂ (λ (x y : ℕ). over (split x y all) (a .values .now)) (field-width .ensures) (field-count .ensures)
           ∙ ap (λ (l : List ℕ). over l (a .values .now)) (sym (pieces.held-split t f (omega (arith, s .pre .2)))) ∙ sym (ap (λ (k : Command). valuesFound k h (a .values .now)) e),
     )
 
@@ -87,16 +95,20 @@ same-length-2 : tie.Need-same-length-2
 same-length-2 c = search needs
 
 returns-2 : tie.Need-returns-2
-returns-2 c = let s = c .before .before .before .before .before .before .before .before .before .before .before in
+returns-2 c =
+    let enum-told2 = c .before .before .before .before .enum-told2 in
+    let field-count = c .before .before .before .before .before .before .before .field-count in
+    let take-bytes = c .before .before .take-bytes in
+    let s = c .before .before .before .before .before .before .before .before .before .before .before in
     let a = s .args in
     let t = a .told in
     let f = a .frame .now in
-    let e = c .before .before .before .before .enum-told2 .given .1 in
+    let e = enum-told2 .given .1 in
     let more = lengths.bytes-more t in
     let h = heldFields t f in
     let g = pieces.held-bytes t f (ap (λ (k : Command). fieldWidth (partOf (t .part)) k) e) (omega (arith, more, s .pre .2)) (λ i. c .before .before .before .before .before .before .before .before .before .before .shared-slice-known .given i .fits) in (
-      ap Bytes (c .before .before .before .before .before .before .before .field-count .ensures) ∙ sym (ap (λ (k : Command). found t k h) e),
-      c .before .before .take-bytes .ensures ∙ ap (λ (k : ℕ). over (take k (drop 3 f)) (a .bytes .now)) (c .before .before .before .before .before .before .before .field-count .ensures)
+      ap Bytes (field-count .ensures) ∙ sym (ap (λ (k : Command). found t k h) e),
+      take-bytes .ensures ∙ ap (λ (k : ℕ). over (take k (drop 3 f)) (a .bytes .now)) (field-count .ensures)
           ∙ ap (λ (l : List ℕ). over l (a .bytes .now)) (sym g) ∙ sym (ap (λ (k : Command). bytesFound k h (a .bytes .now)) e),
       sym (ap (λ (k : Command). valuesFound k h (a .values .now)) e),
     )
@@ -130,4 +142,22 @@ returns-4 c = let s = c .before .before .before .before .before .before .before 
     )
 
 pub take-fields-spec : {M : Type 1} → statement M
-take-fields-spec = tie.close (tie.spec field-count-requires field-width-requires enum-told take-values-requires enum-told-2 take-bytes-requires enum-told-3 shared-slice-read-t16 enum-told-4 shared-slice-read-t18 same-length returns same-length-2 returns-2 returns-3 returns-4)
+take-fields-spec =
+    tie.close
+    (tie.spec
+    field-count-requires
+    field-width-requires
+    enum-told
+    take-values-requires
+    enum-told-2
+    take-bytes-requires
+    enum-told-3
+    shared-slice-read-t16
+    enum-told-4
+    shared-slice-read-t18
+    same-length
+    returns
+    same-length-2
+    returns-2
+    returns-3
+    returns-4)

@@ -22,8 +22,10 @@ judge-back-requires c κs = let a = c .before .before .before .args in
 
 returns-2 : tie.Need-returns-2
 unfolding returnRefusal
-returns-2 c = let a = c .before .before .before .before .args in
-    rows.later (toldRows (a .part) (a .devices) (a .tail)) (returnRows (a .devices) (a .command) (a .tail) (a .frame .now)) refl (c .before .before .judge-told .ensures) (c .before .if1 .left) (c .judge-back .ensures)
+returns-2 c =
+    let judge-told = c .before .before .judge-told in
+    let a = c .before .before .before .before .args in
+    rows.later (toldRows (a .part) (a .devices) (a .tail)) (returnRows (a .devices) (a .command) (a .tail) (a .frame .now)) refl (judge-told .ensures) (c .before .if1 .left) (c .judge-back .ensures)
 
 pub judge-return-spec : {M : Type 1} → statement M
 judge-return-spec = tie.close (tie.spec judge-told-requires returns judge-back-requires returns-2)

@@ -2,7 +2,7 @@
 use mathlib.Core.Path.{_≡_, refl}
 use mathlib.Core.Bool.{false}
 use Rattle.frame_writer.specs.Writing.{listWrong}
-use Rattle.frames.proofs.Cases.{one-byte}
+use Rattle.frames.proofs.Commands.{one-byte}
 use borrow.Author.Needs.{needs}
 use Rattle.frame_writer.proofs.writer.is_list_wrong.Statement.{statement}
 use Rattle.frame_writer.proofs.writer.is_list_wrong.Tie as tie

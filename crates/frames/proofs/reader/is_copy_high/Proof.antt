@@ -8,7 +8,7 @@ use native.Mathlib.Omega.{arith}
 use Rattle.parts.specs.Parts.{partOf, fieldWidth}
 use Rattle.parts.specs.declared.command.Command.{Command}
 use Rattle.frames.specs.Reading.{copyHigh, heldFields}
-use Rattle.frames.proofs.Cases.{not-global}
+use Rattle.frames.proofs.Commands.{not-global}
 use Rattle.frames.proofs.Lengths as lengths
 use Rattle.frames.proofs.Pieces as pieces
 

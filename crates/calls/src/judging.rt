@@ -82,10 +82,3 @@ fn fits_with(judged: Judged, device: Device) -> bool
 {
     judged.fits && device.fits()
 }
-
-// Both tests pass.
-pub fn both(a: bool, b: bool) -> bool
-    ensures { λ r. ⌜ r ≡ (a && b) ⌝ }
-{
-    if a { b } else { false }
-}

@@ -10,6 +10,5 @@ pub use changes::fault_span;
 pub use changes::fresh_span;
 pub use changes::with_fault;
 pub use judging::Judged;
-pub use judging::both;
 pub use judging::judge;
 pub use refusals::run_refusal;

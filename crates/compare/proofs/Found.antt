@@ -23,7 +23,7 @@ use Rattle.model.specs.Set.{Set, Own, deal, owned}
 use Rattle.calls.specs.Judging.{unjudged, judgedFrom}
 use Rattle.compare.specs.declared.compared.Compared.{Compared}
 use Rattle.compare.specs.declared.compared.Given.{Given}
-use Rattle.compare.specs.declared.search.Search.{Search}
+use Rattle.compare.specs.declared.compared.Search.{Search}
 use Rattle.compare.specs.Compare.{differsAt, Pair, _against_, groups, inGroups, compared, same, difference, lengthsFit, sameChain, compareTable, compareRefusal, comparison}
 use Rattle.compare.specs.Search.{setBy, Ready, onward, ended, lookedAt, begunUnder, begun}
 use Rattle.compare.proofs.Refusal.{fields-of}

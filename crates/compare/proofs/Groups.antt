@@ -10,7 +10,7 @@ use borrow.Author.Tests.{lt-ltb, le-ltb, eq-eqb, ne-eqb}
 use Rattle.device.specs.declared.device.Device.{Device}
 use Rattle.model.specs.Set.{Own}
 use Rattle.compare.specs.declared.compared.Compared.{Compared}
-use Rattle.compare.specs.declared.search.Search.{Search}
+use Rattle.compare.specs.declared.compared.Search.{Search}
 use Rattle.compare.specs.Compare.{differsAt, activeValues, Pair, _against_, groups, inGroups, compared, same}
 use Rattle.compare.specs.Search.{ownAt, onward, ended, lookedAt}
 

@@ -14,7 +14,7 @@ use Rattle.model.specs.Set.{Set, Own}
 use Rattle.calls.specs.declared.judging.Judged.{Judged}
 use Rattle.compare.specs.declared.compared.Compared.{Compared}
 use Rattle.compare.specs.declared.compared.Given.{Given}
-use Rattle.compare.specs.declared.search.Search.{Search}
+use Rattle.compare.specs.declared.compared.Search.{Search}
 use Rattle.compare.specs.Compare.{setOf, compared, same, groups, inGroups, lengthsFit, valuesFit, rowsOf}
 
 -- what is given of a set beside its lists, and with them

@@ -1,4 +1,4 @@
-// What is compared, and what is answered.
+// What is compared, what is answered, and how far a search has come.
 
 // The set, but for its lists.
 pub struct Given {
@@ -16,4 +16,21 @@ pub struct Compared {
     pub place: u16,
     pub group: u8,
     pub refusal: u8,
+}
+
+// How far a search has come.
+pub struct Search {
+    pub configuration: u8,
+    pub global: u8,
+    pub devices: usize,
+    // Bytes and values of one device's slices.
+    pub banks: usize,
+    pub fields: usize,
+    // The next device, and where its own bytes and values begin.
+    pub index: usize,
+    pub bytes: usize,
+    pub values: usize,
+    // There is a next device, and none before it differs.
+    pub going: bool,
+    pub answer: Compared,
 }

@@ -6,7 +6,7 @@ ghost use lib.ListN.{length};
 ghost use Rattle.compare.specs.Compare.{differsAt, inTurns, activeValues, inGroups, groups, compared, same};
 ghost use Rattle.compare.specs.Search.{Ready, ownAt};
 use crate::compared::Compared;
-use crate::search::Search;
+use crate::compared::Search;
 use device::Device;
 
 // The first group and place at which a device differs from what is its own, or all 0.

@@ -5,25 +5,10 @@ ghost use lib.ListN.{length};
 ghost use Rattle.compare.specs.Search.{given, Ready, begun, begunUnder, lookedAt};
 use crate::compared::Compared;
 use crate::compared::Given;
+use crate::compared::Search;
 use calls::Judged;
 use device::Device;
 use parts::Command;
-
-pub struct Search {
-    pub configuration: u8,
-    pub global: u8,
-    pub devices: usize,
-    // Bytes and values of one device's slices.
-    pub banks: usize,
-    pub fields: usize,
-    // The next device, and where its own bytes and values begin.
-    pub index: usize,
-    pub bytes: usize,
-    pub values: usize,
-    // There is a next device, and none before it differs.
-    pub going: bool,
-    pub answer: Compared,
-}
 
 // Where the search begins. A refused one is at its end.
 pub fn begin(

@@ -1,7 +1,8 @@
 // The single step of a device, by value, and the events that are no clock.
 ghost use mathlib.Core.Path.{_≡_};
 ghost use Rattle.device.specs.Step.{sending, collected, stepHigh, step, bounded, faulted, freshDevice};
-ghost use Rattle.device.specs.Judgement.{refusedWith, stepAnswer};
+ghost use Rattle.tables.specs.Refusals.{first};
+ghost use Rattle.device.specs.Judgement.{fits, judgement, refusedWith, stepAnswer};
 use parts::Command;
 use phases::Phase;
 use phases::Place;
@@ -32,7 +33,7 @@ impl Device {
     pub fn step(self, state: u8) -> Answer
         ensures { λ r. ⌜ r ≡ stepAnswer self state ⌝ }
     {
-        let judged = crate::judgement::judge(self);
+        let judged = judge(self);
         if judged != 0 {
             return refused_with(self, judged);
         }
@@ -47,6 +48,15 @@ impl Device {
             device,
             sent,
         }
+    }
+
+    // Number 13 does not apply to the record.
+    pub fn fits(self) -> bool
+        ensures { λ r. ⌜ r ≡ fits self ⌝ }
+    {
+        let registers = self.registers;
+        let place = self.place;
+        crate::judgement::place_fits(place, registers) && registers.fits()
     }
 
     // The step of any record: what `step` does once nothing is refused.
@@ -158,4 +168,14 @@ fn sending(registers: Registers, phase: Phase, sent: Sent) -> Stepped
         },
         sent,
     }
+}
+
+// The number under which a record is refused, or 0.
+pub fn judge(device: Device) -> u8
+    ensures { λ r. ⌜ r ≡ first (judgement device) ⌝ }
+{
+    if !parts::is_known(device.registers.part) {
+        return 1;
+    }
+    if device.fits() { 0 } else { 13 }
 }

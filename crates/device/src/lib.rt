@@ -5,4 +5,4 @@ mod judgement;
 pub use device::Answer;
 pub use device::Device;
 pub use device::Stepped;
-pub use judgement::judge;
+pub use device::judge;

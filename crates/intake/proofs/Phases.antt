@@ -25,7 +25,7 @@ use Rattle.registers.specs.declared.registers.Registers.{Registers}
 use Rattle.device.specs.declared.device.Device.{Device}
 use Rattle.device.specs.declared.device.Stepped.{Stepped}
 use Rattle.intake.specs.Intake.{stopped, highTaken, unlessSent, headedAll, highsEnd, oneTaken}
-use Rattle.intake.specs.declared.states.Taken.{Taken}
+use Rattle.intake.specs.declared.taken.Taken.{Taken}
 use Rattle.intake.specs.declared.states.Headed.{Headed}
 use Rattle.intake.proofs.Lines.{drop-on}
 

@@ -23,7 +23,7 @@ use Rattle.phases.specs.declared.phase.Phase.the-variants.{Slice, Passing}
 use Rattle.phases.specs.declared.phase.Sent.the-variants.{Header}
 use Rattle.registers.specs.declared.registers.Registers.{Registers}
 use Rattle.intake.specs.Intake.{highTaken, filled, least, collecting, full}
-use Rattle.intake.specs.declared.states.Taken.{Taken}
+use Rattle.intake.specs.declared.taken.Taken.{Taken}
 use Rattle.intake.specs.declared.slice.Filled.{Filled}
 use Rattle.intake.proofs.Lines.{drop-on, filled-none, filled-end, filled-low, filled-on}
 use Rattle.intake.proofs.Phases.{after, high-at}

@@ -14,7 +14,7 @@ use Rattle.phases.specs.declared.phase.Sent.{Sent}
 use Rattle.phases.specs.declared.phase.Sent.the-variants.{Nothing, One, Header}
 use Rattle.registers.specs.declared.registers.Registers.{Registers}
 use Rattle.device.specs.declared.device.Device.{Device}
-use Rattle.intake.specs.declared.states.Taken.{Taken}
+use Rattle.intake.specs.declared.taken.Taken.{Taken}
 use Rattle.intake.specs.declared.states.Headed.{Headed}
 use Rattle.intake.specs.declared.slice.Filled.{Filled}
 

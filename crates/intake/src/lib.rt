@@ -2,8 +2,9 @@
 // Where high states end is asked by a chain that passes them too.
 mod slice;
 mod states;
+mod taken;
 
 pub use slice::smaller;
-pub use states::Taken;
 pub use states::highs_end;
 pub use states::take;
+pub use taken::Taken;

@@ -7,7 +7,7 @@ ghost use Rattle.device.specs.Step.{at, sliceLength};
 ghost use Rattle.phases.specs.declared.phase.Phase.the-variants.{Slice};
 ghost use Rattle.phases.specs.declared.phase.Sent.the-variants.{Nothing};
 ghost use Rattle.intake.specs.Intake.{stopped, collecting, full, highTaken, filled, least};
-use crate::states::Taken;
+use crate::taken::Taken;
 use device::Device;
 use parts::Command;
 use phases::Phase;
@@ -34,7 +34,7 @@ pub fn collect(
     if taken < parts::slice_bits(command, registers.part, registers.configuration) {
         return gather(registers, command, count, taken, states, from);
     }
-    crate::states::one(
+    crate::taken::one(
         registers,
         Phase::Slice {
             command,

@@ -4,18 +4,13 @@ ghost use Prim.Native.Nat.{_<_, _≤_};
 ghost use lib.ListN.{length, getD, drop};
 ghost use Rattle.device.specs.Step.{at};
 ghost use Rattle.phases.specs.declared.phase.Sent.the-variants.{Nothing};
-ghost use Rattle.intake.specs.Intake.{stopped, highTaken, oneTaken, headedAll, highsEnd};
+ghost use Rattle.intake.specs.Intake.{stopped, highTaken, headedAll, highsEnd};
+use crate::taken::Taken;
+use crate::taken::one;
 use device::Device;
 use phases::Phase;
 use phases::Sent;
 use registers::Registers;
-
-// The device, the place of the next state, and what was sent.
-pub struct Taken {
-    pub device: Device,
-    pub at: usize,
-    pub sent: Sent,
-}
 
 // A phase, and the place of the next state.
 pub struct Headed {
@@ -105,32 +100,4 @@ pub fn highs_end(states: &[u8], from: usize) -> usize
         i += 1;
     }
     i
-}
-
-// One high state.
-pub fn one(registers: Registers, phase: Phase, states: &[u8], from: usize) -> Taken
-    ensures { λ r. ⌜ r ≡ oneTaken (at registers phase) (drop from (now (states .entry))) from ⌝ }
-{
-    let device = Device {
-        registers,
-        place: phases::place_of(phase),
-    };
-    if from < states.len() {
-        let s = states[from];
-        if s >= 2 {
-            let next = device.advance(s);
-            let after = next.device;
-            let sent = next.sent;
-            return Taken {
-                device: after,
-                at: from + 1,
-                sent,
-            };
-        }
-    }
-    Taken {
-        device,
-        at: from,
-        sent: Sent::Nothing,
-    }
 }

@@ -27,7 +27,7 @@ use Rattle.device.specs.declared.device.Device.{Device}
 use Rattle.device.specs.declared.device.Stepped.{Stepped}
 use Rattle.phases.proofs.Places.{Small}
 use Rattle.intake.specs.Intake.{stopped, unlessSent, highTaken}
-use Rattle.intake.specs.declared.states.Taken.{Taken}
+use Rattle.intake.specs.declared.taken.Taken.{Taken}
 use Rattle.intake.proofs.Lines.{drop-on, high-end}
 use Rattle.intake.proofs.Phases.{high-low-at}
 use Rattle.calls.specs.Chain.{through}

@@ -16,7 +16,7 @@ use Rattle.phases.specs.declared.phase.Sent.{Sent}
 use Rattle.phases.specs.declared.phase.Sent.the-variants.{Nothing, One, Header}
 use Rattle.device.specs.declared.device.Device.{Device}
 use Rattle.intake.specs.Intake.{stopped, highTaken}
-use Rattle.intake.specs.declared.states.Taken.{Taken}
+use Rattle.intake.specs.declared.taken.Taken.{Taken}
 use Rattle.calls.specs.Chain.{blank}
 use Rattle.turns.specs.declared.cursor.Cursor.{Cursor}
 use Rattle.turns.specs.declared.states.Roamed.{Roamed}

@@ -21,7 +21,7 @@ use Rattle.turns.specs.declared.entry.Entry.{Entry}
 use Rattle.turns.specs.declared.entry.Ran.{Ran}
 use Rattle.calls.specs.declared.judging.Judged.{Judged}
 use Rattle.phases.specs.declared.phase.Sent.{Sent}
-use Rattle.intake.specs.declared.states.Taken.{Taken}
+use Rattle.intake.specs.declared.taken.Taken.{Taken}
 use Rattle.turns.specs.Front.{Running, nowAt, turnTaken, cursorAfter, turned, turnedOut, turning, enough}
 use Rattle.calls.specs.Judging.{runRows}
 use Rattle.turns.specs.Answer.{ran}
@@ -34,8 +34,8 @@ use Rattle.turns.proofs.entry.Ran as R
 use Rattle.turns.proofs.entry.Ran.Laws as R′
 use Rattle.calls.proofs.judging.Judged as J
 use Rattle.calls.proofs.judging.Judged.Laws as J′
-use Rattle.intake.proofs.states.Taken as S
-use Rattle.intake.proofs.states.Taken.Laws as S′
+use Rattle.intake.proofs.taken.Taken as S
+use Rattle.intake.proofs.taken.Taken.Laws as S′
 use Rattle.phases.proofs.phase.Sent as N
 use Rattle.phases.proofs.phase.Sent.Laws as N′
 use Rattle.calls.proofs.Judged.{run-refusal-found}

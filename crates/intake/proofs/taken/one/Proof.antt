@@ -2,8 +2,8 @@ use Rattle.intake.proofs.Lines.{drop-on}
 use lib.ListN.{drop-of-length-le}
 use borrow.Author.Tests.{lt-ltb, le-ltb}
 use borrow.Author.Needs.{needs}
-use Rattle.intake.proofs.states.one.Statement.{statement}
-use Rattle.intake.proofs.states.one.Tie as tie
+use Rattle.intake.proofs.taken.one.Statement.{statement}
+use Rattle.intake.proofs.taken.one.Tie as tie
 
 place-of-requires : tie.Need-place-of-requires
 place-of-requires c κs = search needs

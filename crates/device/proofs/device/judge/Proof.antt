@@ -1,8 +1,8 @@
 use borrow.Author.Tests.{not-true, not-false}
 use mathlib.Core.Path.{sym, _∙_}
 use borrow.Author.Needs.{needs}
-use Rattle.device.proofs.judgement.judge.Statement.{statement}
-use Rattle.device.proofs.judgement.judge.Tie as tie
+use Rattle.device.proofs.device.judge.Statement.{statement}
+use Rattle.device.proofs.device.judge.Tie as tie
 
 is-known-requires : tie.Need-is-known-requires
 is-known-requires c κs = search needs

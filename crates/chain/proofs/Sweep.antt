@@ -1,17 +1,18 @@
 -- A loop that replaces element after element of a list by what a function makes of it. After k turns from place `from` on the list is
 -- `sweep f from k`. A loop over a span that is empty where the call is refused leaves what calls/specs/Calls says: by cases of the refusal.
 use mathlib.Core.Path.{_≡_, refl, ap, sym, _∙_}
-use mathlib.Core.Bool.{Bool, true, false, not, _&&_, cond, true≢false}
+use mathlib.Core.Bool.{Bool, true, false, not, _&&_, cond}
 use mathlib.Core.List.{List, [], _∷_, _++_, map}
 use Prim.Native.Nat.{ℕ, zero, suc, _+_, _-_, _≤_}
 use native.Mathlib.Omega.{arith}
 use lib.Dec.{eqb, ltb, leb}
 use lib.ListN.{length, getD, set, replicate, length-set, length-map}
 use lib.Seq.{set-at, getD-at}
-use borrow.Author.Tests.{leb-true, eqb-true}
+use borrow.Author.Tests.{leb-true, eqb-true, not-false}
 use Rattle.bits.specs.Bits.{digit}
 use Rattle.tables.specs.Refusals.{first, content}
 use Rattle.tables.proofs.Rows.{clear}
+use Rattle.tables.proofs.Booleans.{and-left, and-both}
 use Rattle.device.specs.Step.{freshDevice, bounded, faulted}
 use Rattle.device.specs.declared.device.Device.{Device}
 use Rattle.calls.specs.Chain.{allFit, blank}
@@ -136,23 +137,14 @@ pub boundary-swept : (xs : List Device)
     → sweep bounded (span (boundaryRefusal xs) 0 (length xs) .from) (turnsOf (span (boundaryRefusal xs) 0 (length xs))) xs ≡ boundaryAfter xs
 boundary-swept xs = swept bounded (boundaryRefusal xs) 0 (length xs) xs (map bounded xs) (λ _. whole bounded xs)
 
-and-left : (a b : Bool) → not (a && b) ≡ false → a ≡ true
-and-left true b e = refl
-and-left false b e = absurd (true≢false e)
-
-and-rest : (a b : Bool) → not (a && b) ≡ false → not b ≡ false
-and-rest true b e = e
-and-rest false b e = absurd (true≢false e)
-
 -- an accepted fault setting names a device of the chain
 fault-named : (xs : List Device) (device kind : ℕ) → eqb (faultRefusal xs device kind) 0 ≡ true → (1 ≤ device) × (device ≤ length xs)
 unfolding faultRefusal
 fault-named xs device kind e =
     let c = clear (faultTable xs device kind) refl (eqb-true (first (faultTable xs device kind)) 0 e) in
-    let t : not (leb 1 device && (leb device (length xs) && (ltb kind 2 && allFit xs))) ≡ false = c .1 .1 .1 .0 in (
-      leb-true 1 device (and-left (leb 1 device) (leb device (length xs) && (ltb kind 2 && allFit xs)) t),
-      leb-true device (length xs) (and-left (leb device (length xs)) (ltb kind 2 && allFit xs) (and-rest (leb 1 device) (leb device (length xs) && (ltb kind 2 && allFit xs)) t)),
-    )
+    let t : (leb 1 device && (leb device (length xs) && (ltb kind 2 && allFit xs))) ≡ true = not-false _ (c .1 .1 .1 .0) in
+    let one = and-both (leb 1 device) (leb device (length xs) && (ltb kind 2 && allFit xs)) t in
+    (leb-true 1 device (one .0), leb-true device (length xs) (and-left (leb device (length xs)) (ltb kind 2 && allFit xs) (one .1)))
 
 pub fault-within : (xs : List Device) (device kind : ℕ) → Within (span (faultRefusal xs device kind) (device - 1) device) (length xs)
 fault-within xs device kind =

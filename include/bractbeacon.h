@@ -251,7 +251,7 @@ struct bb_answer bb_read(uint16_t part, size_t devices, uint8_t command, uint8_t
 struct bb_answer bb_read_return(uint16_t part, size_t devices, uint8_t command, uint64_t tail, uint32_t tail_length,
                                 const uint8_t *bytes, size_t length);
 
-/* ---- From bytes to the line and back ---- */
+/* ---- From bytes to line states and back ---- */
 
 /*
  * Gives the line states of a packed frame of `bits` bits: the first 8 at low load, the rest at high. Answers the number

@@ -10,7 +10,7 @@ use lib.Dec.{leb}
 use lib.ListN.{length, take, drop}
 use Rattle.tables.proofs.Booleans.{and-left, and-right, and-false, both-and}
 use Rattle.bits.specs.Bits.{number, fields, split, bytesOf, bytesFor, overAt}
-use Rattle.bits.specs.Packing.{fits, packed, packedOut, unpacked, unpackedOut, numberAt}
+use Rattle.bits.specs.Packing.{roomFits, packed, packedOut, unpacked, unpackedOut, numberAt}
 use Rattle.bits.specs.declared.packing.Packed.the-variants as P
 use Rattle.bits.specs.declared.packing.Number.the-variants as N
 
@@ -24,20 +24,20 @@ told-false {told} e n = sym e ∙ not-true told n
 
 -- ---- what fits
 module _ (widest w n at room : ℕ) where
-  pub fits-width : fits widest w n at room ≡ true → w ≤ widest
-  fits-width e = leb-true w widest (and-left (leb w widest) (leb (at + bytesFor (n * w)) room) e)
+  pub roomFits-width : roomFits widest w n at room ≡ true → w ≤ widest
+  roomFits-width e = leb-true w widest (and-left (leb w widest) (leb (at + bytesFor (n * w)) room) e)
 
-  pub fits-room : fits widest w n at room ≡ true → at + bytesFor (n * w) ≤ room
-  fits-room e = leb-true (at + bytesFor (n * w)) room (and-right (leb w widest) (leb (at + bytesFor (n * w)) room) e)
+  pub roomFits-room : roomFits widest w n at room ≡ true → at + bytesFor (n * w) ≤ room
+  roomFits-room e = leb-true (at + bytesFor (n * w)) room (and-right (leb w widest) (leb (at + bytesFor (n * w)) room) e)
 
-  pub fits-within : w ≤ widest → at + bytesFor (n * w) ≤ room → fits widest w n at room ≡ true
-  fits-within h l = both-and (leb w widest) (leb (at + bytesFor (n * w)) room) (le-leb w widest h) (le-leb (at + bytesFor (n * w)) room l)
+  pub roomFits-within : w ≤ widest → at + bytesFor (n * w) ≤ room → roomFits widest w n at room ≡ true
+  roomFits-within h l = both-and (leb w widest) (leb (at + bytesFor (n * w)) room) (le-leb w widest h) (le-leb (at + bytesFor (n * w)) room l)
 
-  pub fits-wide : widest < w → fits widest w n at room ≡ false
-  fits-wide h = ap (λ (x : Bool). x && leb (at + bytesFor (n * w)) room) (lt-leb w widest h)
+  pub roomFits-wide : widest < w → roomFits widest w n at room ≡ false
+  roomFits-wide h = ap (λ (x : Bool). x && leb (at + bytesFor (n * w)) room) (lt-leb w widest h)
 
-  pub fits-short : room < at + bytesFor (n * w) → fits widest w n at room ≡ false
-  fits-short h = ap (λ (x : Bool). leb w widest && x) (lt-leb (at + bytesFor (n * w)) room h) ∙ and-false (leb w widest)
+  pub roomFits-short : room < at + bytesFor (n * w) → roomFits widest w n at room ≡ false
+  roomFits-short h = ap (λ (x : Bool). leb w widest && x) (lt-leb (at + bytesFor (n * w)) room h) ∙ and-false (leb w widest)
 
 -- compared by what is left behind `at`
 pub leb-behind : (x at room : ℕ) → at ≤ room → leb x (room - at) ≡ leb (at + x) room
@@ -57,27 +57,27 @@ bytesFor-eights n w =
 
 -- ---- the answers
 
-pub packed-fits : (widest w n at room : ℕ) → fits widest w n at room ≡ true → packed widest w n at room ≡ P.Bytes (bytesFor (n * w))
+pub packed-roomFits : (widest w n at room : ℕ) → roomFits widest w n at room ≡ true → packed widest w n at room ≡ P.Bytes (bytesFor (n * w))
 unfolding packed
-packed-fits widest w n at room e = rw e
+packed-roomFits widest w n at room e = rw e
 
-pub packed-refused : (widest w n at room : ℕ) → fits widest w n at room ≡ false → packed widest w n at room ≡ P.Refused
+pub packed-refused : (widest w n at room : ℕ) → roomFits widest w n at room ≡ false → packed widest w n at room ≡ P.Refused
 unfolding packed
 packed-refused widest w n at room e = rw e
 
-pub packedOut-fits : (widest w : ℕ) (vs : List ℕ) (at : ℕ) (out : List ℕ) → fits widest w (length vs) at (length out) ≡ true
+pub packedOut-roomFits : (widest w : ℕ) (vs : List ℕ) (at : ℕ) (out : List ℕ) → roomFits widest w (length vs) at (length out) ≡ true
     → packedOut widest w vs at out ≡ overAt at (bytesOf (fields w vs)) out
 unfolding packedOut
-packedOut-fits widest w vs at out e = rw e
+packedOut-roomFits widest w vs at out e = rw e
 
-pub packedOut-refused : (widest w : ℕ) (vs : List ℕ) (at : ℕ) (out : List ℕ) → fits widest w (length vs) at (length out) ≡ false → packedOut widest w vs at out ≡ out
+pub packedOut-refused : (widest w : ℕ) (vs : List ℕ) (at : ℕ) (out : List ℕ) → roomFits widest w (length vs) at (length out) ≡ false → packedOut widest w vs at out ≡ out
 unfolding packedOut
 packedOut-refused widest w vs at out e = rw e
 
-pub unpackedOut-fits : (w : ℕ) (src : List ℕ) (at : ℕ) (values : List ℕ) → unpacked w (length values) at (length src) ≡ true
+pub unpackedOut-roomFits : (w : ℕ) (src : List ℕ) (at : ℕ) (values : List ℕ) → unpacked w (length values) at (length src) ≡ true
     → unpackedOut w src at values ≡ split w (length values) (fields 8 (drop at src))
 unfolding unpackedOut
-unpackedOut-fits w src at values e = rw e
+unpackedOut-roomFits w src at values e = rw e
 
 pub unpackedOut-refused : (w : ℕ) (src : List ℕ) (at : ℕ) (values : List ℕ) → unpacked w (length values) at (length src) ≡ false → unpackedOut w src at values ≡ values
 unfolding unpackedOut

@@ -12,19 +12,19 @@ use lib.Seq.{length-take-le, take-all, take-suc, take-suc-set, drop-drop, drop-s
 use lib.Pow.{pow-pos, shr-shr}
 use lib.Bits.{bitOr, bitAnd, and-mask}
 use Rattle.bits.specs.Bits.{bits, fields, bytesOf, bytesFor, over, overAt}
-use Rattle.bits.specs.Packing.{fits, packed, packedOut}
+use Rattle.bits.specs.Packing.{roomFits, packed, packedOut}
 use Rattle.bits.specs.declared.packing.Packed.the-variants as P
-use Rattle.bits.specs.Writing.{written, Pushed, Stored}
+use Rattle.bits.specs.Writing.{writtenBits, Pushed, Stored}
 use Rattle.bits.specs.declared.writer.Writer.{Writer}
-use Rattle.bits.proofs.Answers.{fits-room, packed-fits, packed-refused, packedOut-fits, packedOut-refused}
+use Rattle.bits.proofs.Answers.{roomFits-room, packed-roomFits, packed-refused, packedOut-roomFits, packedOut-refused}
 use Rattle.bits.proofs.Laws.{length-fields, bits-add, bits-mod-self, bits-zero, bits-push, fields-append, fields-one, bytes-unique, bytes-of-bits, bytesOf-append, below-take}
 
 -- ---- one push
 
 -- `acc = (acc << k) | v′` at 64 bits, v′ the k low bits of v: k more bits wait
 pub push : (out : List ℕ) (at h k acc v v′ : ℕ) → h + k ≤ 64 → v′ ≡ v % 2 ^ k
-    → written out at (h + k) (bitOr ((acc * 2 ^ k) % 2 ^ 64) v′) ≡ written out at h acc ++ bits k v
-unfolding written
+    → writtenBits out at (h + k) (bitOr ((acc * 2 ^ k) % 2 ^ 64) v′) ≡ writtenBits out at h acc ++ bits k v
+unfolding writtenBits
 push out at h k acc v v′ l f =
     let e : 64 ≡ 64 - (h + k) + h + k = omega arith in
     let small : v′ < 2 ^ k = rw f (mod-lt v (pow-pos k)) in
@@ -73,17 +73,17 @@ bits-four-bytes y =
     ∙ ap (λ (z : ℕ). bits 8 z ++ bits 8 (y / 2 ^ 16)) (shr-shr y 16 8))))
 
 -- stored bytes that are m of the waiting bits
-pub stored-written : (m h acc : ℕ) {a b : List ℕ} {at n : ℕ} → Stored a b at n (bits m (acc / 2 ^ h)) → written b (at + n) h acc ≡ written a at (m + h) acc
-unfolding written
-stored-written m h acc {a} {b} {at} {n} d =
+pub stored-writtenBits : (m h acc : ℕ) {a b : List ℕ} {at n : ℕ} → Stored a b at n (bits m (acc / 2 ^ h)) → writtenBits b (at + n) h acc ≡ writtenBits a at (m + h) acc
+unfolding writtenBits
+stored-writtenBits m h acc {a} {b} {at} {n} d =
     ap (λ (z : List Bool). z ++ bits h acc) (d .said) ∙ append-assoc (fields 8 (take at a)) (bits m (acc / 2 ^ h)) (bits h acc)
     ∙ ap (λ (z : List Bool). fields 8 (take at a) ++ z) (sym (bits-add m h acc))
 
 -- `out[at] = (acc >> h) & 255`
-pub byte-written : (out : List ℕ) (at h acc : ℕ) → at < length out → written (set out at (bitAnd (acc / 2 ^ h) 255)) (at + 1) h acc ≡ written out at (8 + h) acc
-byte-written out at h acc l =
+pub byte-writtenBits : (out : List ℕ) (at h acc : ℕ) → at < length out → writtenBits (set out at (bitAnd (acc / 2 ^ h) 255)) (at + 1) h acc ≡ writtenBits out at (8 + h) acc
+byte-writtenBits out at h acc l =
     let e : at ≡ at + 0 = omega arith in
-    stored-written 8 h acc (stored-more (bitAnd (acc / 2 ^ h) 255) (acc / 2 ^ h) at e (omega arith) (bits-byte (acc / 2 ^ h)) (stored-none out at))
+    stored-writtenBits 8 h acc (stored-more (bitAnd (acc / 2 ^ h) 255) (acc / 2 ^ h) at e (omega arith) (bits-byte (acc / 2 ^ h)) (stored-none out at))
 
 -- ---- one push, whole: the bits wait, or 32 of them are stored
 
@@ -106,7 +106,7 @@ pushed-stored v {a} {b} {p} {k} {v′} l m f d =
     let e : 32 + (p .have + k - 32) ≡ p .have + k = omega arith in
     record {
       said =
-          stored-written 32 (p .have + k - 32) acc d ∙ ap (λ (n : ℕ). written a (p .at) n acc) e
+          stored-writtenBits 32 (p .have + k - 32) acc d ∙ ap (λ (n : ℕ). writtenBits a (p .at) n acc) e
           ∙ push a (p .at) (p .have) k (p .acc) v v′ (omega arith) f;
       rest = d .rest;
       small = omega arith;
@@ -123,7 +123,7 @@ module _ {a b c : List ℕ} {p q r : Writer} {m n : ℕ} {bs cs : List Bool} (d 
       = ap (λ (z : ℕ). drop z b) (sym s) ∙ sym (drop-drop (r .at - q .at) (q .at) b) ∙ ap (drop (r .at - q .at)) (d .rest)
       ∙ drop-drop (r .at - q .at) (q .at) a ∙ ap (λ (z : ℕ). drop z a) s in
       record {
-        said = e .said ∙ ap (λ (z : List Bool). z ++ cs) (d .said) ∙ append-assoc (written a (p .at) (p .have) (p .acc)) bs cs;
+        said = e .said ∙ ap (λ (z : List Bool). z ++ cs) (d .said) ∙ append-assoc (writtenBits a (p .at) (p .have) (p .acc)) bs cs;
         rest = e .rest ∙ later;
         small = e .small;
         forward = omega (arith, d .forward, e .forward);
@@ -147,7 +147,7 @@ pub pushed-none : (w : ℕ) {a : List ℕ} {p : Writer} → p .have < 32 → Pus
 unfolding fields
 pushed-none w {a} {p} h =
     record {
-      said = sym (append-nil (written a (p .at) (p .have) (p .acc)));
+      said = sym (append-nil (writtenBits a (p .at) (p .have) (p .acc)));
       rest = refl;
       small = h;
       forward = omega arith;
@@ -188,7 +188,7 @@ module _ {before mid after : List ℕ} {q r : Writer} {n k : ℕ} {bs : List Boo
   closed-count = omega (arith, d .count, e .count)
 
   pub closed : r .at ≤ length after → ((i : ℕ) → getD before i 0 < 256) → ((i : ℕ) → getD after i 0 < 256) → after ≡ overAt at (bytesOf bs) before
-  unfolding over overAt written bits
+  unfolding over overAt writtenBits bits
   closed room b b′ =
       let f = then d e in
       let old : List ℕ = take at before in
@@ -207,19 +207,19 @@ module _ {before mid after : List ℕ} {q r : Writer} {n k : ℕ} {bs : List Boo
 
 -- it is what packing answers and leaves where the fields fit; where they do not, nothing is done
 module _ (widest w : ℕ) (vs : List ℕ) (at : ℕ) where
-  pub packed-run : {before mid after : List ℕ} {q r : Writer} {k : ℕ} → fits widest w (length vs) at (length before) ≡ true
+  pub packed-run : {before mid after : List ℕ} {q r : Writer} {k : ℕ} → roomFits widest w (length vs) at (length before) ≡ true
       → Pushed before mid (start at) q (length vs * w) (fields w vs) → Pushed mid after q r k (bits k 0) → k < 8 → r .have ≡ 0 → length after ≡ length before
       → ((i : ℕ) → getD before i 0 < 256) → ((i : ℕ) → getD after i 0 < 256)
       → (P.Bytes (r .at - at) ≡ packed widest w (length vs) at (length before)) × (after ≡ packedOut widest w vs at before)
   packed-run {before} {mid} {after} {q} {r} {k} e d f fewer none same b b′ =
-      let room = fits-room widest w (length vs) at (length before) e in
+      let room = roomFits-room widest w (length vs) at (length before) e in
       let inside : at ≤ length before = omega arith in
       let n : r .at ≡ at + bytesFor (length vs * w) = closed-count at inside d f fewer none in
       let m : r .at - at ≡ bytesFor (length vs * w) = omega arith in (
-        ap P.Bytes m ∙ sym (packed-fits widest w (length vs) at (length before) e),
-        closed at inside d f fewer none (omega arith) b b′ ∙ sym (packedOut-fits widest w vs at before e),
+        ap P.Bytes m ∙ sym (packed-roomFits widest w (length vs) at (length before) e),
+        closed at inside d f fewer none (omega arith) b b′ ∙ sym (packedOut-roomFits widest w vs at before e),
       )
 
-  pub packed-none : (before : List ℕ) → fits widest w (length vs) at (length before) ≡ false
+  pub packed-none : (before : List ℕ) → roomFits widest w (length vs) at (length before) ≡ false
       → (P.Refused ≡ packed widest w (length vs) at (length before)) × (before ≡ packedOut widest w vs at before)
   packed-none before e = (sym (packed-refused widest w (length vs) at (length before) e), sym (packedOut-refused widest w vs at before e))

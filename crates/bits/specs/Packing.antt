@@ -12,20 +12,20 @@ use Rattle.bits.specs.declared.packing.Number.{Number}
 use Rattle.bits.specs.declared.packing.Number.the-variants as N
 
 -- n fields of w bits, w at most `widest`, fit into `room` bytes from the byte `at` on
-abbrev pub fits : ℕ → ℕ → ℕ → ℕ → ℕ → Bool
-fits widest w n at room = leb w widest && leb (at + bytesFor (n * w)) room
+abbrev pub roomFits : ℕ → ℕ → ℕ → ℕ → ℕ → Bool
+roomFits widest w n at room = leb w widest && leb (at + bytesFor (n * w)) room
 
 -- what packing n fields of w bits at the byte `at` answers
 unfoldable pub packed : ℕ → ℕ → ℕ → ℕ → ℕ → Packed
-packed widest w n at room = cond (fits widest w n at room) (P.Bytes (bytesFor (n * w))) P.Refused
+packed widest w n at room = cond (roomFits widest w n at room) (P.Bytes (bytesFor (n * w))) P.Refused
 
 -- what it leaves in the lent bytes
 unfoldable pub packedOut : ℕ → ℕ → List ℕ → ℕ → List ℕ → List ℕ
-packedOut widest w vs at out = cond (fits widest w (length vs) at (length out)) (overAt at (bytesOf (fields w vs)) out) out
+packedOut widest w vs at out = cond (roomFits widest w (length vs) at (length out)) (overAt at (bytesOf (fields w vs)) out) out
 
 -- what unpacking n fields of w bits from the byte `at` on answers: whether there are so many
 abbrev pub unpacked : ℕ → ℕ → ℕ → ℕ → Bool
-unpacked w n at long = fits 16 w n at long
+unpacked w n at long = roomFits 16 w n at long
 
 -- what it leaves in the lent values
 unfoldable pub unpackedOut : ℕ → List ℕ → ℕ → List ℕ → List ℕ

@@ -8,12 +8,12 @@ use Rattle.bits.specs.Bits.{bits, fields}
 use Rattle.bits.specs.declared.writer.Writer.{Writer}
 
 -- what is written so far: the `at` bytes that are stored, and the `have` low bits of `acc` that wait
-unfoldable pub written : List ℕ → ℕ → ℕ → ℕ → List Bool
-written out at have acc = fields 8 (take at out) ++ bits have acc
+unfoldable pub writtenBits : List ℕ → ℕ → ℕ → ℕ → List Bool
+writtenBits out at have acc = fields 8 (take at out) ++ bits have acc
 
 -- a writer at `p` on the bytes `before` went on by n bits, bs, to `r` on `after`: past its whole bytes nothing changed
 pub record Pushed (before after : List ℕ) (p r : Writer) (n : ℕ) (bs : List Bool) : Type 0 where
-  pub said : written after (r .at) (r .have) (r .acc) ≡ written before (p .at) (p .have) (p .acc) ++ bs
+  pub said : writtenBits after (r .at) (r .have) (r .acc) ≡ writtenBits before (p .at) (p .have) (p .acc) ++ bs
   pub rest : drop (r .at) after ≡ drop (r .at) before
   pub small : r .have < 32
   pub forward : p .at ≤ r .at

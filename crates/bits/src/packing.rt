@@ -4,7 +4,7 @@ ghost use mathlib.Core.Path.{_≡_};
 ghost use mathlib.Core.List.{_∷_, []};
 ghost use Prim.Native.Nat.{_*_, _/_, _^_, _<_, _≤_};
 ghost use lib.ListN.{length};
-ghost use Rattle.bits.specs.Packing.{fits, packed, packedOut, unpacked, unpackedOut, numberAt};
+ghost use Rattle.bits.specs.Packing.{roomFits, packed, packedOut, unpacked, unpackedOut, numberAt};
 use super::reader;
 use super::writer;
 
@@ -103,7 +103,7 @@ pub fn number_at(src: &[u8], at: usize, width: u32) -> Number
 // Eight fields take `width` bytes, so nothing here passes a usize.
 fn has_room(widest: u32, width: u32, count: usize, at: usize, room: usize) -> bool
     requires { ⌜ (widest ≤ 64) × (count / 8 * widest < 2 ^ 63) ⌝ }
-    ensures { λ r. ⌜ r ≡ fits widest width count at room ⌝ }
+    ensures { λ r. ⌜ r ≡ roomFits widest width count at room ⌝ }
 {
     if widest < width || room < at {
         return false;

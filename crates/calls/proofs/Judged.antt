@@ -17,7 +17,7 @@ use Rattle.device.specs.declared.device.Device.{Device}
 use Rattle.calls.specs.Chain.{allKnown, hasPart, sameParts, allFit, blank}
 use Rattle.calls.specs.Calls.{roomFor, chainRows, freshTable, freshRefusal, runRefusal, boundaryRefusal, faultRefusal}
 use Rattle.calls.specs.declared.judging.Judged.{Judged}
-use Rattle.calls.specs.Judging.{unjudged, judgedWith, judgedFrom, partRows, runRows, boundaryRows, isDevice, faultRows}
+use Rattle.calls.specs.Judging.{unjudged, judgedWith, judgedFrom, judgedRows, runRows, boundaryRows, isDevice, faultRows}
 use Rattle.tables.proofs.Booleans.{and-assoc, and-true}
 
 -- ---- the pass, record by record
@@ -66,7 +66,7 @@ abbrev rowsWith : Bool → Bool → ℕ → List Row → List Row
 rowsWith known same n own = (1 when not known) ∷ (2 when not (isCount n)) ∷ (4 when not same) ∷ own
 
 rows-found : (ds : List Device) (f : Bool → List Row)
-    → first (partRows (judgedFrom unjudged ds) (length ds) ++ f (judgedFrom unjudged ds .fits)) ≡ first (chainRows ds ++ f (allFit ds))
+    → first (judgedRows (judgedFrom unjudged ds) (length ds) ++ f (judgedFrom unjudged ds .fits)) ≡ first (chainRows ds ++ f (allFit ds))
 rows-found ds f =
     ap (λ (b : Bool). first (rowsWith b (judgedFrom unjudged ds .same) (length ds) (f (judgedFrom unjudged ds .fits)))) (known-found unjudged ds)
     ∙ ap (λ (b : Bool). first (rowsWith (allKnown ds) b (length ds) (f (judgedFrom unjudged ds .fits)))) (same-found ds)

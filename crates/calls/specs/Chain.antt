@@ -1,5 +1,5 @@
 -- A lent chain: a list of device records, device 1 first. What line states do to it, device by device, and the tests by which its records
--- are judged. Document 01, "One device, clock by clock" and "Refusal numbers".
+-- are judged. docs/RULES.md, "One device, clock by clock" and "Refusal numbers".
 use Prim.Native.Nat.{ℕ}
 use mathlib.Core.Bool.{Bool, true}
 use mathlib.Core.List.{List, [], _∷_}

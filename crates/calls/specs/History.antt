@@ -1,5 +1,5 @@
 -- Lists of calls on one lent chain: what each leaves, the states that the accepted runs were given, joined, and those that they wrote into
--- the room that each was lent. Then the calls that document 01 allows during a restore and after it.
+-- the room that each was lent. Then the calls that docs/RULES.md allows during a restore and after it.
 use Prim.Native.Nat.{ℕ}
 use mathlib.Core.Path.{_≡_}
 use mathlib.Core.Bool.{Bool, true}
@@ -67,9 +67,9 @@ answered ds boundary = []
 answered ds (fault device kind flag) = []
 
 -- joined up
-unfoldable pub fed : List Device → List Call → List ℕ
-fed ds [] = []
-fed ds (c ∷ cs) = given ds c ++ fed (after ds c) cs
+unfoldable pub statesGiven : List Device → List Call → List ℕ
+statesGiven ds [] = []
+statesGiven ds (c ∷ cs) = given ds c ++ statesGiven (after ds c) cs
 
 -- all that the runs of a list returned, joined up
 unfoldable pub answers : List Device → List Call → List ℕ

@@ -37,16 +37,16 @@ judgedFrom j (d ∷ ds) = judgedFrom (judgedWith j d) ds
 -- ---- the refusals, by what the pass found and the number of records
 
 -- 1, 2 and 4: parts and count
-abbrev pub partRows : Judged → ℕ → List Row
-partRows j n = (1 when not (j .known)) ∷ (2 when not (isCount n)) ∷ (4 when not (j .same)) ∷ []
+abbrev pub judgedRows : Judged → ℕ → List Row
+judgedRows j n = (1 when not (j .known)) ∷ (2 when not (isCount n)) ∷ (4 when not (j .same)) ∷ []
 
 -- the rows of a run
 abbrev pub runRows : Judged → ℕ → List ℕ → ℕ → List Row
-runRows j n ss room = partRows j n ++ (5 when ltb room (roomFor (length ss))) ∷ (13 when not (allBelow ss 4 && j .fits)) ∷ []
+runRows j n ss room = judgedRows j n ++ (5 when ltb room (roomFor (length ss))) ∷ (13 when not (allBelow ss 4 && j .fits)) ∷ []
 
 -- the rows of a frame boundary
 abbrev pub boundaryRows : Judged → ℕ → List Row
-boundaryRows j n = partRows j n ++ (13 when not (j .fits)) ∷ []
+boundaryRows j n = judgedRows j n ++ (13 when not (j .fits)) ∷ []
 
 -- devices are numbered from 1
 abbrev pub isDevice : ℕ → ℕ → Bool
@@ -54,4 +54,4 @@ isDevice n device = leb 1 device && leb device n
 
 -- the rows of a fault setting
 abbrev pub faultRows : Judged → ℕ → ℕ → ℕ → List Row
-faultRows j n device kind = partRows j n ++ (13 when not (isDevice n device && (ltb kind 2 && j .fits))) ∷ []
+faultRows j n device kind = judgedRows j n ++ (13 when not (isDevice n device && (ltb kind 2 && j .fits))) ∷ []

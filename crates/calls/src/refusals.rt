@@ -5,7 +5,7 @@ ghost use lib.Dec.{ltb};
 ghost use Rattle.tables.specs.Lists.{allBelow};
 ghost use Rattle.tables.specs.Refusals.{first};
 ghost use Rattle.calls.specs.Calls.{freshTable, roomFor};
-ghost use Rattle.calls.specs.Judging.{partRows, runRows, boundaryRows, isDevice, faultRows};
+ghost use Rattle.calls.specs.Judging.{judgedRows, runRows, boundaryRows, isDevice, faultRows};
 use crate::judging::Judged;
 
 // A run.
@@ -60,7 +60,7 @@ pub fn fault_refusal(judged: Judged, n: usize, device: usize, kind: u8) -> u8
 
 // Numbers 1, 2 and 4.
 fn part_refusal(judged: Judged, n: usize) -> u8
-    ensures { λ r. ⌜ r ≡ first (partRows judged n) ⌝ }
+    ensures { λ r. ⌜ r ≡ first (judgedRows judged n) ⌝ }
 {
     if !judged.known {
         return 1;

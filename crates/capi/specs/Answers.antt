@@ -1,4 +1,4 @@
--- The answers of the operations as numbers: document 01's number of a refusal, and what was asked for.
+-- The answers of the operations as numbers: the number of a refusal, and what was asked for.
 use Prim.Native.Nat.{ℕ}
 use mathlib.Core.Bool.{not}
 use mathlib.Core.List.{List, [], _∷_}
@@ -8,16 +8,16 @@ use Rattle.tables.specs.Refusals.{Row, _when_, first, answer}
 use Rattle.parts.specs.Parts.{known, code, commandAt}
 use Rattle.bits.specs.declared.packing.Packed.{Packed}
 use Rattle.bits.specs.declared.packing.Packed.the-variants as P
-use Rattle.line.specs.declared.states.Line.{Line}
-use Rattle.line.specs.declared.states.Line.the-variants as L
+use Rattle.serial.specs.declared.states.Converted.{Converted}
+use Rattle.serial.specs.declared.states.Converted.the-variants as L
 use Rattle.frames.specs.Frames.{toldOf}
 use Rattle.frames.specs.declared.told.Told.{Told}
 use Rattle.frames.specs.declared.told.Written.{Written}
 use Rattle.frames.specs.declared.told.Written.the-variants as F
 use Rattle.frames.specs.declared.told.Read.{Read}
 use Rattle.frames.specs.declared.told.Read.the-variants as R
-use Rattle.frames.specs.declared.told.Returned.{Returned}
-use Rattle.frames.specs.declared.told.Returned.the-variants as B
+use Rattle.frames.specs.declared.told.ReturnRead.{ReturnRead}
+use Rattle.frames.specs.declared.told.ReturnRead.the-variants as B
 use Rattle.device.specs.declared.device.Device.{Device}
 use Rattle.device.specs.declared.device.Answer.{Answer as Judged}
 use Rattle.phases.specs.declared.phase.Sent.{Sent}
@@ -48,9 +48,9 @@ ofPacked (P.Bytes n) = record { bytes = n; done = 1 }
 ofPacked P.Refused = record { bytes = 0; done = 0 }
 
 -- line states
-abbrev pub ofLine : Line → Answer
-ofLine (L.Written n) = accepted n
-ofLine (L.Refused number) = refused number
+abbrev pub ofConverted : Converted → Answer
+ofConverted (L.Written n) = accepted n
+ofConverted (L.Refused number) = refused number
 
 -- when a question about a part is refused: 1
 abbrev pub partRows : ℕ → List Row
@@ -86,21 +86,21 @@ listed (R.Values n) = n
 listed (R.Refused number) = 0
 
 -- what an accepted frame gives
-abbrev pub given : Read → ℕ
-given (R.Byte byte) = byte
-given (R.Bytes n) = n
-given (R.Values n) = n
-given (R.Refused number) = 0
+abbrev pub valueGiven : Read → ℕ
+valueGiven (R.Byte byte) = byte
+valueGiven (R.Bytes n) = n
+valueGiven (R.Values n) = n
+valueGiven (R.Refused number) = 0
 
 -- the number of a refused return, else 0
-abbrev pub returnRefusal : Returned → ℕ
-returnRefusal (B.Count count) = 0
-returnRefusal (B.Refused number) = number
+abbrev pub returnReadNumber : ReturnRead → ℕ
+returnReadNumber (B.Count count) = 0
+returnReadNumber (B.Refused number) = number
 
 -- a return read: its count
-abbrev pub ofReturned : Returned → Answer
-ofReturned (B.Count count) = accepted count
-ofReturned (B.Refused number) = refused number
+abbrev pub ofReturnRead : ReturnRead → Answer
+ofReturnRead (B.Count count) = accepted count
+ofReturnRead (B.Refused number) = refused number
 
 -- ---- light
 
@@ -122,15 +122,15 @@ ofClocks (K.Refused number) = record { first = 0; end = 0; refusal = number }
 -- ---- one device
 
 -- a step as numbers: what was sent, and the refusal
-abbrev pub numbers : Device → ℕ → ℕ → ℕ → ℕ → ℕ → Stepped
-numbers device count command state sent refusal =
+abbrev pub stepNumbers : Device → ℕ → ℕ → ℕ → ℕ → ℕ → Stepped
+stepNumbers device count command state sent refusal =
     record { device = device; count = count; command = command; state = state; sent = sent; refusal = refusal }
 
 -- what is sent on: nothing, one state, or the 24 states of a header
 abbrev pub ofSent : Device → Sent → ℕ → Stepped
-ofSent d S.Nothing refusal = numbers d 0 0 0 0 refusal
-ofSent d (S.One state) refusal = numbers d 0 0 state 1 refusal
-ofSent d (S.Header c count) refusal = numbers d count (code c) 0 24 refusal
+ofSent d S.Nothing refusal = stepNumbers d 0 0 0 0 refusal
+ofSent d (S.One state) refusal = stepNumbers d 0 0 state 1 refusal
+ofSent d (S.Header c count) refusal = stepNumbers d count (code c) 0 24 refusal
 
 -- a judged step
 abbrev pub ofStep : Judged → Stepped

@@ -24,7 +24,7 @@ pub fn refuse(refusal: u8) -> Answer
     Answer { value: 0, refusal }
 }
 
-// What packing gives: no number of document 01's table. Where nothing was done both are 0.
+// What packing gives: no number of the table of refusals. Where nothing was done both are 0.
 #[repr(C)]
 pub struct Packed {
     pub bytes: u64,

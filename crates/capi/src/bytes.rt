@@ -1,4 +1,4 @@
-// Packing and unpacking. Their answers say whether it was done, and no number of document 01's table.
+// Packing and unpacking. Their answers say whether it was done, and no number of the table of refusals.
 ghost use mathlib.Core.Path.{_≡_};
 ghost use lib.ListN.{length};
 ghost use Rattle.bits.specs.Bits.{digit};

@@ -2,7 +2,7 @@
 ghost use mathlib.Core.Path.{_≡_};
 ghost use Rattle.tables.specs.Refusals.{first};
 ghost use Rattle.device.specs.Judgement.{judgement, stepAnswer};
-ghost use Rattle.capi.specs.Answers.{numbers, ofSent, ofStep};
+ghost use Rattle.capi.specs.Answers.{stepNumbers, ofSent, ofStep};
 use device::Device;
 use device::judge;
 use phases::Sent;
@@ -56,7 +56,7 @@ fn of_sent(device: Device, sent: Sent, refusal: u8) -> Stepped
 }
 
 fn numbers(device: Device, count: u16, command: u8, state: u8, sent: u8, refusal: u8) -> Stepped
-    ensures { λ r. ⌜ r ≡ numbers device count command state sent refusal ⌝ }
+    ensures { λ r. ⌜ r ≡ stepNumbers device count command state sent refusal ⌝ }
 {
     Stepped {
         device,

@@ -5,13 +5,13 @@ ghost use Rattle.parts.specs.Parts.{commandAt};
 ghost use Rattle.frames.specs.Frames.{tailOf};
 ghost use Rattle.frame_writer.specs.Writing.{written, writtenOut};
 ghost use Rattle.frames.specs.Reading.{read, readBytes, readValues};
-ghost use Rattle.frames.specs.Returns.{returned};
-ghost use Rattle.capi.specs.Answers.{toldBy, ofWritten, given, listed, ofRead, returnRefusal, ofReturned};
+ghost use Rattle.frames.specs.Returns.{returnRead};
+ghost use Rattle.capi.specs.Answers.{toldBy, ofWritten, valueGiven, listed, ofRead, returnReadNumber, ofReturnRead};
 use crate::answer::Answer;
 use crate::answer::accept;
 use crate::answer::refuse;
 use frames::Read;
-use frames::Returned;
+use frames::ReturnRead;
 use frames::Tail;
 use frames::Told;
 use frames::Written;
@@ -105,7 +105,7 @@ pub extern "C" fn bb_read_return(
     long: u32,
     frame: &[u8],
 ) -> Answer
-    ensures { λ r. ⌜ r ≡ ofReturned (returned part devices (commandAt command) (tailOf tail long) (now (frame .entry))) ⌝ }
+    ensures { λ r. ⌜ r ≡ ofReturnRead (returnRead part devices (commandAt command) (tailOf tail long) (now (frame .entry))) ⌝ }
 {
     let named = parts::command_of(command);
     let behind = Tail {
@@ -113,7 +113,7 @@ pub extern "C" fn bb_read_return(
         length: long,
     };
     let returned = frames::read_return(part, devices, named, behind, frame);
-    of_returned(returned)
+    of_return_read(returned)
 }
 
 fn told_by(part: u16, devices: usize, command: u8, configuration: u8) -> Told
@@ -140,14 +140,14 @@ fn of_read(read: Read) -> Answer
     ensures { λ r. ⌜ r ≡ ofRead read ⌝ }
 {
     let Read::Refused(number) = read else {
-        return accept(given(read));
+        return accept(value_given(read));
     };
     refuse(number)
 }
 
 // What an accepted frame gives: its byte, or how much of the lent list.
-fn given(read: Read) -> usize
-    ensures { λ r. ⌜ r ≡ given read ⌝ }
+fn value_given(read: Read) -> usize
+    ensures { λ r. ⌜ r ≡ valueGiven read ⌝ }
 {
     let Read::Byte(byte) = read else {
         return listed(read);
@@ -165,20 +165,20 @@ fn listed(read: Read) -> usize
     n
 }
 
-fn of_returned(returned: Returned) -> Answer
-    ensures { λ r. ⌜ r ≡ ofReturned returned ⌝ }
+fn of_return_read(returned: ReturnRead) -> Answer
+    ensures { λ r. ⌜ r ≡ ofReturnRead returned ⌝ }
 {
-    let Returned::Count(count) = returned else {
-        return refuse(return_refusal(returned));
+    let ReturnRead::Count(count) = returned else {
+        return refuse(return_read_number(returned));
     };
     accept(count as usize)
 }
 
 // The number of a refused return, else 0.
-fn return_refusal(returned: Returned) -> u8
-    ensures { λ r. ⌜ r ≡ returnRefusal returned ⌝ }
+fn return_read_number(returned: ReturnRead) -> u8
+    ensures { λ r. ⌜ r ≡ returnReadNumber returned ⌝ }
 {
-    let Returned::Refused(refusal) = returned else {
+    let ReturnRead::Refused(refusal) = returned else {
         return 0;
     };
     refusal

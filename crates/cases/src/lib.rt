@@ -1,4 +1,4 @@
-// What the programs that run document 01's numbers share: words on standard output, lists compared, and what a frame is told by. What is
+// What the programs that run the numbers of docs/RULES.md share: words on standard output, lists compared, and what a frame is told by. What is
 // printed is not proved: it is held to a stored text.
 mod digits; // numbers as their digits
 mod lists; // lists compared

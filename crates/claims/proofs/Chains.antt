@@ -38,16 +38,16 @@ room ds ss out e =
     (surplus ds ss (a .fit), a .enoughRoom)
 
 -- a chain that was made fresh, and what was called since
-pub whole-begun : (p : ℕ) (records : List Device) (earlier : List Call) → refusalOf records (fresh p) ≡ 0 → Whole (startPart p records earlier) (start p records earlier)
+pub whole-premises : (p : ℕ) (records : List Device) (earlier : List Call) → refusalOf records (fresh p) ≡ 0 → Whole (startPart p records earlier) (start p records earlier)
 unfolding afterCalls
-whole-begun p records earlier e = whole-calls p (after records (fresh p)) earlier (whole-start p records e)
+whole-premises p records earlier e = whole-calls p (after records (fresh p)) earlier (whole-start p records e)
 
 pub length-start : (p : ℕ) (records : List Device) (earlier : List Call) → length (start p records earlier) ≡ length records
 length-start p records earlier = length-afterCalls records (fresh p ∷ earlier)
 
 pub kept : Kept
 kept p records earlier c e =
-    let w = whole-begun p records earlier e in
+    let w = whole-premises p records earlier e in
     let l = length-start p records earlier in
     let now = start p records earlier in (
       l,

@@ -12,17 +12,17 @@ use Rattle.parts.specs.Parts.{partOf}
 use Rattle.parts.proofs.Laws.{banks-three}
 use Rattle.device.specs.declared.device.Device.{Device}
 use Rattle.calls.specs.Chain.{blank}
-use Rattle.model.specs.Lists.{All, Both}
+use Rattle.model.specs.Lists.{All, Pairwise}
 use Rattle.model.specs.Set.{Set, Own, owned}
 use Rattle.model.proofs.Set.{length-owned}
 use Rattle.link.specs.View.{Arrays, Holds}
 use Rattle.compare.specs.declared.compared.Compared.{Compared}
 use Rattle.compare.specs.Compare.{differsAt, Pair, groups, inGroups, compared, same, difference, compareRefusal, comparison}
-use Rattle.compare.specs.Search.{given}
+use Rattle.compare.specs.Search.{setNumbers}
 use Rattle.compare.specs.Differences.{ofSet, ofDevice, DiffersFirst, FirstDifference}
 use Rattle.claims.specs.Claims.{SameHolds, HoldsSame, Named}
 use Rattle.compare.proofs.Lists.{differs-first}
-use Rattle.compare.proofs.Holding.{Sized, dealt-sized, sides, equal-holds, holds-groups, groups-equal, GroupAt, group-named, nowhere}
+use Rattle.compare.proofs.Holding.{Sized, ownFrom-sized, sides, equal-holds, holds-groups, groups-equal, GroupAt, group-named, nowhere}
 use Rattle.compare.proofs.Found.{inGroups-none, begin-live}
 
 -- ---- the devices
@@ -41,7 +41,7 @@ first-holds : (n : ℕ) (o : Own) (os : List Own) (d : Device) (ds : List Device
 first-holds n o os d ds c f =
     equal-holds o d (c .sized .0) (c .arrays .0) (groups-equal n 0 (groups o d) (sides o d (c .sized .0) (c .arrays .0)) f)
 
-difference-holds : (n : ℕ) (os : List Own) (ds : List Device) → Comparable os ds → difference n os ds ≡ same → Both Holds os ds
+difference-holds : (n : ℕ) (os : List Own) (ds : List Device) → Comparable os ds → difference n os ds ≡ same → Pairwise Holds os ds
 unfolding difference
 difference-holds n [] [] c e = tt
 difference-holds n [] (d ∷ ds) c e = absurd (omega (arith, c .lengths))
@@ -50,12 +50,12 @@ difference-holds n (o ∷ os) (d ∷ ds) c e =
     go (eqb (inGroups n 1 (groups o d) same .group) 0) refl (difference-holds (suc n) os ds (comparable-rest c))
     (sym (inGroups-none n 0 (groups o d) (difference (suc n) os ds)) ∙ e)
   where
-    go : (b : Bool) → eqb (inGroups n 1 (groups o d) same .group) 0 ≡ b → (difference (suc n) os ds ≡ same → Both Holds os ds)
-        → cond b (difference (suc n) os ds) (inGroups n 1 (groups o d) same) ≡ same → Holds o d × Both Holds os ds
+    go : (b : Bool) → eqb (inGroups n 1 (groups o d) same .group) 0 ≡ b → (difference (suc n) os ds ≡ same → Pairwise Holds os ds)
+        → cond b (difference (suc n) os ds) (inGroups n 1 (groups o d) same) ≡ same → Holds o d × Pairwise Holds os ds
     go true f ih z = (first-holds n o os d ds c f, ih z)
     go false f ih z = absurd (eqb-false (inGroups n 1 (groups o d) same .group) 0 f (ap (λ (a : Compared). a .group) z))
 
-holds-difference : (n : ℕ) (os : List Own) (ds : List Device) → All Sized os → Both Holds os ds → difference n os ds ≡ same
+holds-difference : (n : ℕ) (os : List Own) (ds : List Device) → All Sized os → Pairwise Holds os ds → difference n os ds ≡ same
 unfolding difference
 holds-difference n [] [] s h = refl
 holds-difference n [] (d ∷ ds) s h = absurd h
@@ -65,7 +65,7 @@ holds-difference n (o ∷ os) (d ∷ ds) s h = holds-groups o d n (difference (s
 -- the device that is named, from 0, and its group and place
 record DeviceAt (n : ℕ) (z : Own) (os : List Own) (ds : List Device) (a : Compared) (i h : ℕ) : Type 0 where
   pub inside : i < length ds
-  pub before : Both Holds (take i os) (take i ds)
+  pub before : Pairwise Holds (take i os) (take i ds)
   pub group : GroupAt (n + i) 0 (groups (getD os i z) (getD ds i blank)) a h
 
 device-named : {A : Type 0} (z : Own) (n : ℕ) (os : List Own) (ds : List Device) → Comparable os ds
@@ -128,15 +128,15 @@ module _ (s : Set) (ds : List Device) where
     sized : All Sized os
     unfolding owned
     sized =
-        let l = begin-live (given (s .part) (s .devices) (s .configuration) (s .global)) (s .calibration) (s .individual) ds e .1 in
-        dealt-sized (partOf (s .part)) (banks-three (s .part)) (s .devices) (s .configuration) (s .global) (s .calibration) (s .individual)
+        let l = begin-live (setNumbers (s .part) (s .devices) (s .configuration) (s .global)) (s .calibration) (s .individual) ds e .1 in
+        ownFrom-sized (partOf (s .part)) (banks-three (s .part)) (s .devices) (s .configuration) (s .global) (s .calibration) (s .individual)
         (sym (l .bytesIn) ∙ zero-plus _) (sym (l .valuesIn) ∙ zero-plus _)
       where
         zero-plus : (n : ℕ) → 0 + n ≡ n
         zero-plus n = omega arith
 
     long : length os ≡ length ds
-    long = length-owned s ∙ begin-live (given (s .part) (s .devices) (s .configuration) (s .global)) (s .calibration) (s .individual) ds e .1 .devices
+    long = length-owned s ∙ begin-live (setNumbers (s .part) (s .devices) (s .configuration) (s .global)) (s .calibration) (s .individual) ds e .1 .devices
 
     comparable : All Arrays ds → Comparable os ds
     comparable r = record { sized = sized; arrays = r; lengths = long }

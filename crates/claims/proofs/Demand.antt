@@ -13,12 +13,12 @@ use Rattle.bits.specs.Bits.{bytesOf}
 use Rattle.tables.specs.Lists.{allBelow}
 use Rattle.parts.specs.Parts.{partOf, restoreOrder}
 use Rattle.tables.specs.Refusals.{first}
-use Rattle.parts.specs.Wire.{Line, low, high, lows, lineOf, stateOf, dataBit, returnOf}
+use Rattle.parts.specs.Wire.{State, low, high, lows, stateAt, stateCode, dataBit, returnOf}
 use Rattle.tables.proofs.Rows.{clear, none}
 use Rattle.parts.specs.declared.command.Command.{Command}
 use Rattle.parts.specs.declared.command.Command.the-variants.{Individual}
-use Rattle.line.specs.States.{dataBits}
-use Rattle.line.specs.States as line
+use Rattle.serial.specs.States.{dataBits}
+use Rattle.serial.specs.States as serial
 use Rattle.frames.specs.Frames.{tailBits, frameLength, toldRows}
 use Rattle.frame_writer.specs.Writing.{writeTable, writeRefusal}
 use Rattle.frames.specs.Returns as reader
@@ -28,36 +28,36 @@ use Rattle.frame_laws.proofs.Returns.{return-read}
 use Rattle.device.specs.declared.device.Device.{Device}
 use Rattle.calls.specs.Chain.{blank}
 use Rattle.calls.specs.Calls.{roomFor}
-use Rattle.calls.specs.History.{Call, run, boundary, refusalOf, after, afterCalls, fed, answers, Runs, Settles}
-use Rattle.model.specs.Lists.{Both}
+use Rattle.calls.specs.History.{Call, run, boundary, refusalOf, after, afterCalls, statesGiven, answers, Runs, Settles}
+use Rattle.model.specs.Lists.{Pairwise}
 use Rattle.model.specs.Device.{Registers, stepDevice, runChain, registersIn, faults, fault}
 use Rattle.model.specs.Device as model
 use Rattle.model.specs.Set.{Set, Own, Proper, owned}
 use Rattle.model.specs.Restore.{Piece, pieceStates, piecesOf, piecesStates, returnsOf, CutFields}
 use Rattle.model.proofs.Lists.{take-map, getD-map, flatten-take-suc, howMany-le}
 use Rattle.machine.proofs.Machine.{chain-append, length-chain}
-use Rattle.model.proofs.Wire.{lines-states}
+use Rattle.model.proofs.Wire.{map-stateAt-stateCode}
 use Rattle.model.proofs.Frame.{quiet-sends}
 use Rattle.model.proofs.Set.{owned-proper, length-owned}
 use Rattle.model.proofs.Restore.{sendPieces, pieces-run, pieces-sent, sent-four, registers-boundary, Ready}
 use Rattle.model.proofs.Restore as model-restore
 use Rattle.model.proofs.CutSet.{cut-sent}
 use Rattle.link.specs.View.{registersOf, deviceOf, registersAt, registersAll, Holds}
-use Rattle.link.specs.Restore.{told, byteOf, written, frameSize, framePart, restorePart, restoreStates, restoreThen, gapAfter, tailsOf, arrival}
+use Rattle.link.specs.Restore.{told, setByte, writtenFrame, frameSize, framePart, restorePart, restoreStates, restoreThen, gapAfter, tailsOf, arrival}
 use Rattle.link.proofs.Device.{chain-agree}
 use Rattle.link.proofs.Calls.{Whole, own-refusal, whole-runs, whole-settles, ran, calls-append}
-use Rattle.link.proofs.Frames.{taken, writable-proper, restore-states, restore-part}
-use Rattle.link.proofs.Records.{registers-all, registers-at, ready-of, Waits, boundary-holds, boundary-after, settles-waits, take-sent, data-lines}
-use Rattle.claims.specs.Claims.{start, Begun, DemandThree, Counted, Restorable}
+use Rattle.link.proofs.Frames.{accepted-writable, writable-proper, restore-states, restore-part}
+use Rattle.link.proofs.Records.{registers-all, registers-at, ready-of, Waits, boundary-holds, boundary-after, settles-waits, take-sent, dataBits-stateAt}
+use Rattle.claims.specs.Claims.{start, RestorePremises, DemandThree, Counted, Restorable}
 use Rattle.claims.proofs.Sent.{quietStates, take-then, take-gap}
-use Rattle.claims.proofs.Chains.{whole-begun, length-start}
+use Rattle.claims.proofs.Chains.{whole-premises, length-start}
 
-module _ {p : ℕ} {records : List Device} {earlier during : List Call} {s : Set} {tail : Command → Tail} (b : Begun p records earlier during s tail) where
+module _ {p : ℕ} {records : List Device} {earlier during : List Call} {s : Set} {tail : Command → Tail} (b : RestorePremises p records earlier during s tail) where
   abbrev now : List Device
   now = start p records earlier
 
   pub whole : Whole (s .part) now
-  whole = rw (b .part) (whole-begun p records earlier (b .accepted))
+  whole = rw (b .part) (whole-premises p records earlier (b .accepted))
 
   pub devices : s .devices ≡ length now
   devices = b .devices ∙ sym (length-start p records earlier)
@@ -65,40 +65,40 @@ module _ {p : ℕ} {records : List Device} {earlier during : List Call} {s : Set
   proper : Proper s
   proper = writable-proper (b .writable)
 
-  ready : Both (Ready (partOf (s .part))) (owned s) (registersIn (map deviceOf now))
+  ready : Pairwise (Ready (partOf (s .part))) (owned s) (registersIn (map deviceOf now))
   ready = ready-of (s .part) (owned s) now (owned-proper s proper) (length-owned s ∙ devices) (whole .onePart)
 
   few : length (registersIn (map deviceOf now)) < 1024
   few = rw (length-map, length-map) (let h = whole .fewDevices in omega arith)
 
   -- the runs, seen in the model
-  seen : (ls : List Line) → fed now during ≡ map stateOf ls
-      → _≡_ {A = List model.Device × List Line} (map deviceOf (afterCalls now during), map lineOf (answers now during)) (runChain (map deviceOf now) ls)
-  seen ls e = rw (← ran now during (b .runs), e, lines-states) at (chain-agree now (fed now during) (whole .sound))
+  seen : (ls : List State) → statesGiven now during ≡ map stateCode ls
+      → _≡_ {A = List model.Device × List State} (map deviceOf (afterCalls now during), map stateAt (answers now during)) (runChain (map deviceOf now) ls)
+  seen ls e = rw (← ran now during (b .runs), e, map-stateAt-stateCode) at (chain-agree now (statesGiven now during) (whole .sound))
 
   -- frames and then low clocks, as states
-  then-lows : (ls : List Line) (last : List Bool) (ss : List ℕ) → ss ≡ map stateOf ls → ss ++ quietStates last ≡ map stateOf (ls ++ lows last)
-  then-lows ls last ss e = rw e (sym (map-append stateOf ls (lows last)))
+  then-lows : (ls : List State) (last : List Bool) (ss : List ℕ) → ss ≡ map stateCode ls → ss ++ quietStates last ≡ map stateCode (ls ++ lows last)
+  then-lows ls last ss e = rw e (sym (map-append stateCode ls (lows last)))
 
   module _ (gap : Command → List Bool) where
     abbrev pieces : List Piece
     pieces = piecesOf (partOf (s .part)) (owned s) gap (tailsOf tail)
 
-    abbrev lines : List Line
-    lines = piecesStates (partOf (s .part)) (owned s) gap (tailsOf tail)
+    abbrev modelStates : List State
+    modelStates = piecesStates (partOf (s .part)) (owned s) gap (tailsOf tail)
 
-    waits : (last : List Bool) → fed now during ≡ restoreStates s gap tail ++ quietStates last → Waits (owned s) (afterCalls now during)
+    waits : (last : List Bool) → statesGiven now during ≡ restoreStates s gap tail ++ quietStates last → Waits (owned s) (afterCalls now during)
     waits last e =
         let ds : List model.Device = map deviceOf now in
-        let f = e ∙ then-lows lines last (restoreStates s gap tail) (restore-states (b .writable) gap) in
+        let f = e ∙ then-lows modelStates last (restoreStates s gap tail) (restore-states (b .writable) gap) in
         let k : map deviceOf (afterCalls now during) ≡ (runChain ((sendPieces ds pieces) .0) (lows last)) .0 =
-        ap (λ (x : List model.Device × List Line). x .0) (seen (lines ++ lows last) f) ∙ rw (chain-append stepDevice ds lines (lows last), pieces-run ds pieces) in
+        ap (λ (x : List model.Device × List State). x .0) (seen (modelStates ++ lows last) f) ∙ rw (chain-append stepDevice ds modelStates (lows last), pieces-run ds pieces) in
         let h = model-restore.restored (partOf (s .part)) (owned s) gap (tailsOf tail) ds last few ready in
         rw (← k, registers-boundary (map deviceOf (afterCalls now during)), registers-all (afterCalls now during)) at h
 
     -- Restored
-    pub held : (last : List Bool) → fed now during ≡ restoreStates s gap tail ++ quietStates last → (later : List Call) → Settles (afterCalls now during) later
-        → Both Holds (owned s) (afterCalls now (during ++ (later ++ boundary ∷ [])))
+    pub held : (last : List Bool) → statesGiven now during ≡ restoreStates s gap tail ++ quietStates last → (later : List Call) → Settles (afterCalls now during) later
+        → Pairwise Holds (owned s) (afterCalls now (during ++ (later ++ boundary ∷ [])))
     held last e later r =
         let after : List Device = afterCalls now during in
         let w = whole-runs (s .part) now during whole (b .runs) in
@@ -107,33 +107,33 @@ module _ {p : ℕ} {records : List Device} {earlier during : List Call} {s : Set
         (boundary-holds (owned s) (afterCalls after later) (settles-waits (s .part) (owned s) after later w r (waits last e)))
 
     -- Returned
-    returned-all : (last : List Bool) (j : ℕ) → fed now during ≡ restorePart s gap tail j ++ quietStates last
+    returned-all : (last : List Bool) (j : ℕ) → statesGiven now during ≡ restorePart s gap tail j ++ quietStates last
         → dataBits (answers now during) ≡ flatten (take j (returnsOf (tailsOf tail) (registersAll now)))
     returned-all last j e =
         let ds : List model.Device = map deviceOf now in
         let h : 0 < length ds = rw length-map (whole .someDevice) in
-        let ls : List Line = flatten (map pieceStates (take j pieces)) in
+        let ls : List State = flatten (map pieceStates (take j pieces)) in
         let f = e ∙ then-lows ls last (restorePart s gap tail j) (restore-part (b .writable) gap j) in
-        let x : map lineOf (answers now during) ≡ (runChain ds (ls ++ lows last)) .1 = ap (λ (x : List model.Device × List Line). x .1) (seen (ls ++ lows last) f) in
+        let x : map stateAt (answers now during) ≡ (runChain ds (ls ++ lows last)) .1 = ap (λ (x : List model.Device × List State). x .1) (seen (ls ++ lows last) f) in
         let q : (runChain ds (ls ++ lows last)) .1 ≡ (runChain ds ls) .1 =
         rw (chain-append stepDevice ds ls (lows last), quiet-sends last ((runChain ds ls) .0) (rw length-chain h), append-nil) in
-        data-lines (answers now during)
-        ∙ ap (λ (l : List Line). map dataBit l) (x ∙ q)
+        dataBits-stateAt (answers now during)
+        ∙ ap (λ (l : List State). map dataBit l) (x ∙ q)
         ∙ pieces-sent ds (take j pieces) h
         ∙ ap (λ (l : List (List Bool)). flatten l) (take-sent ds pieces j
         ∙ ap (λ (x : List model.Device × List (List Bool)). take j (x .1)) (sent-four (partOf (s .part)) (owned s) gap (tailsOf tail) ds few ready))
         ∙ ap (λ (rs : List Registers). flatten (take j (returnsOf (tailsOf tail) rs))) (registers-all now)
 
     -- Cut, in the device at place i, from 0
-    cut-at : (last : List Bool) (k i : ℕ) (o : Own) → fed now during ≡ take k (restoreThen s gap tail last) → i < s .devices
+    cut-at : (last : List Bool) (k i : ℕ) (o : Own) → statesGiven now during ≡ take k (restoreThen s gap tail last) → i < s .devices
         → CutFields (λ c. leb (arrival s gap tail c (suc i)) k) (getD (owned s) i o) (registersOf (getD now i blank .registers))
         (registersOf (getD (afterCalls now during) i blank .registers))
     cut-at last k i o e h =
         let ds : List model.Device = map deviceOf now in
-        let f : fed now during ≡ map stateOf (take k (lines ++ lows last)) =
-        e ∙ ap (λ (l : List ℕ). take k l) (then-lows lines last (restoreStates s gap tail) (restore-states (b .writable) gap)) ∙ take-map stateOf k (lines ++ lows last) in
-        let x : map deviceOf (afterCalls now during) ≡ (runChain ds (take k (lines ++ lows last))) .0 =
-        ap (λ (x : List model.Device × List Line). x .0) (seen (take k (lines ++ lows last)) f) in
+        let f : statesGiven now during ≡ map stateCode (take k (modelStates ++ lows last)) =
+        e ∙ ap (λ (l : List ℕ). take k l) (then-lows modelStates last (restoreStates s gap tail) (restore-states (b .writable) gap)) ∙ take-map stateCode k (modelStates ++ lows last) in
+        let x : map deviceOf (afterCalls now during) ≡ (runChain ds (take k (modelStates ++ lows last))) .0 =
+        ap (λ (x : List model.Device × List State). x .0) (seen (take k (modelStates ++ lows last)) f) in
         let g = cut-sent (partOf (s .part)) (owned s) gap (tailsOf tail) ds ready last k i o (registersOf (blank .registers)) (rw (length-owned s) h) in
         rw (← x, registers-at (afterCalls now during) i, registers-at now i) at g
 
@@ -144,7 +144,7 @@ in-gap : (s : Set) (gap : Command → List Bool) (tail : Command → Tail) (last
     → k ≤ length (restorePart s gap tail j) + length (gapAfter gap last j)
     → take k (restoreThen s gap tail last) ≡ restorePart s gap tail j ++ quietStates (take (k - length (restorePart s gap tail j)) (gapAfter gap last j))
 unfolding framePart
-in-gap s gap tail last j k h l = take-gap gap (λ c. line.frameStates (written s c (tail c)) (frameSize s c (tail c))) restoreOrder last j k h l
+in-gap s gap tail last j k h l = take-gap gap (λ c. serial.frameStates (writtenFrame s c (tail c)) (frameSize s c (tail c))) restoreOrder last j k h l
 
 pub demand-three : DemandThree
 demand-three p records earlier during s gap tail last k b e = record {
@@ -163,10 +163,10 @@ demand-three p records earlier during s gap tail last k b e = record {
 
 -- ---- each frame's own return
 
-fed-append : (ds : List Device) (cs es : List Call) → fed ds (cs ++ es) ≡ fed ds cs ++ fed (afterCalls ds cs) es
-unfolding fed afterCalls
-fed-append ds [] es = refl
-fed-append ds (c ∷ cs) es = rw (fed-append (after ds c) cs es, append-assoc)
+statesGiven-append : (ds : List Device) (cs es : List Call) → statesGiven ds (cs ++ es) ≡ statesGiven ds cs ++ statesGiven (afterCalls ds cs) es
+unfolding statesGiven afterCalls
+statesGiven-append ds [] es = refl
+statesGiven-append ds (c ∷ cs) es = rw (statesGiven-append (after ds c) cs es, append-assoc)
 
 answers-append : (ds : List Device) (cs es : List Call) → answers ds (cs ++ es) ≡ answers ds cs ++ answers (afterCalls ds cs) es
 unfolding answers afterCalls
@@ -191,29 +191,29 @@ counted p records earlier former during s gap tail last j b l e f =
     let c : Command = getD restoreOrder j Individual in
     let rs : List (List Bool) = returnsOf (tailsOf tail) (registersAll ds) in
     let flags : Command → ℕ = λ k. faults k (registersAll ds) in
-    let b′ : Begun p records earlier former s tail = record { accepted = b .accepted; writable = b .writable; devices = b .devices; part = b .part; runs = runs-front ds former during (b .runs) } in
+    let b′ : RestorePremises p records earlier former s tail = record { accepted = b .accepted; writable = b .writable; devices = b .devices; part = b .part; runs = runs-front ds former during (b .runs) } in
     let x = returned-all b′ gap [] j (e ∙ sym (append-nil (restorePart s gap tail j))) in
     let n : flatten (take (suc j) (map (framePart s gap tail) restoreOrder)) ≡ restorePart s gap tail j ++ framePart s gap tail c =
     flatten-take-suc (map (framePart s gap tail) restoreOrder) j (rw length-map l) ∙ rw (getD-map (framePart s gap tail) restoreOrder j Individual [] l) in
-    let g : fed ds (former ++ during) ≡ restorePart s gap tail (suc j) ++ quietStates last = rw (fed-append ds former during, e, f, n, append-assoc) in
+    let g : statesGiven ds (former ++ during) ≡ restorePart s gap tail (suc j) ++ quietStates last = rw (statesGiven-append ds former during, e, f, n, append-assoc) in
     let y = returned-all b gap last (suc j) g in
     let r : flatten (take (suc j) rs) ≡ flatten (take j rs) ++ returnOf c (flags c) (tailBits (tail c)) =
     flatten-take-suc rs j (rw length-map l) ∙ rw (getD-map (λ (k : Command). returnOf k (flags k) (tailBits (tail k))) restoreOrder j Individual [] l) in
     let k : dataBits (answers ds former) ++ dataBits (answers now during) ≡ flatten (take j rs) ++ returnOf c (flags c) (tailBits (tail c)) =
-    sym (map-append (λ s. dataBit (lineOf s)) (answers ds former) (answers now during)) ∙ ap (λ (a : List ℕ). dataBits a) (sym (answers-append ds former during)) ∙ y ∙ r in
+    sym (map-append (λ s. dataBit (stateAt s)) (answers ds former) (answers now during)) ∙ ap (λ (a : List ℕ). dataBits a) (sym (answers-append ds former during)) ∙ y ∙ r in
     let z : dataBits (answers now during) ≡ returnOf c (flags c) (tailBits (tail c)) =
     sym (drop-at (dataBits (answers ds former)) (dataBits (answers now during)) _ refl) ∙ ap (drop (length (dataBits (answers ds former)))) k
     ∙ drop-at (flatten (take j rs)) (returnOf c (flags c) (tailBits (tail c))) (length (dataBits (answers ds former))) (ap (λ (a : List Bool). length a) (sym x)) in
     let m : flags c ≤ s .devices = rw (devices b) (rw length-map at (howMany-le (fault c) (registersAll ds))) in
-    ap (λ (a : List Bool). reader.returned (s .part) (s .devices) c (tail c) (bytesOf a)) z
+    ap (λ (a : List Bool). reader.returnRead (s .part) (s .devices) c (tail c) (bytesOf a)) z
     ∙ return-read (s .part) (s .devices) c (tail c) (flags c)
-    (told-zero (told s c) (tail c) (byteOf s c) (s .calibration) (s .individual) (frameLength (told s c) (tail c)) (b .writable .accepted c))
-    (taken (b .writable) c .tail-low) m
+    (told-zero (told s c) (tail c) (setByte s c) (s .calibration) (s .individual) (frameLength (told s c) (tail c)) (b .writable .accepted c))
+    (accepted-writable (b .writable) c .tail-low) m
 
 -- ---- the claims can be met
 
 -- any states can be given: one run of them, with the room that it needs
-states-below : (ls : List Line) → allBelow (map stateOf ls) 4 ≡ true
+states-below : (ls : List State) → allBelow (map stateCode ls) 4 ≡ true
 states-below [] = refl
 states-below (low false ∷ ls) = states-below ls
 states-below (low true ∷ ls) = states-below ls
@@ -223,17 +223,17 @@ states-below (high true ∷ ls) = states-below ls
 run-accepted : (p : ℕ) (ds : List Device) (ss out : List ℕ) → Whole p ds → allBelow ss 4 ≡ true → roomFor (length ss) ≤ length out → refusalOf ds (run ss out) ≡ 0
 run-accepted p ds ss out w a l = own-refusal p ds (run ss out) w ∙ rw (le-ltb (length out) (roomFor (length ss)) l, a)
 
-fed-one : (ds : List Device) (ss out : List ℕ) → refusalOf ds (run ss out) ≡ 0 → fed ds (run ss out ∷ []) ≡ ss ++ []
-unfolding fed refusalOf
-fed-one ds ss out e = rw e
+statesGiven-one : (ds : List Device) (ss out : List ℕ) → refusalOf ds (run ss out) ≡ 0 → statesGiven ds (run ss out ∷ []) ≡ ss ++ []
+unfolding statesGiven refusalOf
+statesGiven-one ds ss out e = rw e
 
 pub restorable : Restorable
 restorable p records earlier s gap tail out fresh writable devices part l =
     let ss : List ℕ = restoreStates s gap tail in
     let now : List Device = start p records earlier in
     let during : List Call = run ss out ∷ [] in
-    let b : Begun p records earlier during s tail = record { accepted = fresh; writable = writable; devices = devices; part = part; runs = (tt, tt) } in
+    let b : RestorePremises p records earlier during s tail = record { accepted = fresh; writable = writable; devices = devices; part = part; runs = (tt, tt) } in
     let a : allBelow ss 4 ≡ true = rw (restore-states writable gap) (states-below (piecesStates (partOf (s .part)) (owned s) gap (tailsOf tail))) in
     let r = run-accepted _ now ss out (whole b) a l in
-    let e = fed-one now ss out r in
+    let e = statesGiven-one now ss out r in
     (r, b, e, held b gap [] e [] tt)

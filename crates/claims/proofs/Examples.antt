@@ -1,4 +1,4 @@
--- Document 01's lettered examples: frames, returns, subframes and leads are computed; lit clocks are proved for every clock by the closed form,
+-- The lettered examples of docs/RULES.md: frames, returns, subframes and leads are computed; lit clocks are proved for every clock by the closed form,
 -- whose ends are computed. Assumes nothing.
 use mathlib.Core.Path.{_≡_, refl, sym, ap, _∙_}
 use mathlib.Core.Bool.{Bool, true, false, _&&_}

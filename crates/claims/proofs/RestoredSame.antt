@@ -22,7 +22,7 @@ use Rattle.model.specs.Set.{Set}
 use Rattle.link.specs.Restore.{Writable}
 use Rattle.link.proofs.View.{Sound}
 use Rattle.link.proofs.Calls.{Whole, every-all, whole-runs, whole-settles, whole-boundary, length-afterCalls, calls-append}
-use Rattle.link.proofs.Frames.{taken, writable-proper}
+use Rattle.link.proofs.Frames.{accepted-writable, writable-proper}
 use Rattle.claims.proofs.Demand.{whole, devices, held}
 use Rattle.compare.specs.Compare.{compareTable, compareRefusal}
 use Rattle.claims.specs.Claims.{start, RestoredSame}
@@ -39,8 +39,8 @@ accepts s tail ds w h l =
     let proper = writable-proper w in
     let some : 1 ≤ s .devices = omega (arith, l, h .someDevice) in
     let few : s .devices ≤ 1023 = omega (arith, l, h .fewDevices) in
-    let global : ltb (s .global) (subframes (partOf (s .part)) (s .configuration)) ≡ true = not-false _ (taken w Global .value) in
-    let individual : allBelow (s .individual) (limit (partOf (s .part))) ≡ true = not-false _ (taken w Individual .value) in
+    let global : ltb (s .global) (subframes (partOf (s .part)) (s .configuration)) ≡ true = not-false _ (accepted-writable w Global .value) in
+    let individual : allBelow (s .individual) (limit (partOf (s .part))) ≡ true = not-false _ (accepted-writable w Individual .value) in
     let parts : every (hasPart (s .part)) ds ≡ true = every-all (λ d. d .registers .part ≡ s .part) (hasPart (s .part)) (λ d e. eq-eqb (d .registers .part) (s .part) e) ds (h .onePart) in
     none (compareTable s ds) (
       ap not (both (h .knownPart) (every-all (λ d. d .registers .part ≡ s .part) (λ d. known (d .registers .part)) (λ d e. ap known e ∙ h .knownPart) ds (h .onePart))),

@@ -7,19 +7,19 @@ use Prim.Native.Nat.{ℕ, zero, suc, _+_, _-_, _≤_}
 use native.Mathlib.Omega.{arith}
 use lib.ListN.{length, length-append, length-map, take, getD}
 use lib.Seq.{take-all, take-append-le}
-use Rattle.parts.specs.Wire.{low, stateOf, lows}
+use Rattle.parts.specs.Wire.{low, stateCode, lows}
 use Rattle.parts.specs.declared.command.Command.{Command}
 use Rattle.model.proofs.Lists.{take-append, take-map}
 
 -- low clocks as states
 abbrev pub quietStates : List Bool → List ℕ
-quietStates bs = map stateOf (lows bs)
+quietStates bs = map stateCode (lows bs)
 
 take-quiet : (k : ℕ) (bs : List Bool) → take k (quietStates bs) ≡ quietStates (take k bs)
-take-quiet k bs = take-map stateOf k (lows bs) ∙ ap (map stateOf) (take-map low k bs)
+take-quiet k bs = take-map stateCode k (lows bs) ∙ ap (map stateCode) (take-map low k bs)
 
 length-quiet : (bs : List Bool) → length (quietStates bs) ≡ length bs
-length-quiet bs = length-map (lows bs) stateOf ∙ length-map bs low
+length-quiet bs = length-map (lows bs) stateCode ∙ length-map bs low
 
 -- all of a list, and then some of the low clocks after it
 pub take-then : (k : ℕ) (xs : List ℕ) (last : List Bool) → length xs ≤ k → take k (xs ++ quietStates last) ≡ xs ++ quietStates (take (k - length xs) last)

@@ -12,16 +12,16 @@ use Rattle.tables.specs.Refusals.{Row, first, Lowest, answer, content}
 use Rattle.tables.proofs.Rows as rows
 use Rattle.parts.specs.declared.command.Command.{Command}
 use Rattle.parts.specs.declared.command.Command.the-variants.{Individual, Calibration, Global, Configuration}
-use Rattle.line.specs.States.{frameRows, clockedAnswer, clockedOut, stateRows, packedAnswer, packedOut}
-use Rattle.line.specs.declared.states.Line.the-variants as L
+use Rattle.serial.specs.States.{frameRows, clockedAnswer, clockedOut, stateRows, dataBytesAnswer, dataBytesOut}
+use Rattle.serial.specs.declared.states.Converted.the-variants as L
 use Rattle.frame_writer.specs.Writing.{writeTable, writeRefusal, written, writtenOut}
 use Rattle.frames.specs.Reading.{heldFields, found, readTable, readRefusal, read, readBytes, readValues}
-use Rattle.frames.specs.Returns.{returnTable, returnRefusal, returned}
+use Rattle.frames.specs.Returns.{returnTable, returnRefusal, returnRead}
 use Rattle.frames.specs.declared.told.Told.{Told}
 use Rattle.frames.specs.declared.told.Tail.{Tail}
 use Rattle.frames.specs.declared.told.Written.the-variants as W
 use Rattle.frames.specs.declared.told.Read.the-variants as Q
-use Rattle.frames.specs.declared.told.Returned.the-variants as R
+use Rattle.frames.specs.declared.told.ReturnRead.the-variants as R
 use Rattle.device.specs.Judgement.{judgement, stepRefusals, refusedWith}
 use Rattle.device.specs.declared.device.Device.{Device}
 use Rattle.device.specs.declared.device.Answer.{Answer}
@@ -42,7 +42,7 @@ use Rattle.report.specs.Arguments.{parsed, askedRows, judged}
 use Rattle.report.specs.declared.arguments.Asked.the-variants as B
 use Rattle.capi.specs.Answers.{accepted, refused, partRows}
 use Rattle.capi.specs.declared.answer.Answer.{Answer as RowAnswer}
-use Rattle.claims.specs.Tables.{Exactly, Answers, Leaves, lineNumber, writtenNumber, readNumber, returnedNumber, askedNumber, leadNumber, clocksNumber, argumentsNumber}
+use Rattle.claims.specs.Tables.{Exactly, Answers, Leaves, convertedNumber, writtenNumber, readNumber, returnReadNumber, askedNumber, leadNumber, clocksNumber, argumentsNumber}
 use Rattle.claims.specs.Claims as claim
 
 -- ---- any table, any answer, any lent list
@@ -121,20 +121,20 @@ reads t tail frame bytes values =
     )
 
 reads-return : (part devices : ℕ) (c : Command) (tail : Tail) (frame : List ℕ) → claim.ReadsReturn part devices c tail frame
-unfolding returned returnRefusal
-reads-return part devices c tail frame = answers (returnTable part devices c tail frame) refl refl returnedNumber R.Refused _ refl itself
+unfolding returnRead returnRefusal
+reads-return part devices c tail frame = answers (returnTable part devices c tail frame) refl refl returnReadNumber R.Refused _ refl itself
 
 gives-states : (frame : List ℕ) (n : ℕ) (out : List ℕ) → claim.GivesStates frame n out
 unfolding clockedAnswer clockedOut
 gives-states frame n out =
     let table = frameRows (length frame) n (length out) in
-    (answers table refl refl lineNumber L.Refused _ refl itself, leaves table refl refl lineNumber L.Refused _ refl itself out _)
+    (answers table refl refl convertedNumber L.Refused _ refl itself, leaves table refl refl convertedNumber L.Refused _ refl itself out _)
 
 packs-states : (states out : List ℕ) → claim.PacksStates states out
-unfolding packedAnswer packedOut
+unfolding dataBytesAnswer dataBytesOut
 packs-states states out =
     let table = stateRows states (length out) in
-    (answers table refl refl lineNumber L.Refused _ refl itself, leaves table refl refl lineNumber L.Refused _ refl itself out _)
+    (answers table refl refl convertedNumber L.Refused _ refl itself, leaves table refl refl convertedNumber L.Refused _ refl itself out _)
 
 -- ---- calls
 

@@ -1,7 +1,7 @@
 -- Every claim of this library, each a type: a reader who trusts the checker reads the definitions in the crates' specs/ and this file. The
 -- proofs are in proofs/, one for each, under the same name in small letters. What a claim says of an operation is said with the definitions
 -- that the operation's contract cites: of bytes written and read, of lent records and lent room. Numbers that stand for bytes are below 256,
--- as their types say. Document 01 fixes the terms.
+-- as their types say. docs/RULES.md fixes the terms.
 use Prim.Native.Nat.{ℕ, _+_, _-_, _<_, _≤_}
 use mathlib.Core.Path.{_≡_}
 use mathlib.Core.Bool.{Bool, true, false}
@@ -13,11 +13,11 @@ use lib.Signed.{_<ℤ_}
 use Rattle.bits.specs.Bits.{digit, fields, bytesOf, bytesFor, over}
 use Rattle.parts.specs.Parts.{Part, partOf, subframes, restoreOrder}
 use Rattle.tables.specs.Refusals.{first}
-use Rattle.parts.specs.Wire.{Line, lineOf, stateOf, lows}
+use Rattle.parts.specs.Wire.{State, stateAt, stateCode, lows}
 use Rattle.parts.specs.declared.command.Command.{Command}
 use Rattle.parts.specs.declared.command.Command.the-variants.{Individual}
-use Rattle.line.specs.States.{dataBits, frameStates, frameRows, clockedAnswer, clockedOut, stateRows, packedAnswer, packedOut}
-use Rattle.line.specs.declared.states.Line.the-variants as L
+use Rattle.serial.specs.States.{dataBits, frameStates, frameRows, clockedAnswer, clockedOut, stateRows, dataBytesAnswer, dataBytesOut}
+use Rattle.serial.specs.declared.states.Converted.the-variants as L
 use Rattle.frames.specs.Frames.{fieldCount, frameOf}
 use Rattle.frame_writer.specs.Writing.{settings, writeTable, written, writtenOut}
 use Rattle.frames.specs.Reading.{heldFields, roomShort, readTable, found, bytesFound, valuesFound, read, readBytes, readValues}
@@ -26,17 +26,17 @@ use Rattle.frames.specs.declared.told.Told.{Told}
 use Rattle.frames.specs.declared.told.Tail.{Tail}
 use Rattle.frames.specs.declared.told.Written.the-variants as W
 use Rattle.frames.specs.declared.told.Read.the-variants as Q
-use Rattle.frames.specs.declared.told.Returned.the-variants as R
+use Rattle.frames.specs.declared.told.ReturnRead.the-variants as R
 use Rattle.frame_laws.specs.RoundTrip.{ReadBack, WrittenAgain, byteRead, bytesRead, valuesRead}
 use Rattle.device.specs.Step.{step}
-use Rattle.device.specs.Judgement.{fits, judgement, stepRefusals, taken, refusedWith, stepAnswer}
+use Rattle.device.specs.Judgement.{fits, judgement, stepRefusals, acceptedStep, refusedWith, stepAnswer}
 use Rattle.device.specs.declared.device.Device.{Device}
 use Rattle.device.specs.declared.device.Answer.{Answer}
 use Rattle.calls.specs.Chain.{blank}
 use Rattle.calls.specs.Calls.{roomFor, returned, runTable, runRoom}
-use Rattle.calls.specs.History.{Call, fresh, run, boundary, tableOf, refusalOf, effect, after, afterCalls, fed, answered, answers, Runs, Settles}
+use Rattle.calls.specs.History.{Call, fresh, run, boundary, tableOf, refusalOf, effect, after, afterCalls, statesGiven, answered, answers, Runs, Settles}
 use Rattle.calls.specs.Told.{partTold, flagIn, flagTold, ownTable}
-use Rattle.model.specs.Lists.{All, Both}
+use Rattle.model.specs.Lists.{All, Pairwise}
 use Rattle.model.specs.Device.{faults, stepDevice}
 use Rattle.model.specs.Device as model
 use Rattle.model.specs.Set.{Set, Own, owned}
@@ -60,7 +60,7 @@ use Rattle.report.specs.Arguments.{parsed, valueOf, askedRows, asked}
 use Rattle.report.specs.declared.arguments.Asked.the-variants as B
 use Rattle.capi.specs.Answers.{accepted, refused, partRows, ofPart}
 use Rattle.capi.specs.declared.answer.Answer.{Answer as RowAnswer}
-use Rattle.claims.specs.Tables.{Exactly, Answers, Leaves, lineNumber, writtenNumber, readNumber, returnedNumber, askedNumber, leadNumber, clocksNumber, argumentsNumber}
+use Rattle.claims.specs.Tables.{Exactly, Answers, Leaves, convertedNumber, writtenNumber, readNumber, returnReadNumber, askedNumber, leadNumber, clocksNumber, argumentsNumber}
 use Rattle.claims.specs.Examples.{Each, examples}
 
 -- each is a byte
@@ -87,19 +87,19 @@ Reads t tail frame bytes values =
 -- the return reader: the count
 abbrev pub ReadsReturn : ℕ → ℕ → Command → Tail → List ℕ → Type 0
 ReadsReturn part devices c tail frame =
-    Answers returnedNumber (returns.returnTable part devices c tail frame) R.Refused (R.Count (returns.countOf (fields 8 frame))) (returns.returned part devices c tail frame)
+    Answers returnReadNumber (returns.returnTable part devices c tail frame) R.Refused (R.Count (returns.countOf (fields 8 frame))) (returns.returnRead part devices c tail frame)
 
 -- a frame's line states: how many, and these in front of the lent states
 abbrev pub GivesStates : List ℕ → ℕ → List ℕ → Type 0
 GivesStates frame n out =
-    Answers lineNumber (frameRows (length frame) n (length out)) L.Refused (L.Written n) (clockedAnswer frame n out)
-    × Leaves (lineNumber (clockedAnswer frame n out)) out (over (frameStates frame n) out) (clockedOut frame n out)
+    Answers convertedNumber (frameRows (length frame) n (length out)) L.Refused (L.Written n) (clockedAnswer frame n out)
+    × Leaves (convertedNumber (clockedAnswer frame n out)) out (over (frameStates frame n) out) (clockedOut frame n out)
 
 -- returned states, packed: how many bytes, and these in front of the lent bytes
 abbrev pub PacksStates : List ℕ → List ℕ → Type 0
 PacksStates states out =
-    Answers lineNumber (stateRows states (length out)) L.Refused (L.Written (bytesFor (length states))) (packedAnswer states out)
-    × Leaves (lineNumber (packedAnswer states out)) out (over (bytesOf (dataBits states)) out) (packedOut states out)
+    Answers convertedNumber (stateRows states (length out)) L.Refused (L.Written (bytesFor (length states))) (dataBytesAnswer states out)
+    × Leaves (convertedNumber (dataBytesAnswer states out)) out (over (bytesOf (dataBits states)) out) (dataBytesOut states out)
 
 -- a call on a lent chain: its effect on the records
 abbrev pub Calls : List Device → Call → Type 0
@@ -119,7 +119,7 @@ pub record AcceptedExactly : Type 0 where
   pub givesStates : (frame : List ℕ) (n : ℕ) (out : List ℕ) → GivesStates frame n out
   pub packsStates : (states out : List ℕ) → PacksStates states out
   pub judges : (d : Device) → Exactly (judgement d) (first (judgement d))
-  pub steps : (d : Device) (s : ℕ) → Answers (λ (a : Answer). a .refusal) (stepRefusals d s) (refusedWith d) (taken (step d s)) (stepAnswer d s)
+  pub steps : (d : Device) (s : ℕ) → Answers (λ (a : Answer). a .refusal) (stepRefusals d s) (refusedWith d) (acceptedStep (step d s)) (stepAnswer d s)
   pub calls : (ds : List Device) (c : Call) → Calls ds c
   pub runs : (ds : List Device) (ss out : List ℕ) → RunAnswers ds ss out
   pub compares : (s : Set) (ds : List Device)
@@ -165,7 +165,7 @@ ReadWritten =
     → length frame ≤ length out
     → WrittenAgain t tail frame (byteRead t tail frame bytes values) (bytesRead t tail frame bytes values) (valuesRead t tail frame bytes values) out
 
--- ---- demand 2: registers. The device that reads like document 01 is model/specs/Device; a record is seen as one by link/specs/View
+-- ---- demand 2: registers. The device that reads like docs/RULES.md is model/specs/Device; a record is seen as one by link/specs/View
 
 -- one line state: a record that fits steps as the model's device does, and still fits
 abbrev pub StepModelled : Type 0
@@ -173,7 +173,7 @@ StepModelled =
     (d : Device) (s : ℕ)
     → Arrays d
     → fits d ≡ true
-    → ((deviceOf ((stepRecord d s) .0), map lineOf ((stepRecord d s) .1)) ≡ stepDevice (deviceOf d) (lineOf s)) × (fits ((stepRecord d s) .0) ≡ true)
+    → ((deviceOf ((stepRecord d s) .0), map stateAt ((stepRecord d s) .1)) ≡ stepDevice (deviceOf d) (stateAt s)) × (fits ((stepRecord d s) .0) ≡ true)
 
 -- a call: an accepted fresh, run, boundary or fault setting does to the records what it does to the model's devices, and a run returns the same
 abbrev pub CallModelled : Type 0
@@ -181,7 +181,7 @@ CallModelled =
     (ds : List Device) (c : Call)
     → All Arrays ds
     → refusalOf ds c ≡ 0
-    → _≡_ {A = List model.Device × List Line} (map deviceOf (after ds c), map lineOf (answered ds c)) (called (map deviceOf ds) c)
+    → _≡_ {A = List model.Device × List State} (map deviceOf (after ds c), map stateAt (answered ds c)) (called (map deviceOf ds) c)
 
 -- ---- demand 3
 
@@ -194,7 +194,7 @@ abbrev pub startPart : ℕ → List Device → List Call → ℕ
 startPart p records earlier = partTold (after records (fresh p)) p earlier
 
 -- the fresh was accepted; then a set for as many devices and the part told last, which the writer accepts, and the calls of a restore
-pub record Begun (p : ℕ) (records : List Device) (earlier during : List Call) (s : Set) (tail : Command → Tail) : Type 0 where
+pub record RestorePremises (p : ℕ) (records : List Device) (earlier during : List Call) (s : Set) (tail : Command → Tail) : Type 0 where
   pub accepted : refusalOf records (fresh p) ≡ 0
   pub writable : Writable s tail
   pub devices : s .devices ≡ length records
@@ -210,7 +210,7 @@ pub record Outcome (now : List Device) (during : List Call) (s : Set) (gap : Com
       length (restoreStates s gap tail) ≤ k
       → (later : List Call)
       → Settles (afterCalls now during) later
-      → Both Holds (owned s) (afterCalls now (during ++ (later ++ boundary ∷ [])))
+      → Pairwise Holds (owned s) (afterCalls now (during ++ (later ++ boundary ∷ [])))
   -- j frames were given, and of what follows them at most the clocks at low load: the runs wrote the first j returns, and nothing else
   pub returned :
       (j : ℕ)
@@ -228,21 +228,21 @@ pub record Outcome (now : List Device) (during : List Call) (s : Set) (gap : Com
 abbrev pub DemandThree : Type 0
 DemandThree =
     (p : ℕ) (records : List Device) (earlier during : List Call) (s : Set) (gap : Command → List Bool) (tail : Command → Tail) (last : List Bool) (k : ℕ)
-    → Begun p records earlier during s tail
-    → fed (start p records earlier) during ≡ take k (restoreThen s gap tail last)
+    → RestorePremises p records earlier during s tail
+    → statesGiven (start p records earlier) during ≡ take k (restoreThen s gap tail last)
     → Outcome (start p records earlier) during s gap tail last k
 
 -- what the runs write while the frame after the first j comes in, packed, is what the return reader accepts: it gives the number of flags up
 abbrev pub Counted : Type 0
 Counted =
     (p : ℕ) (records : List Device) (earlier former during : List Call) (s : Set) (gap : Command → List Bool) (tail : Command → Tail) (last : List Bool) (j : ℕ)
-    → Begun p records earlier (former ++ during) s tail
+    → RestorePremises p records earlier (former ++ during) s tail
     → j < 4
     → let c : Command = getD restoreOrder j Individual in
     let now : List Device = afterCalls (start p records earlier) former in
-    fed (start p records earlier) former ≡ restorePart s gap tail j
-    → fed now during ≡ framePart s gap tail c ++ map stateOf (lows last)
-    → returns.returned (s .part) (s .devices) c (tail c) (bytesOf (dataBits (answers now during))) ≡ R.Count (faults c (registersAll (start p records earlier)))
+    statesGiven (start p records earlier) former ≡ restorePart s gap tail j
+    → statesGiven now during ≡ framePart s gap tail c ++ map stateCode (lows last)
+    → returns.returnRead (s .part) (s .devices) c (tail c) (bytesOf (dataBits (answers now during))) ≡ R.Count (faults c (registersAll (start p records earlier)))
 
 -- nothing above is empty: whatever was called since an accepted fresh, one run of the restore of any set for the chain is accepted, meets the
 -- premises above, and with a boundary restores the set
@@ -257,9 +257,9 @@ Restorable =
     → let now : List Device = start p records earlier in
     let restore : Call = run (restoreStates s gap tail) out in
     (refusalOf now restore ≡ 0)
-    × Begun p records earlier (restore ∷ []) s tail
-    × (fed now (restore ∷ []) ≡ restoreThen s gap tail [])
-    × Both Holds (owned s) (afterCalls now (restore ∷ boundary ∷ []))
+    × RestorePremises p records earlier (restore ∷ []) s tail
+    × (statesGiven now (restore ∷ []) ≡ restoreThen s gap tail [])
+    × Pairwise Holds (owned s) (afterCalls now (restore ∷ boundary ∷ []))
 
 -- ---- the calls themselves
 
@@ -302,22 +302,22 @@ SameHolds =
     (s : Set) (ds : List Device)
     → All Arrays ds
     → comparison s ds ≡ same
-    → Both Holds (owned s) ds
+    → Pairwise Holds (owned s) ds
 
 -- every register in use is the set's: same, unless it is refused
 abbrev pub HoldsSame : Type 0
 HoldsSame =
     (s : Set) (ds : List Device)
     → compareRefusal s ds ≡ 0
-    → Both Holds (owned s) ds
+    → Pairwise Holds (owned s) ds
     → comparison s ds ≡ same
 
 -- after a restore, whatever settles and a boundary: a comparison of that set and that chain is not refused, and says same
 abbrev pub RestoredSame : Type 0
 RestoredSame =
     (p : ℕ) (records : List Device) (earlier during later : List Call) (s : Set) (gap : Command → List Bool) (tail : Command → Tail) (last : List Bool)
-    → Begun p records earlier during s tail
-    → fed (start p records earlier) during ≡ restoreThen s gap tail last
+    → RestorePremises p records earlier during s tail
+    → statesGiven (start p records earlier) during ≡ restoreThen s gap tail last
     → Settles (afterCalls (start p records earlier) during) later
     → comparison s (afterCalls (start p records earlier) (during ++ (later ++ boundary ∷ []))) ≡ same
 

@@ -1,4 +1,4 @@
--- Document 01's lettered examples, a to k, as one list in the order of their letters and with the paper's own numbers.
+-- The lettered examples of docs/RULES.md, a to k, as one list in the order of their letters and with the numbers given there.
 use Prim.Native.Nat.{ℕ, zero, suc, _-_}
 use mathlib.Core.Path.{_≡_}
 use mathlib.Core.Bool.{Bool, true, false, _&&_}
@@ -12,7 +12,7 @@ use Rattle.tables.specs.Refusals.{first}
 use Rattle.parts.specs.Wire.{frame, statesOf}
 use Rattle.parts.specs.declared.command.Command.{Command}
 use Rattle.parts.specs.declared.command.Command.the-variants.{Individual, Calibration, Global, Configuration}
-use Rattle.line.specs.States.{dataBits}
+use Rattle.serial.specs.States.{dataBits}
 use Rattle.frame_writer.specs.Writing.{written, writtenOut}
 use Rattle.frames.specs.Reading.{readRefusal}
 use Rattle.frames.specs.declared.told.Told.{Told}

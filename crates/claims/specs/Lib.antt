@@ -1,4 +1,4 @@
--- What is claimed, what it is to answer by a table, and document 01's lettered examples.
+-- What is claimed, what it is to answer by a table, and the lettered examples of docs/RULES.md.
 pub mod Tables
 pub mod Examples
 pub mod Claims

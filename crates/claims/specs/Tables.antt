@@ -4,14 +4,14 @@ use Prim.Native.Nat.{ℕ}
 use mathlib.Core.Path.{_≡_}
 use mathlib.Core.List.{List}
 use Rattle.tables.specs.Refusals.{Row, Applies, Lowest}
-use Rattle.line.specs.declared.states.Line.{Line}
-use Rattle.line.specs.declared.states.Line.the-variants as L
+use Rattle.serial.specs.declared.states.Converted.{Converted}
+use Rattle.serial.specs.declared.states.Converted.the-variants as L
 use Rattle.frames.specs.declared.told.Written.{Written}
 use Rattle.frames.specs.declared.told.Written.the-variants as W
 use Rattle.frames.specs.declared.told.Read.{Read}
 use Rattle.frames.specs.declared.told.Read.the-variants as Q
-use Rattle.frames.specs.declared.told.Returned.{Returned}
-use Rattle.frames.specs.declared.told.Returned.the-variants as R
+use Rattle.frames.specs.declared.told.ReturnRead.{ReturnRead}
+use Rattle.frames.specs.declared.told.ReturnRead.the-variants as R
 use Rattle.schedule.specs.declared.answer.Asked.{Asked}
 use Rattle.schedule.specs.declared.answer.Asked.the-variants as A
 use Rattle.schedule.specs.declared.answer.Lead.{Lead}
@@ -42,9 +42,9 @@ pub record Leaves {A : Type 0} (number : ℕ) (before written after : List A) : 
 -- ---- the number that an answer carries
 
 -- of the two operations on line states
-abbrev pub lineNumber : Line → ℕ
-lineNumber (L.Written n) = 0
-lineNumber (L.Refused n) = n
+abbrev pub convertedNumber : Converted → ℕ
+convertedNumber (L.Written n) = 0
+convertedNumber (L.Refused n) = n
 
 -- of the writer
 abbrev pub writtenNumber : Written → ℕ
@@ -59,9 +59,9 @@ readNumber (Q.Values n) = 0
 readNumber (Q.Refused n) = n
 
 -- of the return reader
-abbrev pub returnedNumber : Returned → ℕ
-returnedNumber (R.Count n) = 0
-returnedNumber (R.Refused n) = n
+abbrev pub returnReadNumber : ReturnRead → ℕ
+returnReadNumber (R.Count n) = 0
+returnReadNumber (R.Refused n) = n
 
 -- of a question about light
 abbrev pub askedNumber : Asked → ℕ

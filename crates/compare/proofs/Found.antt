@@ -19,13 +19,13 @@ use Rattle.tables.proofs.Booleans.{and-left, and-right}
 use Rattle.tables.proofs.Rows.{clear}
 use Rattle.device.specs.declared.device.Device.{Device}
 use Rattle.calls.specs.Chain.{blank}
-use Rattle.model.specs.Set.{Set, Own, deal, owned}
+use Rattle.model.specs.Set.{Set, Own, ownFrom, owned}
 use Rattle.calls.specs.Judging.{unjudged, judgedFrom}
 use Rattle.compare.specs.declared.compared.Compared.{Compared}
-use Rattle.compare.specs.declared.compared.Given.{Given}
+use Rattle.compare.specs.declared.compared.SetNumbers.{SetNumbers}
 use Rattle.compare.specs.declared.compared.Search.{Search}
 use Rattle.compare.specs.Compare.{differsAt, Pair, _against_, groups, inGroups, compared, same, difference, lengthsFit, sameChain, compareTable, compareRefusal, comparison}
-use Rattle.compare.specs.Search.{setBy, Ready, onward, ended, lookedAt, begunUnder, begun}
+use Rattle.compare.specs.Search.{setBy, OwnInLists, onward, ended, lookedAt, beginSearchUnder, beginSearch}
 use Rattle.compare.proofs.Refusal.{fields-of}
 use Rattle.compare.proofs.Judged.{refusal-found}
 
@@ -61,7 +61,7 @@ module _ (p : Part) (bytes values : List ℕ) (ds : List Device) where
   -- the answer of the devices from where a search stands, so many of them
   abbrev from : Search → ℕ → Compared
   from s left =
-      difference (suc (s .index)) (deal p left (s .configuration) (s .global) (drop (s .bytes) bytes) (drop (s .values) values)) (drop (s .index) ds)
+      difference (suc (s .index)) (ownFrom p left (s .configuration) (s .global) (drop (s .bytes) bytes) (drop (s .values) values)) (drop (s .index) ds)
 
   abbrev rest : Search → Compared
   rest s = cond (s .going) (from s (s .devices - s .index)) (s .answer)
@@ -96,7 +96,7 @@ module _ (p : Part) (bytes values : List ℕ) (ds : List Device) where
     pub stands-index : s .index < length ds
     stands-index = omega (arith, here .left, here .devices)
 
-    pub stands-ready : Ready s (length bytes) (length values)
+    pub stands-ready : OwnInLists s (length bytes) (length values)
     stands-ready =
         record {
           index = omega (arith, here .left);
@@ -121,7 +121,7 @@ module _ (p : Part) (bytes values : List ℕ) (ds : List Device) where
 
     abbrev after : ℕ → ℕ → Compared
     after banks fields =
-        difference (suc (s .index + 1)) (deal p t (s .configuration) (s .global) (drop (s .bytes + banks) bytes) (drop (s .values + fields) values)) (drop (s .index + 1) ds)
+        difference (suc (s .index + 1)) (ownFrom p t (s .configuration) (s .global) (drop (s .bytes + banks) bytes) (drop (s .values + fields) values)) (drop (s .index + 1) ds)
 
     abbrev whole : ℕ → ℕ → Compared
     whole banks fields = inGroups (s .index + 1) 1 (groups (own banks fields) d) (after banks fields)
@@ -131,8 +131,8 @@ module _ (p : Part) (bytes values : List ℕ) (ds : List Device) where
 
     -- this device's answer, or that of those after it
     turn : whole (p .banks) (sliceFields p Individual (multiplex (s .configuration)))
-        ≡ difference (s .index + 1) (deal p (suc t) (s .configuration) (s .global) (drop (s .bytes) bytes) (drop (s .values) values)) (d ∷ drop (s .index + 1) ds)
-    unfolding difference deal
+        ≡ difference (s .index + 1) (ownFrom p (suc t) (s .configuration) (s .global) (drop (s .bytes) bytes) (drop (s .values) values)) (d ∷ drop (s .index + 1) ds)
+    unfolding difference ownFrom
     turn = rw (drop-drop (p .banks) (s .bytes) bytes, drop-drop (sliceFields p Individual (multiplex (s .configuration))) (s .values) values)
 
     split : cond (eqb (a .group) 0) (after (s .banks) (s .fields)) a ≡ fin
@@ -142,8 +142,8 @@ module _ (p : Part) (bytes values : List ℕ) (ds : List Device) where
         sym (inGroups-none (s .index + 1) 0 (groups (own (s .banks) (s .fields)) d) (after (s .banks) (s .fields)))
         ∙ ap₂ whole (here .banks) (here .fields)
         ∙ turn
-        ∙ ap (λ (n : ℕ). difference n (deal p (suc t) (s .configuration) (s .global) (drop (s .bytes) bytes) (drop (s .values) values)) (d ∷ drop (s .index + 1) ds)) (add-one (s .index))
-        ∙ ap (λ (r : List Device). difference (suc (s .index)) (deal p (suc t) (s .configuration) (s .global) (drop (s .bytes) bytes) (drop (s .values) values)) r) now
+        ∙ ap (λ (n : ℕ). difference n (ownFrom p (suc t) (s .configuration) (s .global) (drop (s .bytes) bytes) (drop (s .values) values)) (d ∷ drop (s .index + 1) ds)) (add-one (s .index))
+        ∙ ap (λ (r : List Device). difference (suc (s .index)) (ownFrom p (suc t) (s .configuration) (s .global) (drop (s .bytes) bytes) (drop (s .values) values)) r) now
         ∙ ap (from s) left
         ∙ ap (λ (b : Bool). cond b (from s (s .devices - s .index)) (s .answer)) (sym e)
         ∙ st .answered
@@ -153,7 +153,7 @@ module _ (p : Part) (bytes values : List ℕ) (ds : List Device) where
 
     -- the search goes on after a device that is the same
     onward-answered : eqb (a .group) 0 ≡ true → rest (onward s a) ≡ fin
-    unfolding difference deal
+    unfolding difference ownFrom
     onward-answered z = go (ltb (s .index + 1) (s .devices)) refl
       where
         go : (u : Bool) → ltb (s .index + 1) (s .devices) ≡ u
@@ -194,7 +194,7 @@ module _ (p : Part) (bytes values : List ℕ) (ds : List Device) where
 
 -- ---- where the search begins
 
-module _ (g : Given) (bytes values : List ℕ) (ds : List Device) where
+module _ (g : SetNumbers) (bytes values : List ℕ) (ds : List Device) where
   abbrev set : Set
   set = setBy g bytes values
 
@@ -211,7 +211,7 @@ module _ (g : Given) (bytes values : List ℕ) (ds : List Device) where
   abbrev fits : Bool
   fits = lengthsFit (g .part) (g .devices) (g .configuration) (length bytes) (length values)
 
-  pub begin-live : compareRefusal set ds ≡ 0 → (0 < g .devices) × Live p₀ bytes values ds (g .devices) (begunUnder (compareRefusal set ds) g)
+  pub begin-live : compareRefusal set ds ≡ 0 → (0 < g .devices) × Live p₀ bytes values ds (g .devices) (beginSearchUnder (compareRefusal set ds) g)
   unfolding compareRefusal
   begin-live e =
       let c = clear (compareTable set ds) refl e in
@@ -232,16 +232,16 @@ module _ (g : Given) (bytes values : List ℕ) (ds : List Device) where
         },
       )
 
-  begin-stands : Stands p₀ bytes values ds (g .devices) (comparison set ds) (begunUnder (compareRefusal set ds) g)
+  begin-stands : Stands p₀ bytes values ds (g .devices) (comparison set ds) (beginSearchUnder (compareRefusal set ds) g)
   unfolding comparison owned
   begin-stands =
       let n = compareRefusal set ds in
       let all : g .devices - 0 ≡ g .devices = omega arith in
       record {
-        answered = ap (λ (k : ℕ). cond (eqb n 0) (difference 1 (deal p₀ k (g .configuration) (g .global) bytes values) ds) (compared n 0 0 0)) all;
+        answered = ap (λ (k : ℕ). cond (eqb n 0) (difference 1 (ownFrom p₀ k (g .configuration) (g .global) bytes values) ds) (compared n 0 0 0)) all;
         live = λ f. begin-live (eqb-true n 0 f);
       }
 
-  pub stands-start : Stands p₀ bytes values ds (g .devices) (comparison set ds) (begun g (length bytes) values (judgedFrom unjudged ds) (length ds))
+  pub stands-start : Stands p₀ bytes values ds (g .devices) (comparison set ds) (beginSearch g (length bytes) values (judgedFrom unjudged ds) (length ds))
   stands-start =
-      subst (λ (n : ℕ). Stands p₀ bytes values ds (g .devices) (comparison set ds) (begunUnder n g)) (sym (refusal-found g bytes values ds)) begin-stands
+      subst (λ (n : ℕ). Stands p₀ bytes values ds (g .devices) (comparison set ds) (beginSearchUnder n g)) (sym (refusal-found g bytes values ds)) begin-stands

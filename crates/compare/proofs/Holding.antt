@@ -16,7 +16,7 @@ use Rattle.device.specs.declared.device.Device.{Device}
 use Rattle.model.specs.Device.{multiplexed, evens, odds}
 use Rattle.model.specs.Lists.{All}
 use Rattle.model.specs.Restore.{InUse}
-use Rattle.model.specs.Set.{Own, deal}
+use Rattle.model.specs.Set.{Own, ownFrom}
 use Rattle.link.specs.View.{Arrays, Holds}
 use Rattle.compare.specs.declared.compared.Compared.{Compared}
 use Rattle.compare.specs.Compare.{differsAt, inTurns, activeValues, Pair, _against_, groups, inGroups, compared, same}
@@ -31,13 +31,13 @@ pub record Sized (o : Own) : Type 0 where
   pub calibration : length (o .calibration) ≡ 3
   pub individual : length (o .individual) ≡ 24 * (1 + o .configuration % 2)
 
-pub dealt-sized : (p : Part) → p .banks ≡ 3 → (n configuration global : ℕ) (bytes values : List ℕ)
+pub ownFrom-sized : (p : Part) → p .banks ≡ 3 → (n configuration global : ℕ) (bytes values : List ℕ)
     → length bytes ≡ n * p .banks
     → length values ≡ n * sliceFields p Individual (multiplex configuration)
-    → All Sized (deal p n configuration global bytes values)
-unfolding deal
-dealt-sized p e zero configuration global bytes values b v = tt
-dealt-sized p e (suc n) configuration global bytes values b v =
+    → All Sized (ownFrom p n configuration global bytes values)
+unfolding ownFrom
+ownFrom-sized p e zero configuration global bytes values b v = tt
+ownFrom-sized p e (suc n) configuration global bytes values b v =
     let fields : ℕ = sliceFields p Individual (multiplex configuration) in
     let b′ : length bytes ≡ n * p .banks + p .banks = b ∙ suc-mul n (p .banks) in
     let v′ : length values ≡ n * fields + fields = v ∙ suc-mul n fields in (
@@ -45,7 +45,7 @@ dealt-sized p e (suc n) configuration global bytes values b v =
         calibration = length-take-le (p .banks) bytes (omega (arith, b′)) ∙ e;
         individual = length-take-le fields values (omega (arith, v′)) ∙ ap (λ (k : ℕ). 8 * k * (1 + configuration % 2)) e;
       },
-      dealt-sized p e n configuration global (drop (p .banks) bytes) (drop fields values)
+      ownFrom-sized p e n configuration global (drop (p .banks) bytes) (drop fields values)
           (length-drop (p .banks) bytes ∙ omega (arith, b′))
           (length-drop fields values ∙ omega (arith, v′)),
     )

@@ -17,8 +17,8 @@ use Rattle.tables.specs.Lists.{every}
 use Rattle.calls.specs.declared.judging.Judged.{Judged}
 use Rattle.calls.specs.Judging.{unjudged, judgedWith, judgedFrom}
 use Rattle.calls.proofs.Judged.{known-found, fits-found, same-found}
-use Rattle.compare.specs.declared.compared.Given.{Given}
-use Rattle.compare.specs.Compare.{rowsOf, lengthsFit, valuesFit, sameChain, compareRefusal}
+use Rattle.compare.specs.declared.compared.SetNumbers.{SetNumbers}
+use Rattle.compare.specs.Compare.{rowsOf, lengthsFit, settingsFit, sameChain, compareRefusal}
 use Rattle.compare.specs.Search.{setBy, chainFits, rowsBy}
 
 -- the first record's part stays
@@ -39,17 +39,17 @@ every-part q p ds = go (eqb q p) refl
     go true e = and-true (every (hasPart q) ds) ∙ ap (λ (n : ℕ). every (hasPart n) ds) (eqb-true q p e)
     go false e = and-false (every (hasPart q) ds)
 
-chain-found : (g : Given) (bytes values : List ℕ) (d : Device) (ds : List Device) → chainFits g (judgedFrom unjudged (d ∷ ds)) (length (d ∷ ds)) ≡ sameChain (setBy g bytes values) (d ∷ ds)
+chain-found : (g : SetNumbers) (bytes values : List ℕ) (d : Device) (ds : List Device) → chainFits g (judgedFrom unjudged (d ∷ ds)) (length (d ∷ ds)) ≡ sameChain (setBy g bytes values) (d ∷ ds)
 chain-found g bytes values d ds =
     ap (λ (b : Bool). eqb (length (d ∷ ds)) (g .devices) && b)
     (ap₂ (λ (b : Bool) (n : ℕ). b && eqb n (g .part)) (same-found (d ∷ ds)) (part-found d ds) ∙ every-part (d .registers .part) (g .part) ds)
 
-module _ (g : Given) (bytes values : List ℕ) where
+module _ (g : SetNumbers) (bytes values : List ℕ) where
   -- the refusal, by the tests that the records' judgement answers
   abbrev number : Bool → ℕ → Bool → Bool → ℕ
   number known count same fit =
       first (rowsOf (Parts.known (g .part) && known) (isCount (g .devices) && isCount count)
-      (lengthsFit (g .part) (g .devices) (g .configuration) (length bytes) (length values) && same) (valuesFit (g .part) (g .configuration) (g .global) values) fit)
+      (lengthsFit (g .part) (g .devices) (g .configuration) (length bytes) (length values) && same) (settingsFit (g .part) (g .configuration) (g .global) values) fit)
 
   pub refusal-found : (ds : List Device) → first (rowsBy g (length bytes) values (judgedFrom unjudged ds) (length ds)) ≡ compareRefusal (setBy g bytes values) ds
   unfolding compareRefusal judgedFrom

@@ -1,4 +1,4 @@
--- Comparing a set with a lent chain: same, or the first difference. Document 01, "Is it running?": the lowest device, then configuration,
+-- Comparing a set with a lent chain: same, or the first difference. docs/RULES.md, "Is it running?": the lowest device, then configuration,
 -- calibration, active global, active individual (groups 1 to 4), then the place in that device's slice, from 0. A byte that is repeated is a
 -- slice of one here, so its place is 0. Global bytes are compared as stored; MUX1 values count only if the set's D0 is 1.
 use Prim.Native.Nat.{ℕ, suc, _*_}
@@ -84,8 +84,8 @@ lengthsFit part devices configuration bytes values =
     && eqb values (devices * sliceFields (partOf part) Individual (multiplex configuration))
 
 -- the global byte and the individual values are in range
-abbrev pub valuesFit : ℕ → ℕ → ℕ → List ℕ → Bool
-valuesFit part configuration global individual =
+abbrev pub settingsFit : ℕ → ℕ → ℕ → List ℕ → Bool
+settingsFit part configuration global individual =
     ltb global (subframes (partOf part) configuration) && allBelow individual (limit (partOf part))
 
 -- the chain has the set's number of devices and its part
@@ -102,7 +102,7 @@ abbrev pub compareTable : Set → List Device → List Row
 compareTable s ds =
     rowsOf (known (s .part) && allKnown ds) (isCount (s .devices) && isCount (length ds))
     (lengthsFit (s .part) (s .devices) (s .configuration) (length (s .calibration)) (length (s .individual)) && sameChain s ds)
-    (valuesFit (s .part) (s .configuration) (s .global) (s .individual)) (allFit ds)
+    (settingsFit (s .part) (s .configuration) (s .global) (s .individual)) (allFit ds)
 
 -- the number under which a comparison is refused, or 0
 unfoldable pub compareRefusal : Set → List Device → ℕ

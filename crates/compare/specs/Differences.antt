@@ -6,7 +6,7 @@ use mathlib.Core.List.{List, []}
 use lib.ListN.{length, take, getD}
 use Rattle.device.specs.declared.device.Device.{Device}
 use Rattle.calls.specs.Chain.{blank}
-use Rattle.model.specs.Lists.{All, Both}
+use Rattle.model.specs.Lists.{All, Pairwise}
 use Rattle.model.specs.Set.{Own}
 use Rattle.link.specs.View.{Holds}
 use Rattle.compare.specs.declared.compared.Compared.{Compared}
@@ -31,7 +31,7 @@ pairOf o os ds i h = getD (pairsOf o os ds i) h ([] against [])
 -- device i, group h and place k, each from 0, is where a set and a chain differ first: the devices before that one hold what is theirs, its
 -- groups before that one are the set's, and so are the places before that one; there the two differ
 pub record DiffersFirst (i h k : ℕ) (o : Own) (os : List Own) (ds : List Device) : Type 0 where
-  pub devicesBefore : Both Holds (take i os) (take i ds)
+  pub devicesBefore : Pairwise Holds (take i os) (take i ds)
   pub groupsBefore : All (λ p. ofSet p ≡ ofDevice p) (take h (pairsOf o os ds i))
   pub placesBefore : take k (ofSet (pairOf o os ds i h)) ≡ take k (ofDevice (pairOf o os ds i h))
   pub within : k < length (ofSet (pairOf o os ds i h))

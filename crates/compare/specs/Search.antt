@@ -13,37 +13,37 @@ use Rattle.device.specs.declared.device.Device.{Device}
 use Rattle.model.specs.Set.{Set, Own}
 use Rattle.calls.specs.declared.judging.Judged.{Judged}
 use Rattle.compare.specs.declared.compared.Compared.{Compared}
-use Rattle.compare.specs.declared.compared.Given.{Given}
+use Rattle.compare.specs.declared.compared.SetNumbers.{SetNumbers}
 use Rattle.compare.specs.declared.compared.Search.{Search}
-use Rattle.compare.specs.Compare.{setOf, compared, same, groups, inGroups, lengthsFit, valuesFit, rowsOf}
+use Rattle.compare.specs.Compare.{setOf, compared, same, groups, inGroups, lengthsFit, settingsFit, rowsOf}
 
 -- what is given of a set beside its lists, and with them
-abbrev pub given : ℕ → ℕ → ℕ → ℕ → Given
-given part devices configuration global =
+abbrev pub setNumbers : ℕ → ℕ → ℕ → ℕ → SetNumbers
+setNumbers part devices configuration global =
     record { part = part; devices = devices; configuration = configuration; global = global }
 
 -- the set of a caller: numbers and two lists
-abbrev pub setBy : Given → List ℕ → List ℕ → Set
+abbrev pub setBy : SetNumbers → List ℕ → List ℕ → Set
 setBy g calibration individual = setOf (g .part) (g .devices) (g .configuration) calibration (g .global) individual
 
 -- ---- the refusal
 
 -- the number of records is the set's, and each is of the set's part
-abbrev pub chainFits : Given → Judged → ℕ → Bool
+abbrev pub chainFits : SetNumbers → Judged → ℕ → Bool
 chainFits g j count = eqb count (g .devices) && (j .same && eqb (j .part) (g .part))
 
 -- the rows of a comparison, by what one pass over the records found
-abbrev pub rowsBy : Given → ℕ → List ℕ → Judged → ℕ → List Row
+abbrev pub rowsBy : SetNumbers → ℕ → List ℕ → Judged → ℕ → List Row
 rowsBy g bytes individual j count =
     rowsOf (known (g .part) && j .known) (isCount (g .devices) && isCount count)
     (lengthsFit (g .part) (g .devices) (g .configuration) bytes (length individual) && chainFits g j count)
-    (valuesFit (g .part) (g .configuration) (g .global) individual) (j .fits)
+    (settingsFit (g .part) (g .configuration) (g .global) individual) (j .fits)
 
 -- ---- the search
 
 -- before device 1; a refused search is at its end
-abbrev pub begunUnder : ℕ → Given → Search
-begunUnder refusal g =
+abbrev pub beginSearchUnder : ℕ → SetNumbers → Search
+beginSearchUnder refusal g =
     record {
       configuration = g .configuration;
       global = g .global;
@@ -58,11 +58,11 @@ begunUnder refusal g =
     }
 
 -- where a search begins: at its end if it is refused
-abbrev pub begun : Given → ℕ → List ℕ → Judged → ℕ → Search
-begun g bytes individual j count = begunUnder (first (rowsBy g bytes individual j count)) g
+abbrev pub beginSearch : SetNumbers → ℕ → List ℕ → Judged → ℕ → Search
+beginSearch g bytes individual j count = beginSearchUnder (first (rowsBy g bytes individual j count)) g
 
 -- the next device's own bytes and values stand in the set's lists
-pub record Ready (s : Search) (bytes values : ℕ) : Type 0 where
+pub record OwnInLists (s : Search) (bytes values : ℕ) : Type 0 where
   pub index : s .index < s .devices
   pub banks : s .banks ≤ 3
   pub fields : s .fields ≡ 24 * (1 + s .configuration % 2)

@@ -1,7 +1,7 @@
 // What is compared, what is answered, and how far a search has come.
 
 // The set, but for its lists.
-pub struct Given {
+pub struct SetNumbers {
     pub part: u16,
     pub devices: usize,
     pub configuration: u8,

@@ -5,15 +5,15 @@ ghost use Prim.Native.Nat.{_≤_};
 ghost use lib.Dec.{eqb};
 ghost use lib.ListN.{length};
 ghost use Rattle.tables.specs.Refusals.{first};
-ghost use Rattle.compare.specs.Compare.{lengthsFit, valuesFit};
+ghost use Rattle.compare.specs.Compare.{lengthsFit, settingsFit};
 ghost use Rattle.compare.specs.Search.{chainFits, rowsBy};
-use crate::compared::Given;
+use crate::compared::SetNumbers;
 use calls::Judged;
 use parts::Command;
 
 // The number under which a comparison is refused, or 0, by the set and by what was found in the records.
 pub fn refusal_of(
-    given: Given,
+    given: SetNumbers,
     bytes: usize,
     individual: &[u16],
     judged: Judged,
@@ -30,14 +30,14 @@ pub fn refusal_of(
     if !(lists_fit(given, bytes, individual.len()) && chain_fits(given, judged, count)) {
         return 4;
     }
-    if !values_fit(given, individual) {
+    if !settings_fit(given, individual) {
         return 6;
     }
     if judged.fits { 0 } else { 13 }
 }
 
 // The settings lists have the lengths that their rules say.
-fn lists_fit(given: Given, bytes: usize, values: usize) -> bool
+fn lists_fit(given: SetNumbers, bytes: usize, values: usize) -> bool
     requires { ⌜ given .devices ≤ 1023 ⌝ }
     ensures { λ r. ⌜ r ≡ lengthsFit (given .part) (given .devices) (given .configuration) bytes values ⌝ }
 {
@@ -48,15 +48,15 @@ fn lists_fit(given: Given, bytes: usize, values: usize) -> bool
 }
 
 // The chain has the set's number of devices, and its records are of the set's part.
-fn chain_fits(given: Given, judged: Judged, count: usize) -> bool
+fn chain_fits(given: SetNumbers, judged: Judged, count: usize) -> bool
     ensures { λ r. ⌜ r ≡ chainFits given judged count ⌝ }
 {
     count == given.devices && judged.same && judged.part == given.part
 }
 
 // The global byte and the individual values are in range.
-fn values_fit(given: Given, individual: &[u16]) -> bool
-    ensures { λ r. ⌜ r ≡ valuesFit (given .part) (given .configuration) (given .global) (now (individual .entry)) ⌝ }
+fn settings_fit(given: SetNumbers, individual: &[u16]) -> bool
+    ensures { λ r. ⌜ r ≡ settingsFit (given .part) (given .configuration) (given .global) (now (individual .entry)) ⌝ }
 {
     (given.global as u16) < parts::subframes_of(given.part, given.configuration)
         && tables::values_below(individual, parts::value_limit(given.part))

@@ -4,7 +4,7 @@ ghost use Prim.Native.Nat.{_+_, _*_, _%_, _<_, _≤_};
 ghost use lib.Dec.{eqb};
 ghost use lib.ListN.{length};
 ghost use Rattle.compare.specs.Compare.{differsAt, inTurns, activeValues, inGroups, groups, compared, same};
-ghost use Rattle.compare.specs.Search.{Ready, ownAt};
+ghost use Rattle.compare.specs.Search.{OwnInLists, ownAt};
 use crate::compared::Compared;
 use crate::compared::Search;
 use device::Device;
@@ -16,7 +16,7 @@ pub fn device_differs(
     calibration: &[u8],
     individual: &[u16],
 ) -> Compared
-    requires { ⌜ Ready search (length (now calibration)) (length (now individual)) ⌝ }
+    requires { ⌜ OwnInLists search (length (now calibration)) (length (now individual)) ⌝ }
     ensures { λ r. ⌜ r ≡ inGroups (search .index + 1) 1 (groups (ownAt search (now (calibration .entry)) (now (individual .entry))) device) same ⌝ }
 {
     let registers = device.registers;

@@ -2,10 +2,10 @@
 ghost use mathlib.Core.Path.{_≡_};
 ghost use Prim.Native.Nat.{_+_, _<_};
 ghost use lib.ListN.{length};
-ghost use Rattle.compare.specs.Search.{given, Ready, begun, begunUnder, lookedAt};
+ghost use Rattle.compare.specs.Search.{setNumbers, OwnInLists, beginSearch, beginSearchUnder, lookedAt};
 use crate::compared::Compared;
-use crate::compared::Given;
 use crate::compared::Search;
+use crate::compared::SetNumbers;
 use calls::Judged;
 use device::Device;
 use parts::Command;
@@ -21,9 +21,9 @@ pub fn begin(
     judged: Judged,
     count: usize,
 ) -> Search
-    ensures { λ r. ⌜ r ≡ begun (given part devices configuration global) bytes (now (individual .entry)) judged count ⌝ }
+    ensures { λ r. ⌜ r ≡ beginSearch (setNumbers part devices configuration global) bytes (now (individual .entry)) judged count ⌝ }
 {
-    let given = Given {
+    let given = SetNumbers {
         part,
         devices,
         configuration,
@@ -35,8 +35,8 @@ pub fn begin(
     )
 }
 
-fn begin_under(refusal: u8, given: Given) -> Search
-    ensures { λ r. ⌜ r ≡ begunUnder refusal given ⌝ }
+fn begin_under(refusal: u8, given: SetNumbers) -> Search
+    ensures { λ r. ⌜ r ≡ beginSearchUnder refusal given ⌝ }
 {
     Search {
         configuration: given.configuration,
@@ -59,7 +59,7 @@ fn begin_under(refusal: u8, given: Given) -> Search
 
 // One device more.
 pub fn look(device: Device, search: Search, calibration: &[u8], individual: &[u16]) -> Search
-    requires { ⌜ Ready search (length (now calibration)) (length (now individual)) ⌝ }
+    requires { ⌜ OwnInLists search (length (now calibration)) (length (now individual)) ⌝ }
     ensures { λ r. ⌜ r ≡ lookedAt search (now (calibration .entry)) (now (individual .entry)) device ⌝ }
 {
     let answer = crate::own::device_differs(device, search, calibration, individual);

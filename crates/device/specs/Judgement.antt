@@ -1,4 +1,4 @@
--- The judgement of a record: what document 01's table says of one under numbers 1 and 13, and the judged step.
+-- The judgement of a record: what the table of docs/RULES.md says of one under numbers 1 and 13, and the judged step.
 use Prim.Native.Nat.{ℕ}
 use mathlib.Core.Bool.{Bool, true, _&&_, not}
 use mathlib.Core.List.{List, [], _∷_}
@@ -43,8 +43,8 @@ abbrev pub stepRefusals : Device → ℕ → List Row
 stepRefusals d s = (1 when not (known (d .registers .part))) ∷ (13 when not (fits d && ltb s 4)) ∷ []
 
 -- a step that is taken
-abbrev pub taken : Stepped → Answer
-taken s = record { refusal = 0; device = s .device; sent = s .sent }
+abbrev pub acceptedStep : Stepped → Answer
+acceptedStep s = record { refusal = 0; device = s .device; sent = s .sent }
 
 -- a refused device comes back as it came in, and nothing is sent
 abbrev pub refusedWith : Device → ℕ → Answer
@@ -52,4 +52,4 @@ refusedWith d n = record { refusal = n; device = d; sent = Nothing }
 
 -- what a judged step answers
 abbrev pub stepAnswer : Device → ℕ → Answer
-stepAnswer d s = answer (first (stepRefusals d s)) (refusedWith d) (taken (step d s))
+stepAnswer d s = answer (first (stepRefusals d s)) (refusedWith d) (acceptedStep (step d s))

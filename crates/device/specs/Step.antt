@@ -1,4 +1,4 @@
--- One device, clock by clock: the step by one line state, and what it sends. The same section of document 01. Every record has a step: one
+-- One device, clock by clock: the step by one line state, and what it sends. That section of docs/RULES.md. Every record has a step: one
 -- that does not fit (see Judgement) too. Then a frame boundary, a fault setting, and a fresh device.
 use Prim.Native.Nat.{ℕ, _+_, _/_, _%_}
 use mathlib.Core.Bool.{cond}

@@ -11,16 +11,16 @@ use Rattle.parts.specs.Wire.{returnOf}
 use Rattle.tables.proofs.Rows as rows
 use Rattle.parts.specs.declared.command.Command.{Command}
 use Rattle.frames.specs.Frames.{tailBits, toldRows}
-use Rattle.frames.specs.Returns.{countOf, returnTable, returnRefusal, returned}
+use Rattle.frames.specs.Returns.{countOf, returnTable, returnRefusal, returnRead}
 use Rattle.frames.specs.declared.told.Tail.{Tail}
-use Rattle.frames.specs.declared.told.Returned.the-variants as B
-use Rattle.frames.proofs.Accepted.{taken}
+use Rattle.frames.specs.declared.told.ReturnRead.the-variants as B
+use Rattle.frames.proofs.Accepted.{toldAccepted}
 use Rattle.frame_laws.proofs.Packed as packed
 
 pub return-read : (part devices : ℕ) (c : Command) (tail : Tail) (n : ℕ) → first (toldRows part devices tail) ≡ 0
     → tail .number < 2 ^ tail .length → n ≤ devices
-    → returned part devices c tail (bytesOf (returnOf c n (tailBits tail))) ≡ B.Count n
-unfolding returned returnRefusal
+    → returnRead part devices c tail (bytesOf (returnOf c n (tailBits tail))) ≡ B.Count n
+unfolding returnRead returnRefusal
 return-read part devices c tail n told low few = sym (rows.accepted B.Refused refl refused (ap B.Count (sym counted))) where
   f : List ℕ
   f = bytesOf (returnOf c n (tailBits tail))
@@ -29,7 +29,7 @@ return-read part devices c tail n told low few = sym (rows.accepted B.Refused re
   clear = rows.clear (toldRows part devices tail) refl told
 
   counted : countOf (fields 8 f) ≡ n
-  counted = packed.packed-count c n [] tail 0 refl (omega (arith, taken part devices tail clear .few))
+  counted = packed.packed-count c n [] tail 0 refl (omega (arith, toldAccepted part devices tail clear .few))
 
   refused : first (returnTable part devices c tail f) ≡ 0
   refused =

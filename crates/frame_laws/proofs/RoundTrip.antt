@@ -18,7 +18,7 @@ use Rattle.tables.proofs.Booleans.{and-left, or-second, or-none}
 use Rattle.parts.specs.declared.command.Command.{Command}
 use Rattle.parts.specs.declared.command.Command.the-variants.{Individual, Calibration, Global, Configuration}
 use Rattle.frames.specs.Frames.{fieldCount, fieldBits, slicesBits, frameBits, frameOf, frameLength, allSame, tailHigh, toldRows}
-use Rattle.frame_writer.specs.Writing.{given, settings, listWrong, valueHigh, writeTable, writeRefusal, written, writtenOut}
+use Rattle.frame_writer.specs.Writing.{settingsOf, settings, listWrong, valueHigh, writeTable, writeRefusal, written, writtenOut}
 use Rattle.frames.specs.Reading.{heldFields, roomShort, copyHigh, copiesDiffer, bodyRows, readTable, readRefusal, found, bytesFound, valuesFound, read, readBytes, readValues}
 use Rattle.frames.specs.declared.told.Told.{Told}
 use Rattle.frames.specs.declared.told.Tail.{Tail}
@@ -39,23 +39,23 @@ bytes-apart k n e = let z : _≡_ {A = ℕ} 0 1 = cc in omega arith
 
 -- ---- what the writer was given passes the reader's tests
 
-given-low : (t : Told) (c : Command) (byte : ℕ) (bytes values : List ℕ) → valueHigh t c byte values ≡ false → copyHigh t c (given t c byte bytes values) ≡ false
-given-low t Individual byte bytes values e = refl
-given-low t Calibration byte bytes values e = refl
-given-low t Global byte bytes values e =
+settingsOf-low : (t : Told) (c : Command) (byte : ℕ) (bytes values : List ℕ) → valueHigh t c byte values ≡ false → copyHigh t c (settingsOf t c byte bytes values) ≡ false
+settingsOf-low t Individual byte bytes values e = refl
+settingsOf-low t Calibration byte bytes values e = refl
+settingsOf-low t Global byte bytes values e =
     let h = ltb-true byte (subframes (partOf (t .part)) (t .configuration)) (not-false _ e) in
     ap not (tests.all-below (replicate (fieldCount t) byte) _ (tests.below-replicate (fieldCount t) byte _ (omega arith) h))
-given-low t Configuration byte bytes values e = refl
+settingsOf-low t Configuration byte bytes values e = refl
 
 replicate-first : (n b : ℕ) → allSame (replicate n b) (getD (replicate n b) 0 0) ≡ true
 replicate-first zero b = refl
 replicate-first (suc n) b = tests.same-replicate (suc n) b
 
-given-same : (t : Told) (c : Command) (byte : ℕ) (bytes values : List ℕ) → copiesDiffer c (given t c byte bytes values) ≡ false
-given-same t Individual byte bytes values = refl
-given-same t Calibration byte bytes values = refl
-given-same t Global byte bytes values = ap not (replicate-first (fieldCount t) byte)
-given-same t Configuration byte bytes values = ap not (replicate-first (fieldCount t) byte)
+settingsOf-same : (t : Told) (c : Command) (byte : ℕ) (bytes values : List ℕ) → copiesDiffer c (settingsOf t c byte bytes values) ≡ false
+settingsOf-same t Individual byte bytes values = refl
+settingsOf-same t Calibration byte bytes values = refl
+settingsOf-same t Global byte bytes values = ap not (replicate-first (fieldCount t) byte)
+settingsOf-same t Configuration byte bytes values = ap not (replicate-first (fieldCount t) byte)
 
 module _ (t : Told) (tail : Tail) (byte : ℕ) (bytes values : List ℕ) (room : ℕ) (small : byte < 256) (smalls : (i : ℕ) → getD bytes i 0 < 256)
     (taken : writeRefusal t tail byte bytes values room ≡ 0) where
@@ -69,13 +69,13 @@ module _ (t : Told) (tail : Tail) (byte : ℕ) (bytes values : List ℕ) (room :
   writable = writer.writable t tail byte bytes values room taken
 
   len : length vs ≡ fieldCount t
-  len = writer.length-given t (t .command) byte bytes values (writable .list)
+  len = writer.length-settingsOf t (t .command) byte bytes values (writable .list)
 
   long : length bs ≡ slicesBits t
   long = length-slices t tail vs len
 
   held : heldFields t (frameOf t tail vs) ≡ vs
-  held = frame.held-frame t tail vs len (writer.given-below t (t .command) byte bytes values (writable .value) small smalls)
+  held = frame.held-frame t tail vs len (writer.settingsOf-below t (t .command) byte bytes values (writable .value) small smalls)
 
   clear : rows.Clear (writeTable t tail byte bytes values room)
   unfolding writeRefusal
@@ -95,7 +95,7 @@ module _ (t : Told) (tail : Tail) (byte : ℕ) (bytes values : List ℕ) (room :
               (
                 short,
                 (
-                  or-second (ap (copyHigh t (t .command)) held ∙ given-low t (t .command) byte bytes values (writable .value))
+                  or-second (ap (copyHigh t (t .command)) held ∙ settingsOf-low t (t .command) byte bytes values (writable .value))
                       (or-none (valueHigh t (t .command) byte values) (tailHigh tail) (clear .1 .1 .1 .1 .1 .0) .1),
                   (
                     rows.agrees refl refl (packed.packed-sync (t .command) 0 bs tail (slicesBits t) long),
@@ -104,7 +104,7 @@ module _ (t : Told) (tail : Tail) (byte : ℕ) (bytes values : List ℕ) (room :
                       (
                         rows.agrees refl refl (packed.packed-count (t .command) 0 bs tail (slicesBits t) long (omega arith)),
                         (
-                          ap (copiesDiffer (t .command)) held ∙ given-same t (t .command) byte bytes values,
+                          ap (copiesDiffer (t .command)) held ∙ settingsOf-same t (t .command) byte bytes values,
                           (
                             rows.agrees refl refl (packed.packed-unused (t .command) 0 bs tail (slicesBits t) long),
                             (rows.agrees refl refl (packed.packed-tail (t .command) 0 bs tail (slicesBits t) long (writable .tail-low)), tt),
@@ -161,11 +161,11 @@ written-read t tail byte bytes values out n small smalls e xs ys short =
 
 -- ---- what the reader found passes the writer's tests, and is the frame's
 
-held-given : (t : Told) (c : Command) (h : List ℕ) → length h ≡ fieldCount t → copiesDiffer c h ≡ false → given t c (getD h 0 0) h h ≡ h
-held-given t Individual h l e = refl
-held-given t Calibration h l e = refl
-held-given t Global h l e = ap (λ (n : ℕ). replicate n (getD h 0 0)) (sym l) ∙ tests.replicate-same h (getD h 0 0) (not-false _ e)
-held-given t Configuration h l e = ap (λ (n : ℕ). replicate n (getD h 0 0)) (sym l) ∙ tests.replicate-same h (getD h 0 0) (not-false _ e)
+held-settingsOf : (t : Told) (c : Command) (h : List ℕ) → length h ≡ fieldCount t → copiesDiffer c h ≡ false → settingsOf t c (getD h 0 0) h h ≡ h
+held-settingsOf t Individual h l e = refl
+held-settingsOf t Calibration h l e = refl
+held-settingsOf t Global h l e = ap (λ (n : ℕ). replicate n (getD h 0 0)) (sym l) ∙ tests.replicate-same h (getD h 0 0) (not-false _ e)
+held-settingsOf t Configuration h l e = ap (λ (n : ℕ). replicate n (getD h 0 0)) (sym l) ∙ tests.replicate-same h (getD h 0 0) (not-false _ e)
 
 list-right : (c : Command) (n l : ℕ) → l ≡ n → listWrong c n l l ≡ false
 list-right Individual n l e = rows.agrees refl refl e
@@ -215,7 +215,7 @@ held-again t tail fr b v small taken room wide = (
       ),
     ),
   ),
-  ap (frameOf t tail) (held-given t (t .command) h len (d .1 .1 .1 .1 .0))
+  ap (frameOf t tail) (held-settingsOf t (t .command) h len (d .1 .1 .1 .1 .0))
       ∙ frame.rebuilt t tail fr long small (is (d .1 .0)) (is (d .1 .1 .0)) (is (d .1 .1 .1 .0)) (is (d .1 .1 .1 .1 .1 .0)) (is (d .1 .1 .1 .1 .1 .1 .0)),
 ) where
   h : List ℕ
@@ -240,39 +240,39 @@ held-again t tail fr b v small taken room wide = (
   len = length-held t fr
 
   some : 0 < fieldCount t
-  some = lengths.count-some t (accepted.taken (t .part) (t .devices) tail (c .0, (c .1 .0, (c .1 .1 .0, tt))) .some)
+  some = lengths.count-some t (accepted.toldAccepted (t .part) (t .devices) tail (c .0, (c .1 .0, (c .1 .1 .0, tt))) .some)
 
 -- ---- a writer looks only at what is its own command's
 
 -- what is the command's own is the fields h
-Own : Command → ℕ → List ℕ → List ℕ → List ℕ → Type 0
-Own Individual byte bytes values h = values ≡ h
-Own Calibration byte bytes values h = bytes ≡ h
-Own Global byte bytes values h = byte ≡ getD h 0 0
-Own Configuration byte bytes values h = byte ≡ getD h 0 0
+SettingIs : Command → ℕ → List ℕ → List ℕ → List ℕ → Type 0
+SettingIs Individual byte bytes values h = values ≡ h
+SettingIs Calibration byte bytes values h = bytes ≡ h
+SettingIs Global byte bytes values h = byte ≡ getD h 0 0
+SettingIs Configuration byte bytes values h = byte ≡ getD h 0 0
 
-own-given : (t : Told) (c : Command) (byte : ℕ) (bytes values h : List ℕ) → Own c byte bytes values h → given t c byte bytes values ≡ given t c (getD h 0 0) h h
-unfolding Own
-own-given t Individual byte bytes values h e = e
-own-given t Calibration byte bytes values h e = e
-own-given t Global byte bytes values h e = ap (replicate (fieldCount t)) e
-own-given t Configuration byte bytes values h e = ap (replicate (fieldCount t)) e
+own-settingsOf : (t : Told) (c : Command) (byte : ℕ) (bytes values h : List ℕ) → SettingIs c byte bytes values h → settingsOf t c byte bytes values ≡ settingsOf t c (getD h 0 0) h h
+unfolding SettingIs
+own-settingsOf t Individual byte bytes values h e = e
+own-settingsOf t Calibration byte bytes values h e = e
+own-settingsOf t Global byte bytes values h e = ap (replicate (fieldCount t)) e
+own-settingsOf t Configuration byte bytes values h e = ap (replicate (fieldCount t)) e
 
-own-list : (c : Command) (n byte : ℕ) (bytes values h : List ℕ) → Own c byte bytes values h → listWrong c n (length bytes) (length values) ≡ listWrong c n (length h) (length h)
-unfolding Own
+own-list : (c : Command) (n byte : ℕ) (bytes values h : List ℕ) → SettingIs c byte bytes values h → listWrong c n (length bytes) (length values) ≡ listWrong c n (length h) (length h)
+unfolding SettingIs
 own-list Individual n byte bytes values h e = ap (λ (l : List ℕ). not (eqb (length l) n)) e
 own-list Calibration n byte bytes values h e = ap (λ (l : List ℕ). not (eqb (length l) n)) e
 own-list Global n byte bytes values h e = refl
 own-list Configuration n byte bytes values h e = refl
 
-own-high : (t : Told) (c : Command) (byte : ℕ) (bytes values h : List ℕ) → Own c byte bytes values h → valueHigh t c byte values ≡ valueHigh t c (getD h 0 0) h
-unfolding Own
+own-high : (t : Told) (c : Command) (byte : ℕ) (bytes values h : List ℕ) → SettingIs c byte bytes values h → valueHigh t c byte values ≡ valueHigh t c (getD h 0 0) h
+unfolding SettingIs
 own-high t Individual byte bytes values h e = ap (λ (l : List ℕ). not (allBelow l (limit (partOf (t .part))))) e
 own-high t Calibration byte bytes values h e = refl
 own-high t Global byte bytes values h e = ap (λ (x : ℕ). not (ltb x (subframes (partOf (t .part)) (t .configuration)))) e
 own-high t Configuration byte bytes values h e = refl
 
-own-refusal : (t : Told) (tail : Tail) (byte : ℕ) (bytes values h : List ℕ) (room : ℕ) → Own (t .command) byte bytes values h
+own-refusal : (t : Told) (tail : Tail) (byte : ℕ) (bytes values h : List ℕ) (room : ℕ) → SettingIs (t .command) byte bytes values h
     → writeRefusal t tail byte bytes values room ≡ writeRefusal t tail (getD h 0 0) h h room
 unfolding writeRefusal
 own-refusal t tail byte bytes values h room o =
@@ -280,8 +280,8 @@ own-refusal t tail byte bytes values h room o =
     (own-list (t .command) (fieldCount t) byte bytes values h o) (own-high t (t .command) byte bytes values h o)
 
 read-own : (t : Told) (c : Command) (h bs us : List ℕ) (n : ℕ) → length h ≡ n
-    → Own c (byteOf (found t c h)) (take n (bytesFound c h bs)) (take n (valuesFound c h us)) h
-unfolding Own
+    → SettingIs c (byteOf (found t c h)) (take n (bytesFound c h bs)) (take n (valuesFound c h us)) h
+unfolding SettingIs
 read-own t Individual h bs us n l = take-over n h us l
 read-own t Calibration h bs us n l = take-over n h bs l
 read-own t Global h bs us n l = refl
@@ -322,11 +322,11 @@ read-written t tail fr bs us out small taken wide =
     values : List ℕ
     values = valuesRead t tail fr bs us
 
-    own : Own (t .command) byte bytes values h
+    own : SettingIs (t .command) byte bytes values h
     own =
-        subst (λ (l : List ℕ). Own (t .command) byte bytes (take (fieldCount t) l) h) ev
-        (subst (λ (l : List ℕ). Own (t .command) byte (take (fieldCount t) l) (take (fieldCount t) (valuesFound (t .command) h us)) h) eb
-        (subst (λ (r : Read). Own (t .command) (byteOf r) (take (fieldCount t) (bytesFound (t .command) h bs)) (take (fieldCount t) (valuesFound (t .command) h us)) h) (z .1)
+        subst (λ (l : List ℕ). SettingIs (t .command) byte bytes (take (fieldCount t) l) h) ev
+        (subst (λ (l : List ℕ). SettingIs (t .command) byte (take (fieldCount t) l) (take (fieldCount t) (valuesFound (t .command) h us)) h) eb
+        (subst (λ (r : Read). SettingIs (t .command) (byteOf r) (take (fieldCount t) (bytesFound (t .command) h bs)) (take (fieldCount t) (valuesFound (t .command) h us)) h) (z .1)
         (read-own t (t .command) h bs us (fieldCount t) len)))
 
     again : (writeRefusal t tail (getD h 0 0) h h (length out) ≡ 0) × (frameOf t tail (settings t (getD h 0 0) h h) ≡ fr)
@@ -336,4 +336,4 @@ read-written t tail fr bs us out small taken wide =
     refused = own-refusal t tail byte bytes values h (length out) own ∙ again .0
 
     same : frameOf t tail (settings t byte bytes values) ≡ fr
-    same = ap (frameOf t tail) (own-given t (t .command) byte bytes values h own) ∙ again .1
+    same = ap (frameOf t tail) (own-settingsOf t (t .command) byte bytes values h own) ∙ again .1

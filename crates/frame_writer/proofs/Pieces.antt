@@ -16,7 +16,7 @@ use Rattle.frames.specs.declared.told.Tail.{Tail}
 use Rattle.frames.proofs.Lengths.{frame-room}
 use Rattle.frames.proofs.Pieces.{length-header, length-slices, length-frameOf, frame-pieces}
 use Rattle.frame_writer.specs.Writing.{settings, slicesOf, headerNumber, listWrong}
-use Rattle.frame_writer.proofs.Writable.{length-given}
+use Rattle.frame_writer.proofs.Writable.{length-settingsOf}
 
 pub bits-header : (c : Command) → bits 24 (headerNumber c) ≡ header c 0
 unfolding header commandCount bits
@@ -74,7 +74,7 @@ module _ (t : Told) (tail : Tail) (byte : ℕ) (bytes values : List ℕ) (len : 
 module _ (t : Told) (byte : ℕ) (bytes values : List ℕ) (list : listWrong (t .command) (fieldCount t) (length bytes) (length values) ≡ false) {vs : List ℕ} {w : ℕ}
     (ev : vs ≡ settings t byte bytes values) (ew : w ≡ fieldBits t) where
   pub length-settings : length vs * w ≡ slicesBits t
-  length-settings = ap₂ (λ (x y : ℕ). x * y) (ap length ev ∙ length-given t (t .command) byte bytes values list) ew
+  length-settings = ap₂ (λ (x y : ℕ). x * y) (ap length ev ∙ length-settingsOf t (t .command) byte bytes values list) ew
 
   pub put-fields : (at : ℕ) (out : List ℕ) {last : List ℕ} {r : ℕ} → (last ≡ overAt at (bytesOf (fields w vs)) out) × (r ≡ at + bytesFor (length vs * w))
       → (last ≡ overAt at (slicesOf t (t .command) byte bytes values) out) × (r ≡ at + bytesFor (slicesBits t))

@@ -17,11 +17,11 @@ use Rattle.frames.specs.declared.told.Told.{Told}
 use Rattle.frames.specs.declared.told.Tail.{Tail}
 use Rattle.frames.proofs.Tests.{below-all, below-replicate}
 use Rattle.tables.proofs.Booleans.{or-none}
-use Rattle.frames.proofs.Accepted.{Taken, taken}
-use Rattle.frame_writer.specs.Writing.{given, listWrong, valueHigh, writeRows, writeRefusal}
+use Rattle.frames.proofs.Accepted.{ToldAccepted, toldAccepted}
+use Rattle.frame_writer.specs.Writing.{settingsOf, listWrong, valueHigh, writeRows, writeRefusal}
 
 pub record Writable (t : Told) (tail : Tail) (byte : ℕ) (bytes values : List ℕ) (room : ℕ) : Type 0 where
-  pub told : Taken (t .part) (t .devices) tail
+  pub told : ToldAccepted (t .part) (t .devices) tail
   pub list : listWrong (t .command) (fieldCount t) (length bytes) (length values) ≡ false
   pub wide : frameLength t tail ≤ room
   pub value : valueHigh t (t .command) byte values ≡ false
@@ -35,23 +35,23 @@ writable t tail byte bytes values room e =
     let d = c .1 .1 .1 in
     let six = or-none (valueHigh t (t .command) byte values) (tailHigh tail) (d .1 .1 .0) in
     record {
-      told = taken (t .part) (t .devices) tail (c .0, (c .1 .0, (c .1 .1 .0, tt)));
+      told = toldAccepted (t .part) (t .devices) tail (c .0, (c .1 .0, (c .1 .1 .0, tt)));
       list = d .0;
       wide = ltb-false room (frameLength t tail) (d .1 .0);
       value = six .0;
       tail-low = ltb-true (tail .number) (2 ^ tail .length) (not-false _ (six .1));
     }
 
-pub length-given : (t : Told) (c : Command) (byte : ℕ) (bytes values : List ℕ) → listWrong c (fieldCount t) (length bytes) (length values) ≡ false
-    → length (given t c byte bytes values) ≡ fieldCount t
-length-given t Individual byte bytes values e = eqb-true (length values) (fieldCount t) (not-false _ e)
-length-given t Calibration byte bytes values e = eqb-true (length bytes) (fieldCount t) (not-false _ e)
-length-given t Global byte bytes values e = length-replicate (fieldCount t) byte
-length-given t Configuration byte bytes values e = length-replicate (fieldCount t) byte
+pub length-settingsOf : (t : Told) (c : Command) (byte : ℕ) (bytes values : List ℕ) → listWrong c (fieldCount t) (length bytes) (length values) ≡ false
+    → length (settingsOf t c byte bytes values) ≡ fieldCount t
+length-settingsOf t Individual byte bytes values e = eqb-true (length values) (fieldCount t) (not-false _ e)
+length-settingsOf t Calibration byte bytes values e = eqb-true (length bytes) (fieldCount t) (not-false _ e)
+length-settingsOf t Global byte bytes values e = length-replicate (fieldCount t) byte
+length-settingsOf t Configuration byte bytes values e = length-replicate (fieldCount t) byte
 
-pub given-below : (t : Told) (c : Command) (byte : ℕ) (bytes values : List ℕ) → valueHigh t c byte values ≡ false → byte < 256
-    → ((i : ℕ) → getD bytes i 0 < 256) → (i : ℕ) → getD (given t c byte bytes values) i 0 < 2 ^ fieldWidth (partOf (t .part)) c
-given-below t Individual byte bytes values e b f i = below-all values (limit (partOf (t .part))) (pow-pos (partOf (t .part) .width)) (not-false _ e) i
-given-below t Calibration byte bytes values e b f i = f i
-given-below t Global byte bytes values e b f i = below-replicate (fieldCount t) byte 256 (omega arith) b i
-given-below t Configuration byte bytes values e b f i = below-replicate (fieldCount t) byte 256 (omega arith) b i
+pub settingsOf-below : (t : Told) (c : Command) (byte : ℕ) (bytes values : List ℕ) → valueHigh t c byte values ≡ false → byte < 256
+    → ((i : ℕ) → getD bytes i 0 < 256) → (i : ℕ) → getD (settingsOf t c byte bytes values) i 0 < 2 ^ fieldWidth (partOf (t .part)) c
+settingsOf-below t Individual byte bytes values e b f i = below-all values (limit (partOf (t .part))) (pow-pos (partOf (t .part) .width)) (not-false _ e) i
+settingsOf-below t Calibration byte bytes values e b f i = f i
+settingsOf-below t Global byte bytes values e b f i = below-replicate (fieldCount t) byte 256 (omega arith) b i
+settingsOf-below t Configuration byte bytes values e b f i = below-replicate (fieldCount t) byte 256 (omega arith) b i

@@ -17,19 +17,19 @@ use Rattle.frames.specs.declared.told.Written.{Written}
 use Rattle.frames.specs.declared.told.Written.the-variants as W
 
 -- the fields that a command is given: its list, or one byte again and again
-abbrev pub given : Told → Command → ℕ → List ℕ → List ℕ → List ℕ
-given t Individual byte bytes values = values
-given t Calibration byte bytes values = bytes
-given t Global byte bytes values = replicate (fieldCount t) byte
-given t Configuration byte bytes values = replicate (fieldCount t) byte
+abbrev pub settingsOf : Told → Command → ℕ → List ℕ → List ℕ → List ℕ
+settingsOf t Individual byte bytes values = values
+settingsOf t Calibration byte bytes values = bytes
+settingsOf t Global byte bytes values = replicate (fieldCount t) byte
+settingsOf t Configuration byte bytes values = replicate (fieldCount t) byte
 
 -- those of the told command
 abbrev pub settings : Told → ℕ → List ℕ → List ℕ → List ℕ
-settings t byte bytes values = given t (t .command) byte bytes values
+settings t byte bytes values = settingsOf t (t .command) byte bytes values
 
 -- the bytes of its slices
 unfoldable pub slicesOf : Told → Command → ℕ → List ℕ → List ℕ → List ℕ
-slicesOf t c byte bytes values = bytesOf (fields (fieldWidth (partOf (t .part)) c) (given t c byte bytes values))
+slicesOf t c byte bytes values = bytesOf (fields (fieldWidth (partOf (t .part)) c) (settingsOf t c byte bytes values))
 
 -- the header that a host sends, as a number
 abbrev pub headerNumber : Command → ℕ

@@ -20,15 +20,15 @@ use Rattle.frames.specs.declared.told.Tail.{Tail}
 
 -- ---- rows 1 to 3
 
-pub record Taken (part devices : ℕ) (tail : Tail) : Type 0 where
+pub record ToldAccepted (part devices : ℕ) (tail : Tail) : Type 0 where
   pub part-known : known part ≡ true
   pub some : 0 < devices
   pub few : devices < 1024
   pub short : tail .length ≤ 64
 
 module _ (part devices : ℕ) (tail : Tail) where
-  pub taken : rows.Clear (toldRows part devices tail) → Taken part devices tail
-  taken c =
+  pub toldAccepted : rows.Clear (toldRows part devices tail) → ToldAccepted part devices tail
+  toldAccepted c =
       let count = count-bounds devices (not-false _ (c .1 .0)) in
       record {
         part-known = not-false _ (c .0);
@@ -37,13 +37,13 @@ module _ (part devices : ℕ) (tail : Tail) where
         short = ltb-false 64 (tail .length) (c .1 .1 .0);
       }
 
-  pub told-taken : {n : ℕ} → n ≡ first (toldRows part devices tail) → n ≡ 0 → Taken part devices tail
-  told-taken e z = taken (rows.clear (toldRows part devices tail) refl (sym e ∙ z))
+  pub told-accepted : {n : ℕ} → n ≡ first (toldRows part devices tail) → n ≡ 0 → ToldAccepted part devices tail
+  told-accepted e z = toldAccepted (rows.clear (toldRows part devices tail) refl (sym e ∙ z))
 
 -- ---- the reader
 
 pub record Readable (t : Told) (tail : Tail) (frame : List ℕ) (bytes values : ℕ) : Type 0 where
-  pub told : Taken (t .part) (t .devices) tail
+  pub told : ToldAccepted (t .part) (t .devices) tail
   pub long : length frame ≡ frameLength t tail
   pub room : roomShort (t .command) (fieldCount t) bytes values ≡ false
   pub body : rows.Clear (bodyRows t tail frame)
@@ -54,7 +54,7 @@ readable t tail frame bytes values e =
     let c = rows.clear (toldRows (t .part) (t .devices) tail ++ (lengthRows t tail (length frame) bytes values ++ bodyRows t tail frame)) refl e in
     let d = c .1 .1 .1 in
     record {
-      told = taken (t .part) (t .devices) tail (c .0, (c .1 .0, (c .1 .1 .0, tt)));
+      told = toldAccepted (t .part) (t .devices) tail (c .0, (c .1 .0, (c .1 .1 .0, tt)));
       long = eqb-true (length frame) (frameLength t tail) (not-false _ (d .0));
       room = d .1 .0;
       body = d .1 .1;

@@ -10,7 +10,7 @@ use Rattle.bits.specs.declared.packing.Packed.{Packed}
 use Rattle.bits.specs.declared.packing.Packed.the-variants as P
 use Rattle.bits.specs.declared.packing.Number.{Number}
 use Rattle.bits.specs.declared.packing.Number.the-variants as N
-use Rattle.bits.proofs.Answers.{fits-within, packed-fits, numberAt-within}
+use Rattle.bits.proofs.Answers.{roomFits-within, packed-roomFits, numberAt-within}
 
 -- ---- a number read
 
@@ -31,7 +31,7 @@ module _ (at w : ℕ) (src : List ℕ) (narrow : w ≤ 64) (room : at + w ≤ 8 
 
 module _ (widest w n at room : ℕ) (narrow : w ≤ widest) (wide : at + bytesFor (n * w) ≤ room) {r : Packed} (e : r ≡ packed widest w n at room) where
   put : r ≡ P.Bytes (bytesFor (n * w))
-  put = e ∙ packed-fits widest w n at room (fits-within widest w n at room narrow wide)
+  put = e ∙ packed-roomFits widest w n at room (roomFits-within widest w n at room narrow wide)
 
   pub packed-bytes : {k : ℕ} → r ≡ P.Bytes k → k ≡ bytesFor (n * w)
   packed-bytes {k} f = let g : P.Bytes k ≡ P.Bytes (bytesFor (n * w)) = sym f ∙ put in cc

@@ -1,6 +1,6 @@
 -- A frame by what is told of it: one list of bits for all four commands, header, slices, tail. Every command's slices are fields of
 -- one width with no gap: values, or bytes. Then the tests and the rows of refusals that more than one operation has.
--- What each operation answers is in Reading, Returns and, of the writer, in frame_writer/specs/Writing. Document 01, "The set and the wire" and "Refusal numbers".
+-- What each operation answers is in Reading, Returns and, of the writer, in frame_writer/specs/Writing. docs/RULES.md, "The set and the wire" and "Refusal numbers".
 use Prim.Native.Nat.{ℕ, _+_, _*_, _^_}
 use mathlib.Core.Bool.{Bool, true, not, _&&_}
 use mathlib.Core.List.{List, [], _∷_}

@@ -9,8 +9,8 @@ use Rattle.tables.specs.Refusals.{Row, _when_, first, answer}
 use Rattle.parts.specs.declared.command.Command.{Command}
 use Rattle.frames.specs.Frames.{field, tailHigh, toldRows, headRows, endRows}
 use Rattle.frames.specs.declared.told.Tail.{Tail}
-use Rattle.frames.specs.declared.told.Returned.{Returned}
-use Rattle.frames.specs.declared.told.Returned.the-variants as B
+use Rattle.frames.specs.declared.told.ReturnRead.{ReturnRead}
+use Rattle.frames.specs.declared.told.ReturnRead.the-variants as B
 
 -- the count that a return carries
 abbrev pub countOf : List Bool → ℕ
@@ -36,6 +36,6 @@ unfoldable pub returnRefusal : ℕ → ℕ → Command → Tail → List ℕ →
 returnRefusal part devices c tail frame = first (returnTable part devices c tail frame)
 
 -- what the return reader answers
-unfoldable pub returned : ℕ → ℕ → Command → Tail → List ℕ → Returned
-returned part devices c tail frame =
+unfoldable pub returnRead : ℕ → ℕ → Command → Tail → List ℕ → ReturnRead
+returnRead part devices c tail frame =
     answer (returnRefusal part devices c tail frame) B.Refused (B.Count (countOf (fields 8 frame)))

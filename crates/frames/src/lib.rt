@@ -15,7 +15,7 @@ pub use returns::read_return;
 pub use sizes::told_fields;
 pub use sizes::told_length;
 pub use told::Read;
-pub use told::Returned;
+pub use told::ReturnRead;
 pub use told::Tail;
 pub use told::Told;
 pub use told::Written;

@@ -2,13 +2,13 @@
 ghost use mathlib.Core.Path.{_≡_};
 ghost use Prim.Native.Nat.{_≤_};
 ghost use Rattle.tables.specs.Refusals.{first};
-ghost use Rattle.frames.specs.Returns.{returnRows, returnRefusal, returned};
+ghost use Rattle.frames.specs.Returns.{returnRows, returnRefusal, returnRead};
 use crate::judge::is_tail_high;
 use crate::judge::judge_end;
 use crate::judge::judge_head;
 use crate::judge::judge_told;
 use crate::take::field_at;
-use crate::told::Returned;
+use crate::told::ReturnRead;
 use crate::told::Tail;
 use parts::Command;
 
@@ -19,14 +19,14 @@ pub fn read_return(
     command: Command,
     tail: Tail,
     frame: &[u8],
-) -> Returned
-    ensures { λ r. ⌜ r ≡ returned part devices command tail (now (frame .entry)) ⌝ }
+) -> ReturnRead
+    ensures { λ r. ⌜ r ≡ returnRead part devices command tail (now (frame .entry)) ⌝ }
 {
     let refusal = judge_return(part, devices, command, tail, frame);
     if refusal != 0 {
-        return Returned::Refused(refusal);
+        return ReturnRead::Refused(refusal);
     }
-    Returned::Count(field_at(frame, 14, 10) as u16)
+    ReturnRead::Count(field_at(frame, 14, 10) as u16)
 }
 
 // The lowest number that applies, or 0.

@@ -20,7 +20,7 @@ pub struct Tail {
 pub enum Written {
     // so many bytes are written
     Bytes(usize),
-    // document 01's number: nothing is changed
+    // the refusal's number: nothing is changed
     Refused(u8),
 }
 
@@ -32,13 +32,13 @@ pub enum Read {
     Bytes(usize),
     // so many individual values stand in the lent list
     Values(usize),
-    // document 01's number: nothing is changed
+    // the refusal's number: nothing is changed
     Refused(u8),
 }
 
 // What a return reader answers.
-pub enum Returned {
+pub enum ReturnRead {
     Count(u16),
-    // document 01's number
+    // the refusal's number
     Refused(u8),
 }

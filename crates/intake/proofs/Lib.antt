@@ -1,4 +1,4 @@
 -- Laws of the intake: a loop's step at one index, what each phase does with the states at hand, and a slice field by field.
-pub mod Lines
+pub mod Clauses
 pub mod Phases
 pub mod Slices

@@ -26,8 +26,8 @@ use Rattle.device.specs.declared.device.Device.{Device}
 use Rattle.device.specs.declared.device.Stepped.{Stepped}
 use Rattle.intake.specs.Intake.{stopped, highTaken, unlessSent, headedAll, highsEnd, oneTaken}
 use Rattle.intake.specs.declared.taken.Taken.{Taken}
-use Rattle.intake.specs.declared.states.Headed.{Headed}
-use Rattle.intake.proofs.Lines.{drop-on}
+use Rattle.intake.specs.declared.highs.Headed.{Headed}
+use Rattle.intake.proofs.Clauses.{drop-on}
 
 -- ---- the step, by the phase
 

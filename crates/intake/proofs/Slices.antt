@@ -25,7 +25,7 @@ use Rattle.registers.specs.declared.registers.Registers.{Registers}
 use Rattle.intake.specs.Intake.{highTaken, filled, least, collecting, full}
 use Rattle.intake.specs.declared.taken.Taken.{Taken}
 use Rattle.intake.specs.declared.slice.Filled.{Filled}
-use Rattle.intake.proofs.Lines.{drop-on, filled-none, filled-end, filled-low, filled-on}
+use Rattle.intake.proofs.Clauses.{drop-on, filled-none, filled-end, filled-low, filled-on}
 use Rattle.intake.proofs.Phases.{after, high-at}
 
 -- ---- numbers
@@ -234,19 +234,19 @@ slice-le r c =
 abbrev pub lacking : ℕ → ℕ → ℕ → ℕ
 lacking w t room = least (w - t % w) room
 
-pub record Turned (r : Registers) (c : Command) (n : ℕ) (ss sl : List ℕ) (t i w m : ℕ) (f : Filled) : Type 0 where
+pub record FieldTaken (r : Registers) (c : Command) (n : ℕ) (ss sl : List ℕ) (t i w m : ℕ) (f : Filled) : Type 0 where
   pub same : highTaken (collecting r sl c n t) (drop i ss) i ≡ goesOn r c n ss (set sl (t / w) (f .value % m)) (t + (f .at - i)) (f .at)
   pub more : i < f .at
   pub near : f .at ≤ i + 14
 
 exactly : (r : Registers) (c : Command) (n : ℕ) (ss sl : List ℕ) (t i : ℕ) → length sl ≡ 48 → t < sliceLength r c → i < length ss → 2 ≤ getD ss i 0
     → let w = fieldWidth (partOf (r .part)) c in
-    Turned r c n ss sl t i w (fieldLimit (partOf (r .part)) c) (filled (getD sl (t / w) 0) (lacking w t (length ss - i)) (drop i ss) i)
+    FieldTaken r c n ss sl t i w (fieldLimit (partOf (r .part)) c) (filled (getD sl (t / w) 0) (lacking w t (length ss - i)) (drop i ss) i)
 exactly r c n ss sl t i p l h g = at-least (lacking w t (length ss - i)) refl where
   w : ℕ
   w = fieldWidth (partOf (r .part)) c
 
-  at-least : (b : ℕ) → lacking w t (length ss - i) ≡ b → Turned r c n ss sl t i w (fieldLimit (partOf (r .part)) c) (filled (getD sl (t / w) 0) b (drop i ss) i)
+  at-least : (b : ℕ) → lacking w t (length ss - i) ≡ b → FieldTaken r c n ss sl t i w (fieldLimit (partOf (r .part)) c) (filled (getD sl (t / w) 0) b (drop i ss) i)
   at-least zero e =
       let m = mod-lt t (field-width-pos c (r .part)) in
       absurd (omega (arith, least-pos (w - t % w) (length ss - i) (omega arith) (omega arith)))
@@ -266,7 +266,7 @@ exactly r c n ss sl t i p l h g = at-least (lacking w t (length ss - i)) refl wh
       }
 
 -- the same, as the code has the width, the limit and the field
-pub turned : (r : Registers) (c : Command) (n : ℕ) (ss sl : List ℕ) (t i w m : ℕ) (f : Filled)
+pub fieldTaken : (r : Registers) (c : Command) (n : ℕ) (ss sl : List ℕ) (t i w m : ℕ) (f : Filled)
     → w ≡ fieldWidth (partOf (r .part)) c
     → m ≡ fieldLimit (partOf (r .part)) c
     → length sl ≡ 48
@@ -274,11 +274,11 @@ pub turned : (r : Registers) (c : Command) (n : ℕ) (ss sl : List ℕ) (t i w m
     → i < length ss
     → 2 ≤ getD ss i 0
     → f ≡ filled (getD sl (t / w) 0) (i + lacking w t (length ss - i) - i) (drop i ss) i
-    → Turned r c n ss sl t i w m f
-turned r c n ss sl t i w m f a b p l h g e =
-    subst (λ (x : Filled). Turned r c n ss sl t i w m x) (sym (e ∙ ap (λ (x : ℕ). filled (getD sl (t / w) 0) x (drop i ss) i) q))
-    (subst (λ (y : ℕ). Turned r c n ss sl t i y m (filled (getD sl (t / y) 0) (lacking y t (length ss - i)) (drop i ss) i)) (sym a)
-    (subst (λ (z : ℕ). Turned r c n ss sl t i v z (filled (getD sl (t / v) 0) (lacking v t (length ss - i)) (drop i ss) i)) (sym b)
+    → FieldTaken r c n ss sl t i w m f
+fieldTaken r c n ss sl t i w m f a b p l h g e =
+    subst (λ (x : Filled). FieldTaken r c n ss sl t i w m x) (sym (e ∙ ap (λ (x : ℕ). filled (getD sl (t / w) 0) x (drop i ss) i) q))
+    (subst (λ (y : ℕ). FieldTaken r c n ss sl t i y m (filled (getD sl (t / y) 0) (lacking y t (length ss - i)) (drop i ss) i)) (sym a)
+    (subst (λ (z : ℕ). FieldTaken r c n ss sl t i v z (filled (getD sl (t / v) 0) (lacking v t (length ss - i)) (drop i ss) i)) (sym b)
     (exactly r c n ss sl t i p l h g))) where
       v : ℕ
       v = fieldWidth (partOf (r .part)) c

@@ -15,7 +15,7 @@ use Rattle.phases.specs.declared.phase.Sent.the-variants.{Nothing, One, Header}
 use Rattle.registers.specs.declared.registers.Registers.{Registers}
 use Rattle.device.specs.declared.device.Device.{Device}
 use Rattle.intake.specs.declared.taken.Taken.{Taken}
-use Rattle.intake.specs.declared.states.Headed.{Headed}
+use Rattle.intake.specs.declared.highs.Headed.{Headed}
 use Rattle.intake.specs.declared.slice.Filled.{Filled}
 
 -- the device, the place of the next state, and what was sent

@@ -1,10 +1,10 @@
 // One device takes as many high states at hand as it can at once, so that a record is moved once a slice or flood and not once a clock.
 // Where high states end is asked by a chain that passes them too.
+mod highs;
 mod slice;
-mod states;
 mod taken;
 
+pub use highs::highs_end;
+pub use highs::take;
 pub use slice::smaller;
-pub use states::highs_end;
-pub use states::take;
 pub use taken::Taken;

@@ -27,7 +27,7 @@ use Rattle.tables.proofs.Booleans.{and-both, cond-both}
 use Rattle.device.proofs.Kept.{kept-bounded, kept-faulted, kept-fresh}
 use Rattle.calls.specs.Chain.{hasPart, allKnown, sameParts, allFit, blank}
 use Rattle.calls.specs.Calls.{freshTable, freshRefusal, freshDevices, runRefusal, runDevices, returned, boundaryRefusal, boundaryDevices, faultRefusal, faultDevices}
-use Rattle.calls.specs.History.{Call, fresh, run, boundary, fault, refusalOf, effect, after, afterCalls, given, answered, fed, answers, RunOrKeeps, Runs, FaultOrLow, Settles}
+use Rattle.calls.specs.History.{Call, fresh, run, boundary, fault, refusalOf, effect, after, afterCalls, given, answered, statesGiven, answers, RunOrKeeps, Runs, FaultOrLow, Settles}
 use Rattle.calls.specs.Told.{partBy, partTold, ownTable}
 use Rattle.model.specs.Lists.{All}
 use Rattle.machine.specs.Machine.{chain}
@@ -235,10 +235,10 @@ run-one ds boundary h = rw (h, chain-nil stepRecord ds)
 run-one ds (fault device kind flag) h = rw (h, chain-nil stepRecord ds)
 
 -- the calls of a restore are one run of what they were given
-pub ran : (ds : List Device) (cs : List Call) → Runs ds cs → _≡_ {A = List Device × List ℕ} (afterCalls ds cs, answers ds cs) (chain stepRecord ds (fed ds cs))
-unfolding afterCalls answers fed
+pub ran : (ds : List Device) (cs : List Call) → Runs ds cs → _≡_ {A = List Device × List ℕ} (afterCalls ds cs, answers ds cs) (chain stepRecord ds (statesGiven ds cs))
+unfolding afterCalls answers statesGiven
 ran ds [] r = rw (chain-nil stepRecord ds)
-ran ds (c ∷ cs) r = rw (chain-append stepRecord ds (given ds c) (fed (after ds c) cs), ← run-one ds c (r .0), ← ran (after ds c) cs (r .1))
+ran ds (c ∷ cs) r = rw (chain-append stepRecord ds (given ds c) (statesGiven (after ds c) cs), ← run-one ds c (r .0), ← ran (after ds c) cs (r .1))
 
 -- during a restore and after it the part stays, and with it all that no call is refused for
 whole-ran : (p : ℕ) (ds : List Device) (c : Call) → Whole p ds → RunOrKeeps ds c → Whole p (after ds c)

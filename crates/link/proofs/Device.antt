@@ -10,7 +10,7 @@ use lib.Dec.{eqb, ltb, leb, lit<}
 use lib.ListN.{length}
 use borrow.Author.Tests.{leb-true, ltb-true, ltb-false, le-ltb}
 use Rattle.parts.specs.Parts.{partOf, multiplex, fieldWidth, fieldLimit}
-use Rattle.parts.specs.Wire.{low, high, lineOf, header}
+use Rattle.parts.specs.Wire.{low, high, stateAt, header}
 use Rattle.parts.specs.declared.command.Command.{Command}
 use Rattle.parts.specs.declared.command.Command.the-variants.{Individual, Calibration, Global, Configuration}
 use Rattle.phases.specs.Phases.{phaseOf, windowOf, heard, rising, opened, opening, counting}
@@ -40,13 +40,13 @@ use Rattle.link.proofs.Arrays.{step-arrays}
 use Rattle.link.proofs.Header.{rising-same, opening-same, counting-same}
 use Rattle.link.proofs.Slice.{slice-same}
 
-line-high : (s : ℕ) → 2 ≤ s → lineOf s ≡ high (eqb (s % 2) 1)
-line-high s h = rw (le-ltb s 2 h)
+stateAt-high : (s : ℕ) → 2 ≤ s → stateAt s ≡ high (eqb (s % 2) 1)
+stateAt-high s h = rw (le-ltb s 2 h)
 
-line-low : (s : ℕ) → s < 2 → lineOf s ≡ low (eqb s 1)
-line-low zero h = refl
-line-low (suc zero) h = refl
-line-low (suc (suc s)) h = absurd (omega arith)
+stateAt-low : (s : ℕ) → s < 2 → stateAt s ≡ low (eqb s 1)
+stateAt-low zero h = refl
+stateAt-low (suc zero) h = refl
+stateAt-low (suc (suc s)) h = absurd (omega arith)
 
 window-same : (r : Registers) (p : Phase) → model.window (phaseIn r p) ≡ windowOf p
 window-same r (Hunting w) = refl
@@ -99,22 +99,22 @@ high-same r (Counting c read) s h e b g =
 high-same r (Slice c n t) s h e b g =
     let f = and-both (ltb n 1024) (ltb t (sliceLength r c)) (g .1) in
     slice-same r c n t (s % 2) (record { small = mod-lt s (lit< tt); room = ltb-true t (sliceLength r c) (f .1); slots = e; below = b })
-high-same r Passing s h e b g = seen-sending r Passing (One s) (lit< tt) ∙ rw (line-high s h) (passing-same r (eqb (s % 2) 1))
+high-same r Passing s h e b g = seen-sending r Passing (One s) (lit< tt) ∙ rw (stateAt-high s h) (passing-same r (eqb (s % 2) 1))
 high-same r Lost s h e b g = seen-sending r Lost Nothing (lit< tt) ∙ lost-same r (eqb (s % 2) 1)
 
 -- The law of the link
-pub agree : (d : Device) (s : ℕ) → Sound d → (deviceOf ((stepRecord d s) .0), map lineOf ((stepRecord d s) .1)) ≡ stepDevice (deviceOf d) (lineOf s)
+pub agree : (d : Device) (s : ℕ) → Sound d → (deviceOf ((stepRecord d s) .0), map stateAt ((stepRecord d s) .1)) ≡ stepDevice (deviceOf d) (stateAt s)
 unfolding deviceOf stepRecord seen
 agree d s o = go (ltb s 2) refl
   where
     go : (b : Bool) → ltb s 2 ≡ b
         → seen (cond b (moved (d .registers) (heard (phaseOf (d .place)) s)) (stepHigh (d .registers) (phaseOf (d .place)) s))
-        ≡ stepDevice (viewed (d .registers) (phaseOf (d .place))) (lineOf s)
-    go true e = rw (line-low s (ltb-true s 2 e)) (low-same (d .registers) (phaseOf (d .place)) s (ltb-true s 2 e))
+        ≡ stepDevice (viewed (d .registers) (phaseOf (d .place))) (stateAt s)
+    go true e = rw (stateAt-low s (ltb-true s 2 e)) (low-same (d .registers) (phaseOf (d .place)) s (ltb-true s 2 e))
     go false e =
         let l = ltb-false s 2 e in
         let t = and-both (placeFits (d .place) (d .registers)) _ (o .fit) in
-        rw (line-high s l)
+        rw (stateAt-high s l)
         (high-same (d .registers) (phaseOf (d .place)) s l (o .arrays .slice) (below-of (d .registers) (t .1)) (phase-good (d .place) (d .registers) (t .0)))
 
 -- ---- a record that fits still does
@@ -158,8 +158,8 @@ step-part d s = step-keeps (λ r. r .part) (λ r configuration calibration waiti
 -- ---- chains of records
 
 pub chain-agree : (ds : List Device) (ss : List ℕ) → All Sound ds
-    → (map deviceOf ((chain stepRecord ds ss) .0), map lineOf ((chain stepRecord ds ss) .1)) ≡ model.runChain (map deviceOf ds) (map lineOf ss)
-chain-agree ds ss o = chain-view stepDevice stepRecord deviceOf lineOf Sound keep agree ds ss o
+    → (map deviceOf ((chain stepRecord ds ss) .0), map stateAt ((chain stepRecord ds ss) .1)) ≡ model.runChain (map deviceOf ds) (map stateAt ss)
+chain-agree ds ss o = chain-view stepDevice stepRecord deviceOf stateAt Sound keep agree ds ss o
 
 pub chain-keep : (ds : List Device) (ss : List ℕ) → All Sound ds → All Sound ((chain stepRecord ds ss) .0)
 chain-keep ds ss o = chain-holds stepRecord Sound keep ds ss o

@@ -13,15 +13,15 @@ use Rattle.bits.specs.Bits.{fields, bytesOf, padded}
 use Rattle.bits.proofs.Laws.{bits-of-bytes}
 use Rattle.tables.specs.Lists.{allBelow}
 use Rattle.parts.specs.Parts.{partOf, limit, subframes, fieldWidth, restoreOrder}
-use Rattle.parts.specs.Wire.{stateOf, statesOf, lows, frame, clocked}
+use Rattle.parts.specs.Wire.{stateCode, statesOf, lows, frame, clocked}
 use Rattle.parts.specs.declared.command.Command.{Command}
 use Rattle.parts.specs.declared.command.Command.the-variants.{Individual, Calibration, Global, Configuration}
-use Rattle.line.specs.States as line
+use Rattle.serial.specs.States as serial
 use Rattle.frames.specs.Frames.{tailBits, frameBits, frameOf, frameLength}
 use Rattle.frame_writer.specs.Writing.{settings}
 use Rattle.frames.specs.declared.told.Tail.{Tail}
 use Rattle.frames.proofs.Lengths.{subframes-small}
-use Rattle.frame_writer.proofs.Writable.{length-given}
+use Rattle.frame_writer.proofs.Writable.{length-settingsOf}
 use Rattle.frame_writer.proofs.Writable as writer
 use Rattle.frames.proofs.Pieces.{length-frameBits}
 use Rattle.registers.proofs.Below.{below-head}
@@ -31,7 +31,7 @@ use Rattle.model.specs.Set.{Set, Proper, owned, sliceOf, frameFields}
 use Rattle.model.specs.Restore.{Piece, pieceStates, pieceOf, piecesOf, piecesStates}
 use Rattle.model.proofs.Lists.{take-map}
 use Rattle.model.proofs.Set.{fields-slices}
-use Rattle.link.specs.Restore.{tailsOf, told, byteOf, written, Writable, frameSize, framePart, restorePart, restoreStates}
+use Rattle.link.specs.Restore.{tailsOf, told, setByte, writtenFrame, Writable, frameSize, framePart, restorePart, restoreStates}
 
 all-below : (m : ℕ) (xs : List ℕ) → allBelow xs m ≡ true → All (λ v. v < m) xs
 all-below m [] h = tt
@@ -44,62 +44,62 @@ take-bytes bs n e = ap (λ (l : List Bool). take n l) (bits-of-bytes bs) ∙ tak
 
 module _ {s : Set} {tail : Command → Tail} (w : Writable s tail) where
   -- what the writer accepts
-  pub taken : (c : Command) → writer.Writable (told s c) (tail c) (byteOf s c) (s .calibration) (s .individual) (frameLength (told s c) (tail c))
-  taken c = writer.writable (told s c) (tail c) (byteOf s c) (s .calibration) (s .individual) (frameLength (told s c) (tail c)) (w .accepted c)
+  pub accepted-writable : (c : Command) → writer.Writable (told s c) (tail c) (setByte s c) (s .calibration) (s .individual) (frameLength (told s c) (tail c))
+  accepted-writable c = writer.writable (told s c) (tail c) (setByte s c) (s .calibration) (s .individual) (frameLength (told s c) (tail c)) (w .accepted c)
 
   pub writable-proper : Proper s
   writable-proper =
-      let g : s .global < subframes (partOf (s .part)) (s .configuration) = ltb-true _ _ (not-false _ (taken Global .value)) in
+      let g : s .global < subframes (partOf (s .part)) (s .configuration) = ltb-true _ _ (not-false _ (accepted-writable Global .value)) in
       record {
         configuration = w .configuration;
         global = omega (arith, subframes-small (s .part) (s .configuration));
         calibration = all-below 256 (s .calibration) (w .calibration);
-        calibrationLength = eqb-true _ _ (not-false _ (taken Calibration .list));
-        individual = all-below (limit (partOf (s .part))) (s .individual) (not-false _ (taken Individual .value));
-        individualLength = eqb-true _ _ (not-false _ (taken Individual .list));
+        calibrationLength = eqb-true _ _ (not-false _ (accepted-writable Calibration .list));
+        individual = all-below (limit (partOf (s .part))) (s .individual) (not-false _ (accepted-writable Individual .value));
+        individualLength = eqb-true _ _ (not-false _ (accepted-writable Individual .list));
       }
 
-  fields-given : (c : Command) → settings (told s c) (byteOf s c) (s .calibration) (s .individual) ≡ frameFields s c
-  fields-given Individual = refl
-  fields-given Calibration = refl
-  fields-given Global = refl
-  fields-given Configuration = refl
+  fields-settingsOf : (c : Command) → settings (told s c) (setByte s c) (s .calibration) (s .individual) ≡ frameFields s c
+  fields-settingsOf Individual = refl
+  fields-settingsOf Calibration = refl
+  fields-settingsOf Global = refl
+  fields-settingsOf Configuration = refl
 
   -- the states of the bytes are those of the frame's bits
-  written-states : (c : Command) → line.frameStates (written s c (tail c)) (frameSize s c (tail c))
+  writtenFrame-states : (c : Command) → serial.frameStates (writtenFrame s c (tail c)) (frameSize s c (tail c))
       ≡ statesOf (frame c 0 (fields (fieldWidth (partOf (s .part)) c) (frameFields s c)) (tailsOf tail c))
-  unfolding line.frameStates frameOf frameBits
-  written-states c =
-      let vs : List ℕ = settings (told s c) (byteOf s c) (s .calibration) (s .individual) in
-      let n = length-given (told s c) c (byteOf s c) (s .calibration) (s .individual) (taken c .list) in
+  unfolding serial.frameStates frameOf frameBits
+  writtenFrame-states c =
+      let vs : List ℕ = settings (told s c) (setByte s c) (s .calibration) (s .individual) in
+      let n = length-settingsOf (told s c) c (setByte s c) (s .calibration) (s .individual) (accepted-writable c .list) in
       ap statesOf (take-bytes (frameBits (told s c) (tail c) vs) (frameSize s c (tail c)) (length-frameBits (told s c) (tail c) vs n))
-      ∙ ap (λ (l : List ℕ). statesOf (frame c 0 (fields (fieldWidth (partOf (s .part)) c) l) (tailBits (tail c)))) (fields-given c)
+      ∙ ap (λ (l : List ℕ). statesOf (frame c 0 (fields (fieldWidth (partOf (s .part)) c) l) (tailBits (tail c)))) (fields-settingsOf c)
 
   module _ (gap : Command → List Bool) where
     abbrev piece : Command → Piece
     piece c = pieceOf (partOf (s .part)) (owned s) gap (tailsOf tail) c
 
-    part-states : (c : Command) → framePart s gap tail c ≡ map stateOf (pieceStates (piece c))
+    part-states : (c : Command) → framePart s gap tail c ≡ map stateCode (pieceStates (piece c))
     unfolding framePart pieceStates frameStates
     part-states c =
-        ap (λ (l : List ℕ). map stateOf (lows (gap c)) ++ l) (written-states c)
-        ∙ ap (λ (bs : List Bool). map stateOf (lows (gap c)) ++ map stateOf (clocked (frame c 0 bs (tailsOf tail c)))) (fields-slices s writable-proper c)
-        ∙ sym (map-append stateOf (lows (gap c)) (frameStates c 0 (map (sliceOf (partOf (s .part)) c) (owned s)) (tailsOf tail c)))
+        ap (λ (l : List ℕ). map stateCode (lows (gap c)) ++ l) (writtenFrame-states c)
+        ∙ ap (λ (bs : List Bool). map stateCode (lows (gap c)) ++ map stateCode (clocked (frame c 0 bs (tailsOf tail c)))) (fields-slices s writable-proper c)
+        ∙ sym (map-append stateCode (lows (gap c)) (frameStates c 0 (map (sliceOf (partOf (s .part)) c) (owned s)) (tailsOf tail c)))
 
-    parts-states : (cs : List Command) → flatten (map (framePart s gap tail) cs) ≡ map stateOf (flatten (map pieceStates (map piece cs)))
+    parts-states : (cs : List Command) → flatten (map (framePart s gap tail) cs) ≡ map stateCode (flatten (map pieceStates (map piece cs)))
     unfolding flatten
     parts-states [] = refl
     parts-states (c ∷ cs) =
         ap₂ (λ (a b : List ℕ). a ++ b) (part-states c) (parts-states cs)
-        ∙ sym (map-append stateOf (pieceStates (piece c)) (flatten (map pieceStates (map piece cs))))
+        ∙ sym (map-append stateCode (pieceStates (piece c)) (flatten (map pieceStates (map piece cs))))
 
-    pub restore-states : restoreStates s gap tail ≡ map stateOf (piecesStates (partOf (s .part)) (owned s) gap (tailsOf tail))
+    pub restore-states : restoreStates s gap tail ≡ map stateCode (piecesStates (partOf (s .part)) (owned s) gap (tailsOf tail))
     unfolding piecesOf
     restore-states = parts-states restoreOrder
 
-    pub restore-part : (j : ℕ) → restorePart s gap tail j ≡ map stateOf (flatten (map pieceStates (take j (piecesOf (partOf (s .part)) (owned s) gap (tailsOf tail)))))
+    pub restore-part : (j : ℕ) → restorePart s gap tail j ≡ map stateCode (flatten (map pieceStates (take j (piecesOf (partOf (s .part)) (owned s) gap (tailsOf tail)))))
     unfolding piecesOf
     restore-part j =
         ap (λ (l : List (List ℕ)). flatten l) (take-map (framePart s gap tail) j restoreOrder)
         ∙ parts-states (take j restoreOrder)
-        ∙ ap (λ (l : List Piece). map stateOf (flatten (map pieceStates l))) (sym (take-map piece j restoreOrder))
+        ∙ ap (λ (l : List Piece). map stateCode (flatten (map pieceStates l))) (sym (take-map piece j restoreOrder))

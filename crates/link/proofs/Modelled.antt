@@ -9,7 +9,7 @@ use lib.ListN.{length, length-map, getD, set, replicate, List·getD-map}
 use borrow.Author.Tests.{eq-eqb}
 use Rattle.bits.specs.Bits.{isOne, digit}
 use Rattle.parts.specs.Parts.{partOf}
-use Rattle.parts.specs.Wire.{Line, lineOf}
+use Rattle.parts.specs.Wire.{State, stateAt}
 use Rattle.parts.proofs.Laws.{banks-three}
 use Rattle.registers.specs.Held.{flagged, showing}
 use Rattle.phases.specs.Phases.{phaseOf}
@@ -100,14 +100,14 @@ accepted-after : (ds : List Device) (c : Call) → refusalOf ds c ≡ 0 → afte
 accepted-after ds c e = after-effect ds c ∙ rw (eq-eqb (refusalOf ds c) 0 e)
 
 pub call-same : (ds : List Device) (c : Call) → All Arrays ds → refusalOf ds c ≡ 0
-    → _≡_ {A = List model.Device × List Line} (map deviceOf (after ds c), map lineOf (answered ds c)) (called (map deviceOf ds) c)
+    → _≡_ {A = List model.Device × List State} (map deviceOf (after ds c), map stateAt (answered ds c)) (called (map deviceOf ds) c)
 call-same ds (fresh part) a e =
     rw (accepted-after ds (fresh part) e, length-map, replicate-map deviceOf (length ds) (freshDevice part), fresh-same part)
 call-same ds (run ss out) a e =
     let f = accepted-given ds ss out e in
     let x = ran-one ds ss out in
-    ap (λ (y : List Device × List ℕ). (map deviceOf (y .0), map lineOf (y .1))) x
-    ∙ ap (λ (zs : List ℕ). (map deviceOf ((chain stepRecord ds zs) .0), map lineOf ((chain stepRecord ds zs) .1))) f
+    ap (λ (y : List Device × List ℕ). (map deviceOf (y .0), map stateAt (y .1))) x
+    ∙ ap (λ (zs : List ℕ). (map deviceOf ((chain stepRecord ds zs) .0), map stateAt ((chain stepRecord ds zs) .1))) f
     ∙ chain-agree ds ss (all-sound ds (accepted-fit ds ss out e) a)
 call-same ds boundary a e = rw (accepted-after ds boundary e, boundary-same ds)
 call-same ds (fault device kind flag) a e =

@@ -105,8 +105,8 @@ gotten-none w [] h = refl
 gotten-none w (v ∷ vs) h = rw (lt-ltb 0 w h)
 
 module _ (w b : ℕ) (p : 0 < w) (k : b < 2) where
-  abbrev taken : List ℕ → ℕ → List ℕ
-  taken s i = set s i (pushed (getD s i 0) b (2 ^ w))
+  abbrev withBit : List ℕ → ℕ → List ℕ
+  withBit s i = set s i (pushed (getD s i 0) b (2 ^ w))
 
   gotten-first : (v : ℕ) (vs : List ℕ) (t : ℕ) → t < w → gotten w (pushed v b (2 ^ w) ∷ vs) (t + 1) ≡ bits t v ++ eqb b 1 ∷ []
   gotten-first v vs t h = go (ltb (t + 1) w) refl
@@ -121,12 +121,12 @@ module _ (w b : ℕ) (p : 0 < w) (k : b < 2) where
           (ap (λ (x : ℕ). bits x (pushed v b (2 ^ w))) m ∙ bits-push t w v b h k)
 
   -- one more bit
-  pub gotten-next : (s : List ℕ) (t : ℕ) → t < length s * w → gotten w (taken s (t / w)) (t + 1) ≡ gotten w s t ++ eqb b 1 ∷ []
+  pub gotten-next : (s : List ℕ) (t : ℕ) → t < length s * w → gotten w (withBit s (t / w)) (t + 1) ≡ gotten w s t ++ eqb b 1 ∷ []
   gotten-next [] t h = absurd (omega arith)
   gotten-next (v ∷ vs) t h = go (ltb t w) refl (gotten-next vs (t - w))
     where
-      go : (u : Bool) → ltb t w ≡ u → (t - w < length vs * w → gotten w (taken vs ((t - w) / w)) (t - w + 1) ≡ gotten w vs (t - w) ++ eqb b 1 ∷ [])
-          → gotten w (taken (v ∷ vs) (t / w)) (t + 1) ≡ gotten w (v ∷ vs) t ++ eqb b 1 ∷ []
+      go : (u : Bool) → ltb t w ≡ u → (t - w < length vs * w → gotten w (withBit vs ((t - w) / w)) (t - w + 1) ≡ gotten w vs (t - w) ++ eqb b 1 ∷ [])
+          → gotten w (withBit (v ∷ vs) (t / w)) (t + 1) ≡ gotten w (v ∷ vs) t ++ eqb b 1 ∷ []
       go true e i =
           let z = ltb-true t w e in
           rw (div-eq-of-lt z, gotten-in w v vs t z) (gotten-first v vs t z)
@@ -135,7 +135,7 @@ module _ (w b : ℕ) (p : 0 < w) (k : b < 2) where
           let n : t + 1 - w ≡ t - w + 1 = omega arith in
           let l : length (v ∷ vs) * w ≡ length vs * w + w = suc-mul (length vs) w in
           let j : t - w < length vs * w = omega arith in
-          rw (div-eq-sub-div p z, add-one, gotten-past w v vs t z, gotten-past w v (taken vs ((t - w) / w)) (t + 1) (omega arith), n, i j, append-assoc)
+          rw (div-eq-sub-div p z, add-one, gotten-past w v vs t z, gotten-past w v (withBit vs ((t - w) / w)) (t + 1) (omega arith), n, i j, append-assoc)
 
 -- a whole number of fields
 pub gotten-fields : (w k : ℕ) (s : List ℕ) → k ≤ length s → split w k (gotten w s (k * w)) ≡ map (λ v. v % 2 ^ w) (take k s)

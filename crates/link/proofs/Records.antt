@@ -12,8 +12,8 @@ use borrow.Author.Tests.{lt-ltb}
 use Rattle.bits.specs.Bits.{digit}
 use Rattle.tables.specs.Lists.{allBelow}
 use Rattle.parts.specs.Parts.{partOf}
-use Rattle.parts.specs.Wire.{Line, lows, lineOf, dataBit}
-use Rattle.line.specs.States.{dataBits}
+use Rattle.parts.specs.Wire.{State, lows, stateAt, dataBit}
+use Rattle.serial.specs.States.{dataBits}
 use Rattle.device.specs.Step.{faulted}
 use Rattle.device.specs.declared.device.Device.{Device}
 use Rattle.tables.proofs.Booleans.{cond-both}
@@ -21,7 +21,7 @@ use Rattle.registers.proofs.Below.{below-head}
 use Rattle.calls.specs.Chain.{blank}
 use Rattle.calls.specs.Calls.{runRefusal, faultRefusal, boundaryDevices}
 use Rattle.calls.specs.History.{Call, fresh, run, boundary, fault, refusalOf, after, afterCalls, given, FaultOrLow, Settles}
-use Rattle.model.specs.Lists.{All, Both}
+use Rattle.model.specs.Lists.{All, Pairwise}
 use Rattle.machine.specs.Machine.{chain}
 use Rattle.model.specs.Device.{registersIn}
 use Rattle.model.specs.Device as model
@@ -47,7 +47,7 @@ pub registers-at : (ds : List Device) (i : ℕ) → getD (registersIn (map devic
 registers-at ds i = rw (registers-all ds) (List·getD-map (λ (d : Device). registersOf (d .registers)) ds i blank)
 
 pub ready-of : (n : ℕ) (os : List Own) (ds : List Device) → All (OwnProper (partOf n)) os → length os ≡ length ds → All (λ d. d .registers .part ≡ n) ds
-    → Both (Ready (partOf n)) os (registersIn (map deviceOf ds))
+    → Pairwise (Ready (partOf n)) os (registersIn (map deviceOf ds))
 unfolding deviceOf
 ready-of n [] [] a e u = tt
 ready-of n [] (d ∷ ds) a e u = absurd (omega arith)
@@ -56,16 +56,16 @@ ready-of n (o ∷ os) (d ∷ ds) a e u = ((a .0, ap partOf (u .0)), ready-of n o
 
 -- ---- low states
 
-low-lines : (ss : List ℕ) → allBelow ss 2 ≡ true → map lineOf ss ≡ lows (map (λ s. eqb (s % 2) 1) ss)
-low-lines [] h = refl
-low-lines (s ∷ ss) h = let t = below-head s ss 2 h in rw (lt-ltb s 2 (t .0), low-lines ss (t .1))
+map-stateAt-low : (ss : List ℕ) → allBelow ss 2 ≡ true → map stateAt ss ≡ lows (map (λ s. eqb (s % 2) 1) ss)
+map-stateAt-low [] h = refl
+map-stateAt-low (s ∷ ss) h = let t = below-head s ss 2 h in rw (lt-ltb s 2 (t .0), map-stateAt-low ss (t .1))
 
 low-registers : (ds : List Device) (ss : List ℕ) → All Sound ds → allBelow ss 2 ≡ true → registersAll ((chain stepRecord ds ss) .0) ≡ registersAll ds
 low-registers ds ss o h =
-    let e = ap (λ (x : List model.Device × List Line). registersIn (x .0)) (chain-agree ds ss o) in
+    let e = ap (λ (x : List model.Device × List State). registersIn (x .0)) (chain-agree ds ss o) in
     sym (registers-all ((chain stepRecord ds ss) .0))
     ∙ e
-    ∙ rw (low-lines ss h) (quiet (map (λ s. eqb (s % 2) 1) ss) (map deviceOf ds))
+    ∙ rw (map-stateAt-low ss h) (quiet (map (λ s. eqb (s % 2) 1) ss) (map deviceOf ds))
     ∙ registers-all ds
 
 -- ---- what waits
@@ -75,9 +75,9 @@ abbrev WaitsOne : Own → Device → Type 0
 WaitsOne o d = RegistersHold o (model.activated (registersOf (d .registers)))
 
 abbrev pub Waits : List Own → List Device → Type 0
-Waits os ds = Both RegistersHold os (map model.activated (registersAll ds))
+Waits os ds = Pairwise RegistersHold os (map model.activated (registersAll ds))
 
-pub boundary-holds : (os : List Own) (ds : List Device) → Waits os ds → Both Holds os (boundaryDevices ds)
+pub boundary-holds : (os : List Own) (ds : List Device) → Waits os ds → Pairwise Holds os (boundaryDevices ds)
 unfolding model.activated
 boundary-holds [] [] h = tt
 boundary-holds [] (d ∷ ds) h = absurd h
@@ -130,6 +130,6 @@ take-sent ds ps zero = refl
 take-sent ds [] (suc j) = refl
 take-sent ds (p ∷ ps) (suc j) = rw (take-sent ((sendPiece ds p) .0) ps j)
 
-pub data-lines : (ss : List ℕ) → dataBits ss ≡ map dataBit (map lineOf ss)
-data-lines [] = refl
-data-lines (s ∷ ss) = rw (data-lines ss)
+pub dataBits-stateAt : (ss : List ℕ) → dataBits ss ≡ map dataBit (map stateAt ss)
+dataBits-stateAt [] = refl
+dataBits-stateAt (s ∷ ss) = rw (dataBits-stateAt ss)

@@ -12,7 +12,7 @@ use borrow.Author.Tests.{ltb-true, ltb-false, ne-eqb}
 use Rattle.bits.specs.Bits.{isOne, split}
 use Rattle.tables.specs.Lists.{allBelow}
 use Rattle.parts.specs.Parts.{partOf, multiplex, limit, fieldWidth, fieldLimit}
-use Rattle.parts.specs.Wire.{low, high, lineOf, header, clocked}
+use Rattle.parts.specs.Wire.{low, high, stateAt, header, clocked}
 use Rattle.parts.proofs.Laws.{banks-three}
 use Rattle.parts.specs.declared.command.Command.{Command}
 use Rattle.parts.specs.declared.command.Command.the-variants.{Individual, Calibration, Global, Configuration}
@@ -27,7 +27,7 @@ use Rattle.registers.proofs.Below.{Below, below-head, took-below}
 use Rattle.model.specs.Device.{slice, stepDevice, load, counted, evens, odds, headerStates}
 use Rattle.model.specs.Device as model
 use Rattle.model.proofs.Set.{double}
-use Rattle.model.proofs.Wire.{lines-states}
+use Rattle.model.proofs.Wire.{map-stateAt-stateCode}
 use Rattle.link.specs.View.{gotten}
 use Rattle.link.proofs.Numbers.{gotten-next, gotten-fields}
 use Rattle.link.specs.View.{registersOf, viewed}
@@ -125,9 +125,9 @@ fault-took r k b m Calibration = refl
 fault-took r k b m Global = refl
 fault-took r k b m Configuration = refl
 
-header-same : (c : Command) (n : ℕ) → map lineOf (sentStates (Header c n)) ≡ headerStates c n
+header-same : (c : Command) (n : ℕ) → map stateAt (sentStates (Header c n)) ≡ headerStates c n
 unfolding headerStates
-header-same c n = lines-states (clocked (header c n))
+header-same c n = map-stateAt-stateCode (clocked (header c n))
 
 -- a bit of a slice that is not yet whole, in a record that the view speaks of
 pub record Coming (r : Registers) (c : Command) (t bit : ℕ) : Type 0 where

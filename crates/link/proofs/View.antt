@@ -3,7 +3,7 @@ use mathlib.Core.Path.{_≡_, ap}
 use mathlib.Core.Bool.{Bool, true}
 use mathlib.Core.List.{List, [], _∷_, _++_, map}
 use Prim.Native.Nat.{ℕ, suc}
-use Rattle.parts.specs.Wire.{Line, high, lineOf}
+use Rattle.parts.specs.Wire.{State, high, stateAt}
 use Rattle.device.specs.Step.{sentStates, at, sending, step}
 use Rattle.device.specs.Judgement.{fits}
 use Rattle.phases.specs.declared.phase.Phase.{Phase}
@@ -21,16 +21,16 @@ pub record Sound (d : Device) : Type 0 where
   pub fit : fits d ≡ true
   pub arrays : Arrays d
 
-abbrev Outcome : Type 0
-Outcome = model.Device × List Line
+abbrev SeenStep : Type 0
+SeenStep = model.Device × List State
 
 -- a step of a record, seen
-unfoldable pub seen : Stepped → Outcome
-seen s = (deviceOf (s .device), map lineOf (sentStates (s .sent)))
+unfoldable pub seen : Stepped → SeenStep
+seen s = (deviceOf (s .device), map stateAt (sentStates (s .sent)))
 
-pub seen-sending : (r : Registers) (p : Phase) (x : Sent) → Small p → seen (sending r p x) ≡ (viewed r p, map lineOf (sentStates x))
+pub seen-sending : (r : Registers) (p : Phase) (x : Sent) → Small p → seen (sending r p x) ≡ (viewed r p, map stateAt (sentStates x))
 unfolding seen deviceOf
-seen-sending r p x h = ap (λ (q : Phase). (viewed r q, map lineOf (sentStates x))) (phase-place p h)
+seen-sending r p x h = ap (λ (q : Phase). (viewed r q, map stateAt (sentStates x))) (phase-place p h)
 
 -- ---- fields of bits
 

@@ -1,4 +1,4 @@
--- A restore as a caller makes it: the four frames that the writer writes from a set, put onto the line in restore order, each with any
+-- A restore as a caller makes it: the four frames that the writer writes from a set, put onto the wire in restore order, each with any
 -- tail and any clocks at low load before it. What then comes back, and when a slice has arrived, is said in model/specs/Restore.
 use Prim.Native.Nat.{ℕ, _+_, _<_}
 use mathlib.Core.Path.{_≡_}
@@ -7,10 +7,10 @@ use mathlib.Core.List.{List, [], _∷_, _++_, map, flatten}
 use lib.ListN.{take, getD}
 use Rattle.tables.specs.Lists.{allBelow}
 use Rattle.parts.specs.Parts.{partOf, restoreOrder}
-use Rattle.parts.specs.Wire.{stateOf, lows}
+use Rattle.parts.specs.Wire.{stateCode, lows}
 use Rattle.parts.specs.declared.command.Command.{Command}
 use Rattle.parts.specs.declared.command.Command.the-variants.{Individual, Calibration, Global, Configuration}
-use Rattle.line.specs.States.{frameStates}
+use Rattle.serial.specs.States.{frameStates}
 use Rattle.frames.specs.Frames.{slicesBits, tailBits, frameOf, frameLength}
 use Rattle.frame_writer.specs.Writing.{settings, writeRefusal}
 use Rattle.frames.specs.declared.told.Told.{Told}
@@ -25,19 +25,19 @@ abbrev pub told : Set → Command → Told
 told s c = record { part = s .part; devices = s .devices; command = c; configuration = s .configuration }
 
 -- the byte that it is given: the global one for a global frame, else the configuration
-abbrev pub byteOf : Set → Command → ℕ
-byteOf s Individual = s .configuration
-byteOf s Calibration = s .configuration
-byteOf s Global = s .global
-byteOf s Configuration = s .configuration
+abbrev pub setByte : Set → Command → ℕ
+setByte s Individual = s .configuration
+setByte s Calibration = s .configuration
+setByte s Global = s .global
+setByte s Configuration = s .configuration
 
 -- the number under which it refuses them, or 0, where its output has `room` bytes
 abbrev pub writeNumber : Set → Command → Tail → ℕ → ℕ
-writeNumber s c tail room = writeRefusal (told s c) tail (byteOf s c) (s .calibration) (s .individual) room
+writeNumber s c tail room = writeRefusal (told s c) tail (setByte s c) (s .calibration) (s .individual) room
 
 -- the bytes that it writes
-abbrev pub written : Set → Command → Tail → List ℕ
-written s c tail = frameOf (told s c) tail (settings (told s c) (byteOf s c) (s .calibration) (s .individual))
+abbrev pub writtenFrame : Set → Command → Tail → List ℕ
+writtenFrame s c tail = frameOf (told s c) tail (settings (told s c) (setByte s c) (s .calibration) (s .individual))
 
 -- a set whose bytes are bytes, and whose four frames the writer accepts where its output has room for them
 pub record Writable (s : Set) (tail : Command → Tail) : Type 0 where
@@ -54,7 +54,7 @@ frameSize s c tail = 24 + slicesBits (told s c) + tail .length
 module _ (s : Set) (gap : Command → List Bool) (tail : Command → Tail) where
   -- clocks at low load with any data, and then the frame: SYNC at low load and the rest at high
   unfoldable pub framePart : Command → List ℕ
-  framePart c = map stateOf (lows (gap c)) ++ frameStates (written s c (tail c)) (frameSize s c (tail c))
+  framePart c = map stateCode (lows (gap c)) ++ frameStates (writtenFrame s c (tail c)) (frameSize s c (tail c))
 
   -- the first j frames of a restore
   abbrev pub restorePart : ℕ → List ℕ
@@ -66,7 +66,7 @@ module _ (s : Set) (gap : Command → List Bool) (tail : Command → Tail) where
 
   -- all four, and any clocks at low load after them
   abbrev pub restoreThen : List Bool → List ℕ
-  restoreThen last = restoreStates ++ map stateOf (lows last)
+  restoreThen last = restoreStates ++ map stateCode (lows last)
 
 -- the clocks at low load after the first j frames: those before the next frame, or those after the last
 abbrev pub gapAfter : (Command → List Bool) → List Bool → ℕ → List Bool

@@ -11,7 +11,7 @@ use lib.Dec.{leb, leb→le, nleb→lt}
 use lib.ListN.{length, take, drop, getD, length-append, length-map, length-take, take-append-drop}
 use lib.Seq.{take-append-add, take-take, take-nil}
 use borrow.Author.Tests.{le-leb, lt-leb}
-use Rattle.parts.specs.Wire.{Line, low, high, lows, highs, frame}
+use Rattle.parts.specs.Wire.{State, low, high, lows, highs, frame}
 use Rattle.parts.specs.declared.command.Command.{Command}
 use Rattle.machine.specs.Machine.{run}
 use Rattle.model.specs.Device.{Registers, Device, Phase, hunting, lost, taking, passing, Field, command, count, slice, at}
@@ -23,18 +23,18 @@ use Rattle.model.proofs.Wire.{frame-states, length-headerStates}
 use Rattle.model.proofs.Frame.{loadAll, Fits, headed, framed, quiet}
 
 -- a device that sends nothing stores nothing
-still-step : (r : Registers) (p : Phase) (l : Line) → (stepDevice (at r p) l) .1 ≡ [] → (stepDevice (at r p) l) .0 .registers ≡ r
+still-step : (r : Registers) (p : Phase) (l : State) → (stepDevice (at r p) l) .1 ≡ [] → (stepDevice (at r p) l) .0 .registers ≡ r
 unfolding stepDevice
 still-step r p (low b) e = refl
 still-step r (hunting w) (high b) e = refl
 still-step r lost (high b) e = refl
 still-step r (taking command zero got) (high b) e = refl
 still-step r (taking (count c) zero got) (high b) e = refl
-still-step r (taking (slice c n) zero got) (high b) e = let z = length-headerStates c (counted n (fault c r)) in let y = ap (λ (ls : List Line). length ls) e in absurd (omega arith)
+still-step r (taking (slice c n) zero got) (high b) e = let z = length-headerStates c (counted n (fault c r)) in let y = ap (λ (ls : List State). length ls) e in absurd (omega arith)
 still-step r (taking f (suc n) got) (high b) e = refl
 still-step r passing (high b) e = refl
 
-still : (d : Device) (ls : List Line) → (runDevice d ls) .1 ≡ [] → (runDevice d ls) .0 .registers ≡ d .registers
+still : (d : Device) (ls : List State) → (runDevice d ls) .1 ≡ [] → (runDevice d ls) .0 .registers ≡ d .registers
 unfolding run
 still d [] e = refl
 still d (l ∷ ls) e = still ((stepDevice d l) .0) ls (append-nil-right ((stepDevice d l) .1) _ e) ∙ still-step (d .registers) (d .phase) l (append-nil-left _ _ e)
@@ -47,7 +47,7 @@ part-taken r f zero got (b ∷ bs) h = absurd (omega arith)
 part-taken r f (suc n) got (b ∷ bs) h = part-taken r f n (got ++ b ∷ []) bs (omega arith)
 
 -- of what sends nothing, no part sends anything
-silent : (d : Device) (ls : List Line) (m : ℕ) → (runDevice d ls) .1 ≡ [] → (runDevice d (take m ls)) .1 ≡ []
+silent : (d : Device) (ls : List State) (m : ℕ) → (runDevice d ls) .1 ≡ [] → (runDevice d (take m ls)) .1 ≡ []
 silent d ls m e =
     let f : (runDevice d (take m ls ++ drop m ls)) .1 ≡ [] = rw take-append-drop e in
     append-nil-left _ _ (rw run-append at f)
@@ -72,7 +72,7 @@ module _ (d : Device) (c : Command) (n : ℕ) (s : List Bool) (ss : List (List B
   cut-early : (m : ℕ) → m < 24 + length s → (runDevice d (take m (frameStates c n (s ∷ ss) tail))) .1 ≡ []
   cut-early m l =
       let k : ℕ = pred (sliceLength (d .registers) c) in
-      let f : List Line = frameStates c n (s ∷ ss) tail in
+      let f : List State = frameStates c n (s ∷ ss) tail in
       let bs : List Bool = take k (flatten (s ∷ ss) ++ tail) in
       let t : take m (take (24 + k) f) ≡ take m f = take-take m (24 + k) f (omega arith) in
       let b : length bs ≤ k = rw length-take (omega arith) in

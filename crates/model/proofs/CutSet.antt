@@ -11,15 +11,15 @@ use Rattle.parts.specs.Parts.{Part}
 use Rattle.parts.specs.Wire.{low, lows}
 use Rattle.parts.specs.declared.command.Command.{Command}
 use Rattle.parts.specs.declared.command.Command.the-variants.{Individual, Calibration, Global, Configuration}
-use Rattle.model.specs.Lists.{Both}
+use Rattle.model.specs.Lists.{Pairwise}
 use Rattle.model.specs.Device.{Values, Registers, Device, multiplexed, evens, odds, withIndividual, load, stepDevice, runChain, registersIn}
 use Rattle.model.specs.Set.{Own, OwnProper, sliceOf}
 use Rattle.model.specs.Restore.{pieceStates, piecesOf, pieceOf, piecesStates, statesUntil, CutFields}
-use Rattle.model.proofs.Lists.{true-of, leb-same, both-at, both-length, getD-map, length-flatten-take, take-append, take-map}
+use Rattle.model.proofs.Lists.{true-of, leb-same, pairwise-at, pairwise-length, getD-map, length-flatten-take, take-append, take-map}
 use Rattle.machine.proofs.Machine.{chain-append}
 use Rattle.model.proofs.Frame.{quiet}
 use Rattle.model.proofs.Set.{load-configuration, load-calibration, load-global, load-individual}
-use Rattle.model.proofs.Restore.{Ready, Configured, Calibrated, GlobalWaiting, both-fits, fit-configuration, fit-calibration, fit-global, fit-individual, stage1, stage2, stage3, global-own}
+use Rattle.model.proofs.Restore.{Ready, Configured, Calibrated, GlobalWaiting, pairwise-fits, fit-configuration, fit-calibration, fit-global, fit-individual, stage1, stage2, stage3, global-own}
 use Rattle.model.proofs.Cut.{cutAll, cutPieces, FitsAll, cut-at, cut-pieces, length-cut, length-states}
 use Rattle.tables.proofs.Booleans.{cond-and}
 
@@ -95,15 +95,15 @@ module _ (w : Part) (o : Own) (p : OwnProper w o) (r : Registers) (e : r .part �
   cut-fields b1 b2 b3 b4 i = cut4 b1 b2 b3 b4 _ i (cut3 b1 b2 b3 _ (cut2 b1 b2 _ (cut1 b1)))
 
 module _ (w : Part) (os : List Own) (gap tail : Command → List Bool) where
-  fits-four : (rs : List Registers) → Both (Ready w) os rs → FitsAll (piecesOf w os gap tail) rs
+  fits-four : (rs : List Registers) → Pairwise (Ready w) os rs → FitsAll (piecesOf w os gap tail) rs
   unfolding piecesOf
   fits-four rs b = (
-    both-fits w Configuration (Ready w) (Ready w) (fit-configuration w) os rs b,
+    pairwise-fits w Configuration (Ready w) (Ready w) (fit-configuration w) os rs b,
     (
-      both-fits w Calibration (Configured w) (Configured w) (fit-calibration w) os _ (stage1 w os rs b),
+      pairwise-fits w Calibration (Configured w) (Configured w) (fit-calibration w) os _ (stage1 w os rs b),
       (
-        both-fits w Global (Calibrated w) (Calibrated w) (fit-global w) os _ (stage2 w os rs b),
-        (both-fits w Individual (GlobalWaiting w) (GlobalWaiting w) (fit-individual w) os _ (stage3 w os rs b), tt),
+        pairwise-fits w Global (Calibrated w) (Calibrated w) (fit-global w) os _ (stage2 w os rs b),
+        (pairwise-fits w Individual (GlobalWaiting w) (GlobalWaiting w) (fit-individual w) os _ (stage3 w os rs b), tt),
       ),
     ),
   )
@@ -125,14 +125,14 @@ module _ (w : Part) (os : List Own) (gap tail : Command → List Bool) where
       le→leb (statesUntil w os gap tail Configuration (suc i)) k (omega (arith, length-states (pieceOf w os gap tail Configuration), length-flatten-take (suc i) (map (sliceOf w Configuration) os)))
 
   -- Cut: after k states of the restore, in device i (from 0)
-  cut-restore : (ds : List Device) → Both (Ready w) os (registersIn ds) → (k i : ℕ) (o : Own) (z : Registers) → i < length os
+  cut-restore : (ds : List Device) → Pairwise (Ready w) os (registersIn ds) → (k i : ℕ) (o : Own) (z : Registers) → i < length os
       → CutFields (λ c. leb (statesUntil w os gap tail c (suc i)) k) (getD os i o) (getD (registersIn ds) i z)
       (getD (registersIn ((runChain ds (take k (piecesStates w os gap tail))) .0)) i z)
   unfolding piecesOf cutPieces
   cut-restore ds b k i o z h =
       let rs : List Registers = registersIn ds in
-      let r = both-at (Ready w) os rs i o z h b in
-      let n : length rs ≡ length os = both-length (Ready w) os rs b in
+      let r = pairwise-at (Ready w) os rs i o z h b in
+      let n : length rs ≡ length os = pairwise-length (Ready w) os rs b in
       let e = cut-pieces (piecesOf w os gap tail) k ds (fits-four rs b) in
       let j1 : ℕ = k - length (pieceStates (pieceOf w os gap tail Configuration)) in
       let j2 : ℕ = j1 - length (pieceStates (pieceOf w os gap tail Calibration)) in
@@ -152,7 +152,7 @@ module _ (w : Part) (os : List Own) (gap tail : Command → List Bool) where
       by-tests arrived (getD os i o) (getD rs i z) _ (rw (e, f4, f3, f2, f1) g)
 
   -- with low clocks after the last frame, which change no register
-  pub cut-sent : (ds : List Device) → Both (Ready w) os (registersIn ds) → (last : List Bool) (k i : ℕ) (o : Own) (z : Registers) → i < length os
+  pub cut-sent : (ds : List Device) → Pairwise (Ready w) os (registersIn ds) → (last : List Bool) (k i : ℕ) (o : Own) (z : Registers) → i < length os
       → CutFields (λ c. leb (statesUntil w os gap tail c (suc i)) k) (getD os i o) (getD (registersIn ds) i z)
       (getD (registersIn ((runChain ds (take k (piecesStates w os gap tail ++ lows last))) .0)) i z)
   cut-sent ds b last k i o z h =

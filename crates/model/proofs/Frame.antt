@@ -9,10 +9,10 @@ use native.Mathlib.Omega.{arith}
 use lib.ListN.{length}
 use Rattle.bits.specs.Bits.{digit, bits, number}
 use Rattle.bits.proofs.Laws.{length-bits, number-bits}
-use Rattle.parts.specs.Wire.{Line, low, high, lows, highs, sync}
+use Rattle.parts.specs.Wire.{State, low, high, lows, highs, sync}
 use Rattle.parts.specs.declared.command.Command.{Command}
 use Rattle.parts.specs.declared.command.Command.the-variants.{Individual, Calibration, Global, Configuration}
-use Rattle.model.specs.Lists.{Both, howMany}
+use Rattle.model.specs.Lists.{Pairwise, howMany}
 use Rattle.machine.specs.Machine.{run, chain}
 use Rattle.model.specs.Device.{Registers, Device, Phase, hunting, taking, passing, Field, command, count, slice, at}
 use Rattle.model.specs.Device.{sliceLength, load, fault, faults, counted, finish, headerStates, frameStates, stepDevice, runDevice, runChain, registersIn, window}
@@ -29,13 +29,13 @@ unfolding run stepDevice bits
 sync-any r p = ap (λ (n : ℕ). (at r (hunting n), [])) (eight (window p))
 
 -- a field is collected at high load, whatever follows
-taken : (r : Registers) (f : Field) (n : ℕ) (got bs : List Bool) → length bs ≡ suc n
+taking-run : (r : Registers) (f : Field) (n : ℕ) (got bs : List Bool) → length bs ≡ suc n
     → runDevice (at r (taking f n got)) (highs bs) ≡ finish r f (got ++ bs)
 unfolding run stepDevice
-taken r f n got [] h = absurd (omega arith)
-taken r f zero got (b ∷ []) h = simp append-nil
-taken r f zero got (b ∷ c ∷ bs) h = absurd (omega arith)
-taken r f (suc n) got (b ∷ bs) h = taken r f n (got ++ b ∷ []) bs (omega arith) ∙ rw append-assoc
+taking-run r f n got [] h = absurd (omega arith)
+taking-run r f zero got (b ∷ []) h = simp append-nil
+taking-run r f zero got (b ∷ c ∷ bs) h = absurd (omega arith)
+taking-run r f (suc n) got (b ∷ bs) h = taking-run r f n (got ++ b ∷ []) bs (omega arith) ∙ rw append-assoc
 
 passed : (r : Registers) (bs : List Bool) → runDevice (at r passing) (highs bs) ≡ (at r passing, highs bs)
 unfolding run stepDevice
@@ -50,7 +50,7 @@ commanded r Calibration = refl
 commanded r Global = refl
 commanded r Configuration = refl
 
-highs-then : (d : Device) (a b : List Bool) {t u : Device} {o q : List Line} → runDevice d (highs a) ≡ (t, o) → runDevice t (highs b) ≡ (u, q) → runDevice d (highs (a ++ b)) ≡ (u, o ++ q)
+highs-then : (d : Device) (a b : List Bool) {t u : Device} {o q : List State} → runDevice d (highs a) ≡ (t, o) → runDevice t (highs b) ≡ (u, q) → runDevice d (highs (a ++ b)) ≡ (u, o ++ q)
 highs-then d a b e f = rw (map-append high a b) (run-then stepDevice d (highs a) (highs b) e f)
 
 -- a header, from any phase
@@ -58,7 +58,7 @@ pub headed : (d : Device) (c : Command) (n : ℕ) → n < 1024
     → runDevice d (headerStates c n) ≡ (at (d .registers) (taking (slice c n) (pred (sliceLength (d .registers) c)) []), [])
 headed d c n h =
     let m : n % 2 ^ 10 ≡ n = mod-eq-of-lt h in
-    let e = taken (d .registers) (count c) 9 [] (bits 10 n) (length-bits 10 n) in
+    let e = taking-run (d .registers) (count c) 9 [] (bits 10 n) (length-bits 10 n) in
     rw (header-states c n)
     (run-then stepDevice d (lows sync) (highs (pairs c ++ bits 10 n)) (sync-any (d .registers) (d .phase))
     (highs-then _ (pairs c) (bits 10 n) (commanded (d .registers) c) (rw (number-bits 10 n, m) at e)))
@@ -70,7 +70,7 @@ unfolding flatten
 framed d c n s ss tail h p e =
     rw (frame-states c n (s ∷ ss) tail, frame-states c (counted n (fault c (d .registers))) ss tail, append-assoc s (flatten ss) tail)
     (run-then stepDevice d (headerStates c n) _ (headed d c n h)
-    (highs-then _ s (flatten ss ++ tail) (taken (d .registers) (slice c n) (pred (sliceLength (d .registers) c)) [] s (omega arith)) (passed _ (flatten ss ++ tail))))
+    (highs-then _ s (flatten ss ++ tail) (taking-run (d .registers) (slice c n) (pred (sliceLength (d .registers) c)) [] s (omega arith)) (passed _ (flatten ss ++ tail))))
 
 -- every device its slice
 unfoldable pub loadAll : Command → List (List Bool) → List Registers → List Registers
@@ -79,7 +79,7 @@ loadAll c (s ∷ ss) [] = []
 loadAll c (s ∷ ss) (r ∷ rs) = load c s r ∷ loadAll c ss rs
 
 abbrev pub Fits : Command → List (List Bool) → List Registers → Type 0
-Fits c ss rs = Both (λ s r. (0 < length s) × (length s ≡ sliceLength r c)) ss rs
+Fits c ss rs = Pairwise (λ s r. (0 < length s) × (length s ≡ sliceLength r c)) ss rs
 
 abbrev pub passings : List Registers → List Device
 passings rs = map (λ r. at r passing) rs

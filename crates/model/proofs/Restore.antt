@@ -9,16 +9,16 @@ use native.Mathlib.Nat.{mul-pos}
 use lib.ListN.{length, length-replicate}
 use Rattle.bits.proofs.Laws.{length-fields}
 use Rattle.parts.specs.Parts.{Part, multiplex}
-use Rattle.parts.specs.Wire.{Line, lows, dataBit, returnOf}
+use Rattle.parts.specs.Wire.{State, lows, dataBit, returnOf}
 use Rattle.parts.specs.declared.command.Command.{Command}
 use Rattle.parts.specs.declared.command.Command.the-variants.{Individual, Calibration, Global, Configuration}
-use Rattle.model.specs.Lists.{Both, howMany}
+use Rattle.model.specs.Lists.{Pairwise, howMany}
 use Rattle.machine.specs.Machine.{andThen}
 use Rattle.model.specs.Device.{Values, Registers, Device, at, sliceLength, multiplexed, withIndividual, load, fault, faults, activated}
 use Rattle.model.specs.Device.{frameStates, stepDevice, runChain, boundary, registersIn}
 use Rattle.model.specs.Set.{Own, OwnProper, sliceOf}
 use Rattle.model.specs.Restore.{Piece, pieceStates, pieceOf, piecesOf, returnsOf, InUse, RegistersHold}
-use Rattle.model.proofs.Lists.{both-map, howMany-le}
+use Rattle.model.proofs.Lists.{pairwise-map, howMany-le}
 use Rattle.machine.proofs.Machine.{chain-append, chain-nil, length-chain}
 use Rattle.model.proofs.Wire.{bits-return}
 use Rattle.model.proofs.Frame.{loadAll, Fits, passings, framed-all, quiet, quiet-sends}
@@ -29,7 +29,7 @@ abbrev afterGap : List Device → Piece → List Device
 afterGap ds p = (runChain ds (lows (p .gap))) .0
 
 -- that frame
-abbrev pieceFrame : Piece → List Line
+abbrev pieceFrame : Piece → List State
 pieceFrame p = frameStates (p .kind) 0 (p .slices) (p .tail)
 
 -- the chain afterwards, and what the last device sends while the frame comes in
@@ -129,18 +129,18 @@ abbrev FitsOne : Part → Command → Own → Registers → Type 0
 FitsOne w c o r = (0 < length (sliceOf w c o)) × (length (sliceOf w c o) ≡ sliceLength r c)
 
 module _ (w : Part) (c : Command) (R Q : Own → Registers → Type 0) where
-  both-load : ((o : Own) (r : Registers) → R o r → Q o (load c (sliceOf w c o) r)) → (os : List Own) (rs : List Registers) → Both R os rs → Both Q os (loadAll c (map (sliceOf w c) os) rs)
+  pairwise-load : ((o : Own) (r : Registers) → R o r → Q o (load c (sliceOf w c o) r)) → (os : List Own) (rs : List Registers) → Pairwise R os rs → Pairwise Q os (loadAll c (map (sliceOf w c) os) rs)
   unfolding loadAll
-  both-load k [] [] b = tt
-  both-load k [] (r ∷ rs) b = absurd b
-  both-load k (o ∷ os) [] b = absurd b
-  both-load k (o ∷ os) (r ∷ rs) b = (k o r (b .0), both-load k os rs (b .1))
+  pairwise-load k [] [] b = tt
+  pairwise-load k [] (r ∷ rs) b = absurd b
+  pairwise-load k (o ∷ os) [] b = absurd b
+  pairwise-load k (o ∷ os) (r ∷ rs) b = (k o r (b .0), pairwise-load k os rs (b .1))
 
-  pub both-fits : ((o : Own) (r : Registers) → R o r → FitsOne w c o r) → (os : List Own) (rs : List Registers) → Both R os rs → Fits c (map (sliceOf w c) os) rs
-  both-fits k [] [] b = tt
-  both-fits k [] (r ∷ rs) b = absurd b
-  both-fits k (o ∷ os) [] b = absurd b
-  both-fits k (o ∷ os) (r ∷ rs) b = (k o r (b .0), both-fits k os rs (b .1))
+  pub pairwise-fits : ((o : Own) (r : Registers) → R o r → FitsOne w c o r) → (os : List Own) (rs : List Registers) → Pairwise R os rs → Fits c (map (sliceOf w c) os) rs
+  pairwise-fits k [] [] b = tt
+  pairwise-fits k [] (r ∷ rs) b = absurd b
+  pairwise-fits k (o ∷ os) [] b = absurd b
+  pairwise-fits k (o ∷ os) (r ∷ rs) b = (k o r (b .0), pairwise-fits k os rs (b .1))
 
 fields-pos : (m b w : ℕ) → 0 < b → 0 < w → 0 < 8 * b * (1 + m) * w
 fields-pos m b w h k =
@@ -217,26 +217,26 @@ afterFrame w os c rs = loadAll c (map (sliceOf w c) os) rs
 abbrev afterFour : Part → List Own → List Registers → List Registers
 afterFour w os rs = afterFrame w os Individual (afterFrame w os Global (afterFrame w os Calibration (afterFrame w os Configuration rs)))
 
-module _ (w : Part) (os : List Own) (rs : List Registers) (b : Both (Ready w) os rs) where
-  pub stage1 : Both (Configured w) os (afterFrame w os Configuration rs)
-  stage1 = both-load w Configuration (Ready w) (Configured w) (to-configured w) os rs b
+module _ (w : Part) (os : List Own) (rs : List Registers) (b : Pairwise (Ready w) os rs) where
+  pub stage1 : Pairwise (Configured w) os (afterFrame w os Configuration rs)
+  stage1 = pairwise-load w Configuration (Ready w) (Configured w) (to-configured w) os rs b
 
-  pub stage2 : Both (Calibrated w) os (afterFrame w os Calibration (afterFrame w os Configuration rs))
-  stage2 = both-load w Calibration (Configured w) (Calibrated w) (to-calibrated w) os _ stage1
+  pub stage2 : Pairwise (Calibrated w) os (afterFrame w os Calibration (afterFrame w os Configuration rs))
+  stage2 = pairwise-load w Calibration (Configured w) (Calibrated w) (to-calibrated w) os _ stage1
 
-  pub stage3 : Both (GlobalWaiting w) os (afterFrame w os Global (afterFrame w os Calibration (afterFrame w os Configuration rs)))
-  stage3 = both-load w Global (Calibrated w) (GlobalWaiting w) (to-global w) os _ stage2
+  pub stage3 : Pairwise (GlobalWaiting w) os (afterFrame w os Global (afterFrame w os Calibration (afterFrame w os Configuration rs)))
+  stage3 = pairwise-load w Global (Calibrated w) (GlobalWaiting w) (to-global w) os _ stage2
 
-  stage4 : Both (AllWaiting w) os (afterFour w os rs)
-  stage4 = both-load w Individual (GlobalWaiting w) (AllWaiting w) (to-all w) os _ stage3
+  stage4 : Pairwise (AllWaiting w) os (afterFour w os rs)
+  stage4 = pairwise-load w Individual (GlobalWaiting w) (AllWaiting w) (to-all w) os _ stage3
 
 module _ (w : Part) (os : List Own) (gap tail : Command → List Bool) where
   sent-one : (c : Command) (R : Own → Registers → Type 0) (ds : List Device) (rs : List Registers) → registersIn ds ≡ rs → length rs < 1024
-      → ((o : Own) (r : Registers) → R o r → FitsOne w c o r) → Both R os rs
+      → ((o : Own) (r : Registers) → R o r → FitsOne w c o r) → Pairwise R os rs
       → sendPiece ds (pieceOf w os gap tail c) ≡ (passings (afterFrame w os c rs), returnOf c (faults c rs) (tail c) ∷ [])
-  sent-one c R ds rs e h k b = piece-law ds rs (pieceOf w os gap tail c) e h (both-fits w c R R k os rs b)
+  sent-one c R ds rs e h k b = piece-law ds rs (pieceOf w os gap tail c) e h (pairwise-fits w c R R k os rs b)
 
-  pub sent-four : (ds : List Device) → length (registersIn ds) < 1024 → Both (Ready w) os (registersIn ds)
+  pub sent-four : (ds : List Device) → length (registersIn ds) < 1024 → Pairwise (Ready w) os (registersIn ds)
       → sendPieces ds (piecesOf w os gap tail) ≡ (passings (afterFour w os (registersIn ds)), returnsOf tail (registersIn ds))
   unfolding piecesOf sendPieces
   sent-four ds h b =
@@ -255,8 +255,8 @@ module _ (w : Part) (os : List Own) (gap tail : Command → List Bool) where
       simp faults-kept at e
 
   -- Restored: after the four frames, any low clocks and a boundary, for a chain in any phases whose devices have the set's part
-  pub restored : (ds : List Device) (last : List Bool) → length (registersIn ds) < 1024 → Both (Ready w) os (registersIn ds)
-      → Both RegistersHold os (registersIn (boundary ((runChain ((sendPieces ds (piecesOf w os gap tail)) .0) (lows last)) .0)))
+  pub restored : (ds : List Device) (last : List Bool) → length (registersIn ds) < 1024 → Pairwise (Ready w) os (registersIn ds)
+      → Pairwise RegistersHold os (registersIn (boundary ((runChain ((sendPieces ds (piecesOf w os gap tail)) .0) (lows last)) .0)))
   restored ds last h b =
       rw (registers-boundary, quiet, sent-four ds h b, registers-passings)
-      (both-map (AllWaiting w) RegistersHold activated (to-holds w) os (afterFour w os (registersIn ds)) (stage4 w os (registersIn ds) b))
+      (pairwise-map (AllWaiting w) RegistersHold activated (to-holds w) os (afterFour w os (registersIn ds)) (stage4 w os (registersIn ds) b))

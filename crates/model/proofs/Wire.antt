@@ -1,4 +1,4 @@
--- Laws of headers, frames and line states: a frame's states are its header's and then the slices and the tail at high load; document 01's
+-- Laws of headers, frames and line states: a frame's states are its header's and then the slices and the tail at high load; the
 -- numbers of line states are the line states. By computing SYNC and the command bits. Assumes nothing.
 use mathlib.Core.Path.{_≡_, refl, ap, _∙_}
 use mathlib.Core.Bool.{Bool, true, false}
@@ -8,7 +8,7 @@ use lib.ListN.{length, length-map, length-append, take, drop, take-append-drop}
 use Rattle.bits.specs.Bits.{bits}
 use Rattle.bits.proofs.Laws.{length-bits}
 use Rattle.parts.specs.Parts.{code}
-use Rattle.parts.specs.Wire.{Line, low, high, dataBit, stateOf, lineOf, lows, highs, sync, commandCount, header, frame, returnOf, clocked}
+use Rattle.parts.specs.Wire.{State, low, high, dataBit, stateCode, stateAt, lows, highs, sync, commandCount, header, frame, returnOf, clocked}
 use Rattle.parts.specs.declared.command.Command.{Command}
 use Rattle.model.specs.Device.{headerStates, frameStates}
 
@@ -55,14 +55,14 @@ pub bits-return : (c : Command) (n : ℕ) (tail : List Bool) → map dataBit (fr
 unfolding frameStates flatten
 bits-return c n tail = bits-clocked (frame c n [] tail)
 
--- ---- document 01's numbers
+-- ---- line states as numbers
 
-line-state : (l : Line) → lineOf (stateOf l) ≡ l
-line-state (low false) = refl
-line-state (low true) = refl
-line-state (high false) = refl
-line-state (high true) = refl
+stateAt-stateCode : (l : State) → stateAt (stateCode l) ≡ l
+stateAt-stateCode (low false) = refl
+stateAt-stateCode (low true) = refl
+stateAt-stateCode (high false) = refl
+stateAt-stateCode (high true) = refl
 
-pub lines-states : (ls : List Line) → map lineOf (map stateOf ls) ≡ ls
-lines-states [] = refl
-lines-states (l ∷ ls) = rw (line-state l, lines-states ls)
+pub map-stateAt-stateCode : (ls : List State) → map stateAt (map stateCode ls) ≡ ls
+map-stateAt-stateCode [] = refl
+map-stateAt-stateCode (l ∷ ls) = rw (stateAt-stateCode l, map-stateAt-stateCode ls)

@@ -1,4 +1,4 @@
--- One device, clock by clock, and a chain of them. Document 01, "One device, clock by clock": registers and a phase, for any part's row.
+-- One device, clock by clock, and a chain of them. docs/RULES.md, "One device, clock by clock": registers and a phase, for any part's row.
 use Prim.Native.Nat.{ℕ, zero, suc, pred, _+_, _*_, _%_}
 use mathlib.Core.Bool.{Bool, true, false, _&&_, cond}
 use mathlib.Core.List.{List, [], _∷_, _++_, map, flatten}
@@ -6,7 +6,7 @@ use lib.Dec.{eqb}
 use lib.ListN.{replicate}
 use Rattle.bits.specs.Bits.{digit, number, split}
 use Rattle.parts.specs.Parts.{Part, multiplex, sliceFields, sliceBits}
-use Rattle.parts.specs.Wire.{Line, low, high, header, frame, clocked}
+use Rattle.parts.specs.Wire.{State, low, high, header, frame, clocked}
 use Rattle.parts.specs.declared.command.Command.{Command}
 use Rattle.parts.specs.declared.command.Command.the-variants.{Individual, Calibration, Global, Configuration}
 use Rattle.model.specs.Lists.{howMany}
@@ -212,21 +212,21 @@ named n =
     (cond (eqb n 63) (taking (count Configuration) 9 []) lost)))
 
 -- the states of a header, and of a frame with these slices: SYNC at low load and the rest at high
-unfoldable pub headerStates : Command → ℕ → List Line
+unfoldable pub headerStates : Command → ℕ → List State
 headerStates c n = clocked (header c n)
 
 -- the line states of a frame with these slices
-unfoldable pub frameStates : Command → ℕ → List (List Bool) → List Bool → List Line
+unfoldable pub frameStates : Command → ℕ → List (List Bool) → List Bool → List State
 frameStates c n slices tail = clocked (frame c n (flatten slices) tail)
 
 -- the last bit of a field has come
-abbrev pub finish : Registers → Field → List Bool → Device × List Line
+abbrev pub finish : Registers → Field → List Bool → Device × List State
 finish r command bs = (at r (named (number bs)), [])
 finish r (count c) bs = (at r (taking (slice c (number bs)) (pred (sliceLength r c)) []), [])
 finish r (slice c n) bs = (at (load c bs r) passing, headerStates c (counted n (fault c r)))
 
 -- one line state
-abbrev pub stepFrom : Registers → Phase → Line → Device × List Line
+abbrev pub stepFrom : Registers → Phase → State → Device × List State
 stepFrom r p (low b) = (at r (hunting ((window p * 2 + digit b) % 256)), [])
 stepFrom r (hunting w) (high b) = (at r (cond (eqb w 0xE8) (taking command 4 (b ∷ [])) lost), [])
 stepFrom r lost (high b) = (at r lost, [])
@@ -235,17 +235,17 @@ stepFrom r (taking f (suc n) got) (high b) = (at r (taking f n (got ++ b ∷ [])
 stepFrom r passing (high b) = (at r passing, high b ∷ [])
 
 -- one line state: the next device, and the states that it sends on
-unfoldable pub stepDevice : Device → Line → Device × List Line
+unfoldable pub stepDevice : Device → State → Device × List State
 stepDevice d l = stepFrom (d .registers) (d .phase) l
 
 -- ---- a device and a chain
 
 -- a device after line states, and all that it sent
-abbrev pub runDevice : Device → List Line → Device × List Line
+abbrev pub runDevice : Device → List State → Device × List State
 runDevice d ls = run stepDevice d ls
 
 -- a chain after line states, and all that its last device sent
-abbrev pub runChain : List Device → List Line → List Device × List Line
+abbrev pub runChain : List Device → List State → List Device × List State
 runChain ds ls = chain stepDevice ds ls
 
 -- a device after a frame boundary

@@ -6,7 +6,7 @@ use mathlib.Core.Bool.{Bool, true, false, _&&_, cond}
 use mathlib.Core.List.{List, _++_, map, flatten}
 use lib.ListN.{length, take}
 use Rattle.parts.specs.Parts.{Part, restoreOrder}
-use Rattle.parts.specs.Wire.{Line, lows, returnOf}
+use Rattle.parts.specs.Wire.{State, lows, returnOf}
 use Rattle.parts.specs.declared.command.Command.{Command}
 use Rattle.parts.specs.declared.command.Command.the-variants.{Individual, Calibration, Global, Configuration}
 use Rattle.model.specs.Device.{Registers, multiplexed, evens, odds, frameStates, faults}
@@ -20,7 +20,7 @@ pub record Piece : Type 0 where
   pub tail : List Bool
 
 -- its line states
-unfoldable pub pieceStates : Piece → List Line
+unfoldable pub pieceStates : Piece → List State
 pieceStates p = lows (p .gap) ++ frameStates (p .kind) 0 (p .slices) (p .tail)
 
 module _ (w : Part) (os : List Own) (gap tail : Command → List Bool) where
@@ -33,7 +33,7 @@ module _ (w : Part) (os : List Own) (gap tail : Command → List Bool) where
   piecesOf = map pieceOf restoreOrder
 
   -- all the states of a restore
-  abbrev pub piecesStates : List Line
+  abbrev pub piecesStates : List State
   piecesStates = flatten (map pieceStates piecesOf)
 
   -- how many states come before a frame's own

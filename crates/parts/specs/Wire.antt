@@ -1,4 +1,4 @@
--- Frames and returns as bits, and as line states. Document 01, "The set and the wire" and "One device, clock by clock".
+-- Frames and returns as bits, and as line states. docs/RULES.md, "The set and the wire" and "One device, clock by clock".
 use Prim.Native.Nat.{ℕ, _+_, _%_}
 use mathlib.Core.Bool.{Bool, cond}
 use mathlib.Core.List.{List, [], _++_, map}
@@ -29,35 +29,35 @@ abbrev pub returnOf : Command → ℕ → List Bool → List Bool
 returnOf c n tail = frame c n [] tail
 
 -- a line state: the data bit at low or at high load
-pub data Line : Type 0 where
-  low high : Bool → Line
+pub data State : Type 0 where
+  low high : Bool → State
 
 -- the data bit of a line state
-abbrev pub dataBit : Line → Bool
+abbrev pub dataBit : State → Bool
 dataBit (low b) = b
 dataBit (high b) = b
 
--- document 01's number of a line state: data bit plus twice the load bit
-abbrev pub stateOf : Line → ℕ
-stateOf (low b) = digit b
-stateOf (high b) = 2 + digit b
+-- the number of a line state: data bit plus twice the load bit
+abbrev pub stateCode : State → ℕ
+stateCode (low b) = digit b
+stateCode (high b) = 2 + digit b
 
 -- the line state of a number; of a number over 3, by its lowest bit, at high load
-abbrev pub lineOf : ℕ → Line
-lineOf s = cond (ltb s 2) (low (eqb (s % 2) 1)) (high (eqb (s % 2) 1))
+abbrev pub stateAt : ℕ → State
+stateAt s = cond (ltb s 2) (low (eqb (s % 2) 1)) (high (eqb (s % 2) 1))
 
 -- bits at low load
-abbrev pub lows : List Bool → List Line
+abbrev pub lows : List Bool → List State
 lows bs = map low bs
 
 -- bits at high load
-abbrev pub highs : List Bool → List Line
+abbrev pub highs : List Bool → List State
 highs bs = map high bs
 
 -- the clocks of a frame or of a header: SYNC at low load and the rest at high
-unfoldable pub clocked : List Bool → List Line
+unfoldable pub clocked : List Bool → List State
 clocked bs = lows (take 8 bs) ++ highs (drop 8 bs)
 
--- the same as document 01's numbers
+-- the same as numbers
 abbrev pub statesOf : List Bool → List ℕ
-statesOf bs = map stateOf (clocked bs)
+statesOf bs = map stateCode (clocked bs)

@@ -1,5 +1,5 @@
 -- Where a device stands in a frame: the phases, their numbers in the record, and how a data bit moves a device on at low load and in the
--- header. Document 01, "One device, clock by clock". A phase's number is its place in this list: hunting, opening, counting, slice,
+-- header. docs/RULES.md, "One device, clock by clock". A phase's number is its place in this list: hunting, opening, counting, slice,
 -- passing, lost.
 use Prim.Native.Nat.{ℕ, _+_, _-_, _*_, _%_}
 use mathlib.Core.Bool.{Bool, true, false, _&&_, cond}

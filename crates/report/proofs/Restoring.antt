@@ -23,7 +23,7 @@ use Rattle.frames.specs.Frames.{toldOf}
 use Rattle.frames.proofs.told.Read.{the-type}
 use Rattle.frames.proofs.Cases.{read-no-byte}
 use Rattle.report.specs.Lines.{trailingLine, partLine, frameLine}
-use Rattle.report.specs.Report.{frameBits, answerOf, isRefused, lineOf, laterCommands, linesOf, configurationOf, behind, allLines, reportOf}
+use Rattle.report.specs.Report.{frameSize, answerOf, isRefused, lineOf, laterCommands, linesOf, configurationOf, behind, allLines, reportOf}
 use Rattle.report.specs.declared.arguments.Asked.{Asked}
 use Rattle.report.specs.declared.arguments.Asked.the-variants as A
 use Rattle.report.proofs.Putting as put
@@ -36,7 +36,7 @@ module _ (part devices configuration : ℕ) (input : List ℕ) where
 
   -- the line of one frame, for which the reader answers `answer`, and those of the next
   pub lines-step : (place from : ℕ) (c : Command) (answer : Read) (n : ℕ) → place < 3 → c ≡ getD laterCommands place Individual
-      → n ≡ frameBits (toldOf part devices c configuration) → answer ≡ answerOf (toldOf part devices c configuration) (drop from input)
+      → n ≡ frameSize (toldOf part devices c configuration) → answer ≡ answerOf (toldOf part devices c configuration) (drop from input)
       → linesFrom place from ≡ frameLine c n answer ++ cond (isRefused answer) [] (linesFrom (place + 1) (from + bytesFor n))
   unfolding linesOf
   lines-step place from c answer n h e f g =
@@ -45,12 +45,12 @@ module _ (part devices configuration : ℕ) (input : List ℕ) where
       ap (λ (cs : List Command). linesOf part devices configuration cs (drop from input))
       (drop-cons laterCommands place Individual h ∙ ap₂ (λ (k : Command) (m : ℕ). k ∷ drop m laterCommands) (sym e) (sym (add-one place)))
       ∙ ap (λ (l : List ℕ). lineOf t r ++ cond (isRefused r) [] (linesOf part devices configuration (drop (place + 1) laterCommands) l))
-      (drop-drop (bytesFor (frameBits t)) from input)
+      (drop-drop (bytesFor (frameSize t)) from input)
       ∙ ap₂ (λ (a : Read) (m : ℕ). frameLine c m a ++ cond (isRefused a) [] (linesFrom (place + 1) (from + bytesFor m))) (sym g) (sym f)
 
   -- the same, refused and accepted
   pub lines-refused : (place from : ℕ) (c : Command) (answer : Read) (n : ℕ) → place < 3 → c ≡ getD laterCommands place Individual
-      → n ≡ frameBits (toldOf part devices c configuration) → answer ≡ answerOf (toldOf part devices c configuration) (drop from input)
+      → n ≡ frameSize (toldOf part devices c configuration) → answer ≡ answerOf (toldOf part devices c configuration) (drop from input)
       → isRefused answer ≡ true → linesFrom place from ≡ frameLine c n answer
   lines-refused place from c answer n h e f g r =
       lines-step place from c answer n h e f g
@@ -58,7 +58,7 @@ module _ (part devices configuration : ℕ) (input : List ℕ) where
       ∙ append-nil (frameLine c n answer)
 
   pub lines-accepted : (place from : ℕ) (c : Command) (answer : Read) (n : ℕ) → place < 3 → c ≡ getD laterCommands place Individual
-      → n ≡ frameBits (toldOf part devices c configuration) → answer ≡ answerOf (toldOf part devices c configuration) (drop from input)
+      → n ≡ frameSize (toldOf part devices c configuration) → answer ≡ answerOf (toldOf part devices c configuration) (drop from input)
       → isRefused answer ≡ false → linesFrom place from ≡ frameLine c n answer ++ linesFrom (place + 1) (from + bytesFor n)
   lines-accepted place from c answer n h e f g r =
       lines-step place from c answer n h e f g
@@ -76,7 +76,7 @@ module _ (part devices configuration : ℕ) (input : List ℕ) where
 -- the lines of all four frames
 module _ (part devices : ℕ) (input : List ℕ) where
   -- where the reader gives no byte
-  pub all-refused : (answer : Read) (n : ℕ) → n ≡ frameBits (configurationOf part devices) → OneOf (1 ∷ 2 ∷ 3 ∷ []) (tagOf the-type answer)
+  pub all-refused : (answer : Read) (n : ℕ) → n ≡ frameSize (configurationOf part devices) → OneOf (1 ∷ 2 ∷ 3 ∷ []) (tagOf the-type answer)
       → frameLine Configuration n answer ≡ allLines part devices input answer
   unfolding allLines
   all-refused answer n e h =
@@ -84,7 +84,7 @@ module _ (part devices : ℕ) (input : List ℕ) where
       ∙ read-no-byte (λ r. lineOf (configurationOf part devices) r ≡ allLines part devices input r) (λ k. refl) (λ k. refl) (λ k. refl) answer h
 
   -- where it gives one
-  pub all-accepted : (b n : ℕ) (rest : List ℕ) → n ≡ frameBits (configurationOf part devices) → rest ≡ drop (bytesFor n) input
+  pub all-accepted : (b n : ℕ) (rest : List ℕ) → n ≡ frameSize (configurationOf part devices) → rest ≡ drop (bytesFor n) input
       → partLine part devices (multiplex b) ++ (frameLine Configuration n (R.Byte b) ++ linesOf part devices b laterCommands rest) ≡ allLines part devices input (R.Byte b)
   unfolding allLines
   all-accepted b n rest f g =
@@ -104,7 +104,7 @@ length-linesOf part devices configuration (c ∷ cs) input =
     let t = toldOf part devices c configuration in
     let r = answerOf t input in
     let next = linesOf part devices configuration cs (behind t input) in
-    longer (lineOf t r) next (isRefused r) (length cs) (put.length-frameLine c (frameBits t) r)
+    longer (lineOf t r) next (isRefused r) (length cs) (put.length-frameLine c (frameSize t) r)
     (length-linesOf part devices configuration cs (behind t input)) where
       longer : (line next : List ℕ) (b : Bool) (n : ℕ) → length line ≤ 96 → length next ≤ 96 * n + 19 → length (line ++ cond b [] next) ≤ 96 * suc n + 19
       longer line next true n h k = omega (arith, length-append line [])
@@ -121,12 +121,12 @@ length-allLines part devices input (R.Byte b) =
       length-append (partLine part devices (multiplex b)) (line ++ rest),
       length-append line rest,
       put.length-partLine part devices (multiplex b),
-      put.length-frameLine Configuration (frameBits t) (R.Byte b),
+      put.length-frameLine Configuration (frameSize t) (R.Byte b),
       length-linesOf part devices b laterCommands (behind t input),
     )
-length-allLines part devices input (R.Bytes n) = omega (arith, put.length-frameLine Configuration (frameBits (configurationOf part devices)) (R.Bytes n))
-length-allLines part devices input (R.Values n) = omega (arith, put.length-frameLine Configuration (frameBits (configurationOf part devices)) (R.Values n))
-length-allLines part devices input (R.Refused n) = omega (arith, put.length-frameLine Configuration (frameBits (configurationOf part devices)) (R.Refused n))
+length-allLines part devices input (R.Bytes n) = omega (arith, put.length-frameLine Configuration (frameSize (configurationOf part devices)) (R.Bytes n))
+length-allLines part devices input (R.Values n) = omega (arith, put.length-frameLine Configuration (frameSize (configurationOf part devices)) (R.Values n))
+length-allLines part devices input (R.Refused n) = omega (arith, put.length-frameLine Configuration (frameSize (configurationOf part devices)) (R.Refused n))
 
 -- every report fits the buffer that it is put into
 length-reportOf : (asked : Asked) (input : List ℕ) → length (reportOf asked input) ≤ 640

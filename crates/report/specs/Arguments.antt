@@ -1,4 +1,4 @@
--- The program's two arguments, part and N, as texts: a missing argument is the empty text. Document 01, "The bench program".
+-- The program's two arguments, part and N, as texts: a missing argument is the empty text. docs/RULES.md, "The bench program".
 -- A decimal is one digit or more and nothing else: no sign and no blank; zeros in front count for nothing. A number over 65,535 is
 -- read as 65,535, which is neither a part nor an N.
 use Prim.Native.Nat.{ℕ, _+_, _-_, _*_, _^_, min}

@@ -1,4 +1,4 @@
--- The lines of the bench program, as the bytes of their text (ASCII), and a text in a lent buffer. Document 01, "The bench program".
+-- The lines of the bench program, as the bytes of their text (ASCII), and a text in a lent buffer. docs/RULES.md, "The bench program".
 use Prim.Native.Nat.{ℕ, zero, suc, _+_, _/_, _%_}
 use mathlib.Core.Bool.{cond}
 use mathlib.Core.List.{List, [], _∷_, _++_}

@@ -1,6 +1,6 @@
 -- The whole report: what the bench program writes for what its arguments ask and for its standard input, which is four frames without
 -- tails back to back in restore order. Each frame is what stands at the front of the input, at the length that it should have, and is
--- read by the frame reader. Document 01, "The bench program".
+-- read by the frame reader. docs/RULES.md, "The bench program".
 use Prim.Native.Nat.{ℕ, _+_}
 use mathlib.Core.Bool.{Bool, true, false, cond}
 use mathlib.Core.List.{List, [], _∷_, _++_}
@@ -20,16 +20,16 @@ use Rattle.report.specs.declared.arguments.Asked.{Asked}
 use Rattle.report.specs.declared.arguments.Asked.the-variants as A
 
 -- the bits that a frame should have: header and slices
-abbrev pub frameBits : Told → ℕ
-frameBits t = 24 + slicesBits t
+abbrev pub frameSize : Told → ℕ
+frameSize t = 24 + slicesBits t
 
 -- the frame at the front of the input
 abbrev pub frontOf : Told → List ℕ → List ℕ
-frontOf t input = take (bytesFor (frameBits t)) input
+frontOf t input = take (bytesFor (frameSize t)) input
 
 -- the input behind it
 abbrev pub behind : Told → List ℕ → List ℕ
-behind t input = drop (bytesFor (frameBits t)) input
+behind t input = drop (bytesFor (frameSize t)) input
 
 -- what the reader answers for it, with room for the values of 512 devices
 unfoldable pub answerOf : Told → List ℕ → Read
@@ -44,7 +44,7 @@ isRefused (R.Values n) = false
 
 -- its line
 abbrev pub lineOf : Told → Read → List ℕ
-lineOf t answer = frameLine (t .command) (frameBits t) answer
+lineOf t answer = frameLine (t .command) (frameSize t) answer
 
 -- the frames behind the configuration frame, in restore order
 abbrev pub laterCommands : List Command

@@ -14,7 +14,7 @@ pub enum Parsed {
 pub enum Asked {
     // a part and a number of devices
     Chain(u16, u16),
-    // document 01's number
+    // the refusal's number
     Refused(u8),
 }
 

@@ -3,16 +3,16 @@ ghost use mathlib.Core.Path.{_≡_};
 ghost use Prim.Native.Nat.{_<_};
 ghost use lib.ListN.{getD, take, drop};
 ghost use Rattle.parts.specs.declared.command.Command.the-variants as C;
-ghost use Rattle.report.specs.Report.{frameBits, answerOf, isRefused, laterCommands};
+ghost use Rattle.report.specs.Report.{frameSize, answerOf, isRefused, laterCommands};
 use frames::Read;
 use frames::Tail;
 use frames::Told;
 use parts::Command;
 
 // The bits that a frame should have.
-pub fn frame_bits(told: Told) -> usize
+pub fn frame_size(told: Told) -> usize
     requires { ⌜ told .devices < 65536 ⌝ }
-    ensures { λ r. ⌜ r ≡ frameBits told ⌝ }
+    ensures { λ r. ⌜ r ≡ frameSize told ⌝ }
     ensures { λ r. ⌜ r < 4294967296 ⌝ }
 {
     let command = told.command;
@@ -31,7 +31,7 @@ pub fn read_front(told: Told, input: &[u8]) -> Read
         number: 0,
         length: 0,
     };
-    let long = (frame_bits(told) + 7) / 8;
+    let long = (frame_size(told) + 7) / 8;
     frames::read(told, tail, front(input, long), &mut bytes, &mut values)
 }
 

@@ -12,7 +12,7 @@ use crate::lines::put_refused;
 use crate::lines::put_trailing;
 use crate::reading::back;
 use crate::reading::command_at;
-use crate::reading::frame_bits;
+use crate::reading::frame_size;
 use crate::reading::is_refused;
 use crate::reading::read_front;
 use frames::Read;
@@ -42,7 +42,7 @@ fn put_all(part: u16, devices: u16, input: &[u8], out: &mut [u8]) -> usize
         command: Command::Configuration,
         configuration: 0,
     };
-    let bits = frame_bits(told);
+    let bits = frame_size(told);
     let answer = read_front(told, input);
     let Read::Byte(configuration) = answer else {
         return put_frame(Command::Configuration, bits, answer, out, 0);
@@ -82,7 +82,7 @@ fn put_rest(
             command,
             configuration,
         };
-        let bits = frame_bits(told);
+        let bits = frame_size(told);
         let answer = read_front(told, back(input, from));
         end = put_frame(command, bits, answer, out, end);
         if is_refused(answer) {

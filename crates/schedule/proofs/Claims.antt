@@ -1,4 +1,4 @@
--- Document 01's "Light" for each part, configuration and global byte, as statements about what the questions answer. They follow from the
+-- "Light" of docs/RULES.md for each part, configuration and global byte, as statements about what the questions answer. They follow from the
 -- laws of Subframes and Lit, which hold for any S, level and row. Assumes nothing.
 use mathlib.Core.Path.{_≡_, refl, sym, ap, ap₂, _∙_}
 use mathlib.Core.Bool.{Bool, true, false, cond}

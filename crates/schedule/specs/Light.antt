@@ -1,4 +1,4 @@
--- Document 01, "Light": which subframes of a frame are ON, the lead of a window of subframes, and the clocks at which an output is lit.
+-- docs/RULES.md, "Light": which subframes of a frame are ON, the lead of a window of subframes, and the clocks at which an output is lit.
 -- A frame has S subframes and a level g below S; a subframe has P clocks, of which the first and last e are the edge zones.
 -- All is said for any S and g, any row and any configuration. Lit clocks are said twice, clock by clock and as one run; that these agree,
 -- and every other closed form, is a law (proofs/).

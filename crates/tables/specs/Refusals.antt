@@ -1,4 +1,4 @@
--- A refusal: rows of a number and a test, in the order of document 01's table. The first row whose test holds gives the number; 0 says
+-- A refusal: rows of a number and a test, in the order of the table of docs/RULES.md. The first row whose test holds gives the number; 0 says
 -- that none does. Every operation's refusals are such a table. That the number given is the lowest that applies is in proofs/Rows.
 use Prim.Native.Nat.{ℕ, _≤_}
 use mathlib.Core.Path.{_≡_}

@@ -15,8 +15,8 @@ use Rattle.device.specs.declared.device.Device.{Device}
 use Rattle.phases.specs.Phases.{phaseOf}
 use Rattle.phases.proofs.phase.Phase as P
 use Rattle.phases.proofs.phase.Sent as S
-use Rattle.turns.specs.Front.{isLost, roamed, roamTaken, afterHeader, lowTaken, facing, aimed, frontAfter, lineCursor, leaving, passedTo}
-use Rattle.turns.specs.declared.states.Roamed.{Roamed}
+use Rattle.turns.specs.Front.{isLost, phaseRun, phaseTaken, afterHeader, lowTaken, turnByState, nextTurn, frontAfter, leaveCursor, leaving, passedTo}
+use Rattle.turns.specs.declared.front.PhaseRun.{PhaseRun}
 use Rattle.turns.specs.declared.cursor.Cursor.{Cursor}
 
 -- no header
@@ -31,17 +31,17 @@ afterHeader-none d Nothing h = refl
 afterHeader-none d (One s) h = refl
 afterHeader-none d (Header c n) h = absurd (not-last h)
 
-pub lowTaken-none : (d : Device) (p : Sent) (ss : List ℕ) (i : ℕ) (q : Roamed) → NoHeader p → q ≡ roamed (phaseOf (d .place)) ss i → roamTaken d q ≡ lowTaken d p ss i
-lowTaken-none d Nothing ss i q h e = ap (roamTaken d) e
-lowTaken-none d (One s) ss i q h e = ap (roamTaken d) e
+pub lowTaken-none : (d : Device) (p : Sent) (ss : List ℕ) (i : ℕ) (q : PhaseRun) → NoHeader p → q ≡ phaseRun (phaseOf (d .place)) ss i → phaseTaken d q ≡ lowTaken d p ss i
+lowTaken-none d Nothing ss i q h e = ap (phaseTaken d) e
+lowTaken-none d (One s) ss i q h e = ap (phaseTaken d) e
 lowTaken-none d (Header c n) ss i q h e = absurd (not-last h)
 
-pub aimed-none : (n f at w : ℕ) (p : Sent) (ss : List ℕ) → NoHeader p → facing n f at w ss ≡ aimed n f at w p ss
-aimed-none n f at w Nothing ss h = refl
-aimed-none n f at w (One s) ss h = refl
-aimed-none n f at w (Header c m) ss h = absurd (not-last h)
+pub nextTurn-none : (n f at w : ℕ) (p : Sent) (ss : List ℕ) → NoHeader p → turnByState n f at w ss ≡ nextTurn n f at w p ss
+nextTurn-none n f at w Nothing ss h = refl
+nextTurn-none n f at w (One s) ss h = refl
+nextTurn-none n f at w (Header c m) ss h = absurd (not-last h)
 
-pub lineCursor-none : (p : Sent) (c : Cursor) (ss : List ℕ) (room : ℕ) → NoHeader p → passedTo c ss room ≡ lineCursor p c ss room
+pub lineCursor-none : (p : Sent) (c : Cursor) (ss : List ℕ) (room : ℕ) → NoHeader p → passedTo c ss room ≡ leaveCursor p c ss room
 lineCursor-none Nothing c ss room h = refl
 lineCursor-none (One s) c ss room h = refl
 lineCursor-none (Header k n) c ss room h = absurd (not-last h)

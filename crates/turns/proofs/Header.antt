@@ -24,7 +24,7 @@ use Rattle.phases.specs.declared.phase.Phase.the-variants.{Hunting, Counting, S
 use Rattle.registers.specs.declared.registers.Registers.{Registers}
 use Rattle.device.specs.declared.device.Device.{Device}
 use Rattle.turns.specs.Front.{sliceStart}
-use Rattle.turns.proofs.Lines.{bitStates, header-parts}
+use Rattle.turns.proofs.LeavingStates.{bitStates, header-parts}
 
 -- ---- SYNC
 

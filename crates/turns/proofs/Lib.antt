@@ -1,5 +1,5 @@
 -- Laws under a run of a lent chain.
-pub mod Lines
+pub mod LeavingStates
 pub mod Header
 pub mod Cases
 pub mod Phases

@@ -18,10 +18,10 @@ use Rattle.registers.specs.declared.registers.Registers.{Registers}
 use Rattle.device.specs.declared.device.Device.{Device}
 use Rattle.phases.proofs.Places.{Small, phase-place}
 use Rattle.tables.proofs.Booleans.{cond-both}
-use Rattle.intake.proofs.Lines.{drop-on}
+use Rattle.intake.proofs.Clauses.{drop-on}
 use Rattle.intake.proofs.Phases.{step-high, headed-small}
-use Rattle.turns.specs.Front.{isPassing, isLost, passes, roams, roamStep, roamed}
-use Rattle.turns.specs.declared.states.Roamed.{Roamed}
+use Rattle.turns.specs.Front.{isPassing, isLost, passes, phaseOnly, phaseStep, phaseRun}
+use Rattle.turns.specs.declared.front.PhaseRun.{PhaseRun}
 
 -- ---- a passing record, by its number
 
@@ -44,29 +44,29 @@ passes-number d = go (eqb (d .place .phase) 0) refl (eqb (d .place .phase) 1) re
 
 -- ---- one state
 
-roam-high : (r : Registers) (p : Phase) (s : ℕ) → (inHeader p || isLost p) ≡ true → stepHigh r p s ≡ moved r (headed p (s % 2))
-roam-high r (Hunting w) s e = refl
-roam-high r (Opening a) s e = refl
-roam-high r (Counting c a) s e = refl
-roam-high r (Slice c n t) s e = absurd (true≢false (sym e))
-roam-high r Passing s e = absurd (true≢false (sym e))
-roam-high r Lost s e = refl
+stepHigh-headed : (r : Registers) (p : Phase) (s : ℕ) → (inHeader p || isLost p) ≡ true → stepHigh r p s ≡ moved r (headed p (s % 2))
+stepHigh-headed r (Hunting w) s e = refl
+stepHigh-headed r (Opening a) s e = refl
+stepHigh-headed r (Counting c a) s e = refl
+stepHigh-headed r (Slice c n t) s e = absurd (true≢false (sym e))
+stepHigh-headed r Passing s e = absurd (true≢false (sym e))
+stepHigh-headed r Lost s e = refl
 
 pub step-low : (d : Device) (s : ℕ) → ltb s 2 ≡ true → step d s ≡ moved (d .registers) (heard (phaseOf (d .place)) s)
 step-low d s e = ap (λ (t : Bool). cond t (moved (d .registers) (heard (phaseOf (d .place)) s)) (stepHigh (d .registers) (phaseOf (d .place)) s)) e
 
-pub step-roams : (r : Registers) (p : Phase) (s : ℕ) → Small p → roams p s ≡ true → step (at r p) s ≡ moved r (roamStep p s)
-step-roams r p s h e = go (ltb s 2) refl e
+pub step-phaseOnly : (r : Registers) (p : Phase) (s : ℕ) → Small p → phaseOnly p s ≡ true → step (at r p) s ≡ moved r (phaseStep p s)
+step-phaseOnly r p s h e = go (ltb s 2) refl e
   where
     go : (t : Bool) → ltb s 2 ≡ t → (t || (inHeader p || isLost p)) ≡ true → step (at r p) s ≡ moved r (cond t (heard p s) (headed p (s % 2)))
     go true f g = step-low (at r p) s f ∙ ap (λ (q : Phase). moved r (heard q s)) (phase-place p h)
-    go false f g = step-high r p s h f ∙ roam-high r p s g
+    go false f g = step-high r p s h f ∙ stepHigh-headed r p s g
 
 -- every phase that a state makes has a small window
 pub heard-small : (p : Phase) (s : ℕ) → Small (heard p s)
 heard-small p s = mod-lt (windowOf p * 2 + s) (lit< tt)
 
-pub roamStep-small : (p : Phase) (s : ℕ) → Small p → Small (roamStep p s)
+pub roamStep-small : (p : Phase) (s : ℕ) → Small p → Small (phaseStep p s)
 roamStep-small p s h = cond-both Small (ltb s 2) _ _ (λ _. heard-small p s) (λ _. headed-small p (s % 2) h)
 
 -- and none of them passes
@@ -88,47 +88,47 @@ headed-quiet (Slice c n t) b e = e
 headed-quiet Passing b e = e
 headed-quiet Lost b e = e
 
-roamStep-quiet : (p : Phase) (s : ℕ) → Quiet p → Quiet (roamStep p s)
+roamStep-quiet : (p : Phase) (s : ℕ) → Quiet p → Quiet (phaseStep p s)
 roamStep-quiet p s e = cond-both Quiet (ltb s 2) _ _ (λ _. refl) (λ _. headed-quiet p (s % 2) e)
 
-pub roamed-quiet : (p : Phase) (ss : List ℕ) (i : ℕ) → Quiet p → Quiet (roamed p ss i .phase)
-unfolding roamed
-roamed-quiet p [] i e = e
-roamed-quiet p (s ∷ ss) i e =
-    cond-both (λ (q : Roamed). Quiet (q .phase)) (roams p s) (roamed (roamStep p s) ss (i + 1)) (record { phase = p; at = i })
-    (λ _. roamed-quiet (roamStep p s) ss (i + 1) (roamStep-quiet p s e)) (λ _. e)
+pub phaseRun-quiet : (p : Phase) (ss : List ℕ) (i : ℕ) → Quiet p → Quiet (phaseRun p ss i .phase)
+unfolding phaseRun
+phaseRun-quiet p [] i e = e
+phaseRun-quiet p (s ∷ ss) i e =
+    cond-both (λ (q : PhaseRun). Quiet (q .phase)) (phaseOnly p s) (phaseRun (phaseStep p s) ss (i + 1)) (record { phase = p; at = i })
+    (λ _. phaseRun-quiet (phaseStep p s) ss (i + 1) (roamStep-quiet p s e)) (λ _. e)
 
 -- ---- the loop
 
-pub roamed-low : (p : Phase) (s : ℕ) (ss : List ℕ) (i : ℕ) → ltb s 2 ≡ true → roamed p (s ∷ ss) i ≡ roamed (heard p s) ss (i + 1)
-unfolding roamed
-roamed-low p s ss i e = rw e refl
+pub phaseRun-low : (p : Phase) (s : ℕ) (ss : List ℕ) (i : ℕ) → ltb s 2 ≡ true → phaseRun p (s ∷ ss) i ≡ phaseRun (heard p s) ss (i + 1)
+unfolding phaseRun
+phaseRun-low p s ss i e = rw e refl
 
-pub roamed-end : (p : Phase) (ss : List ℕ) (i k : ℕ) → length ss ≤ i → roamed p (drop i ss) k ≡ record { phase = p; at = k }
-unfolding roamed
-roamed-end p ss i k h = rw (drop-of-length-le ss h) refl
+pub phaseRun-end : (p : Phase) (ss : List ℕ) (i k : ℕ) → length ss ≤ i → phaseRun p (drop i ss) k ≡ record { phase = p; at = k }
+unfolding phaseRun
+phaseRun-end p ss i k h = rw (drop-of-length-le ss h) refl
 
-pub roamed-stop : (p : Phase) (ss : List ℕ) (i k : ℕ) → i < length ss → roams p (getD ss i 0) ≡ false → roamed p (drop i ss) k ≡ record { phase = p; at = k }
-unfolding roamed
-roamed-stop p ss i k h e =
-    ap (λ (xs : List ℕ). roamed p xs k) (drop-on ss i h)
-    ∙ ap (λ (t : Bool). cond t (roamed (roamStep p (getD ss i 0)) (drop (i + 1) ss) (k + 1)) (record { phase = p; at = k })) e
+pub phaseRun-stop : (p : Phase) (ss : List ℕ) (i k : ℕ) → i < length ss → phaseOnly p (getD ss i 0) ≡ false → phaseRun p (drop i ss) k ≡ record { phase = p; at = k }
+unfolding phaseRun
+phaseRun-stop p ss i k h e =
+    ap (λ (xs : List ℕ). phaseRun p xs k) (drop-on ss i h)
+    ∙ ap (λ (t : Bool). cond t (phaseRun (phaseStep p (getD ss i 0)) (drop (i + 1) ss) (k + 1)) (record { phase = p; at = k })) e
 
-pub roamed-next : (p : Phase) (ss : List ℕ) (i k : ℕ) → i < length ss → roams p (getD ss i 0) ≡ true → roamed p (drop i ss) k ≡ roamed (roamStep p (getD ss i 0)) (drop (i + 1) ss) (k + 1)
-unfolding roamed
-roamed-next p ss i k h e =
-    ap (λ (xs : List ℕ). roamed p xs k) (drop-on ss i h)
-    ∙ ap (λ (t : Bool). cond t (roamed (roamStep p (getD ss i 0)) (drop (i + 1) ss) (k + 1)) (record { phase = p; at = k })) e
+pub phaseRun-next : (p : Phase) (ss : List ℕ) (i k : ℕ) → i < length ss → phaseOnly p (getD ss i 0) ≡ true → phaseRun p (drop i ss) k ≡ phaseRun (phaseStep p (getD ss i 0)) (drop (i + 1) ss) (k + 1)
+unfolding phaseRun
+phaseRun-next p ss i k h e =
+    ap (λ (xs : List ℕ). phaseRun p xs k) (drop-on ss i h)
+    ∙ ap (λ (t : Bool). cond t (phaseRun (phaseStep p (getD ss i 0)) (drop (i + 1) ss) (k + 1)) (record { phase = p; at = k })) e
 
 -- it stays within the states
-pub record Along (ss : List ℕ) (i : ℕ) (q : Roamed) : Type 0 where
+pub record Along (ss : List ℕ) (i : ℕ) (q : PhaseRun) : Type 0 where
   pub starts : i ≤ q .at
   pub ends : q .at ≤ i + length ss
 
-pub roamed-along : (p : Phase) (ss : List ℕ) (i : ℕ) → Along ss i (roamed p ss i)
-unfolding roamed
-roamed-along p [] i = record { starts = omega arith; ends = omega arith }
-roamed-along p (s ∷ ss) i =
-    let next : Along ss (i + 1) (roamed (roamStep p s) ss (i + 1)) = roamed-along (roamStep p s) ss (i + 1) in
-    cond-both (Along (s ∷ ss) i) (roams p s) (roamed (roamStep p s) ss (i + 1)) (record { phase = p; at = i })
+pub phaseRun-along : (p : Phase) (ss : List ℕ) (i : ℕ) → Along ss i (phaseRun p ss i)
+unfolding phaseRun
+phaseRun-along p [] i = record { starts = omega arith; ends = omega arith }
+phaseRun-along p (s ∷ ss) i =
+    let next : Along ss (i + 1) (phaseRun (phaseStep p s) ss (i + 1)) = phaseRun-along (phaseStep p s) ss (i + 1) in
+    cond-both (Along (s ∷ ss) i) (phaseOnly p s) (phaseRun (phaseStep p s) ss (i + 1)) (record { phase = p; at = i })
     (λ _. record { starts = omega (arith, next .starts); ends = omega (arith, next .ends) }) (λ _. record { starts = omega arith; ends = omega arith })

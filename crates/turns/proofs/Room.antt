@@ -34,7 +34,7 @@ use Rattle.tables.proofs.Booleans.{and-both, cond-both}
 use Rattle.calls.specs.Chain.{through, allFit}
 use Rattle.calls.proofs.Accepted.{Accepted}
 use Rattle.turns.specs.Front.{isPassing, passes}
-use Rattle.turns.proofs.Lines.{header-is, length-header-states}
+use Rattle.turns.proofs.LeavingStates.{header-is, length-header-states}
 use Rattle.turns.proofs.Taking.{passer, Fine, on, ends, passes-at, fine-low, fine-step}
 use Rattle.turns.proofs.Turns.{no-way}
 

@@ -29,11 +29,11 @@ use Rattle.intake.specs.Intake.{stopped, highTaken}
 use Rattle.intake.specs.declared.taken.Taken.{Taken}
 use Rattle.calls.specs.Chain.{through, allFit, blank}
 use Rattle.turns.specs.declared.cursor.Cursor.{Cursor}
-use Rattle.turns.specs.Front.{isPassing, passes, roamed, roamTaken, frontTaken, sliceStart, deviceTaken, putAll, putEnd, highs, indexOf, cursor, facing, aimed, frontAfter, lineCursor, lineOut, deviceTurn, turnedOut, Running, turning, turns, started, enough, frontRun, Turned}
-use Rattle.turns.proofs.Lines.{put-full, length-put, put-append, highs-fit, length-header-states}
+use Rattle.turns.specs.Front.{isPassing, passes, phaseRun, phaseTaken, frontTaken, sliceStart, deviceTaken, putAll, putEnd, highCount, indexOf, cursor, turnByState, nextTurn, frontAfter, leaveCursor, leaveOut, deviceTurn, turnedOut, Running, turning, turns, started, enough, frontRun, Turned}
+use Rattle.turns.proofs.LeavingStates.{put-full, length-put, put-append, highCount-fit, length-header-states}
 use Rattle.turns.proofs.Header.{run-header}
 use Rattle.turns.proofs.Taking.{by-test, High, AllPass, none, also, passer, through-high, Takes, takes-none, takes, takes-low, Ending, quiet, sent, endings, ending-low}
-use Rattle.turns.proofs.Turns.{no-way, owed, low-front, lineTurn, turnWithin, turned-is, turned-out-is, Good, measure, good-start, good-next, nearer-next, turns-on, turns-stop, near-start}
+use Rattle.turns.proofs.Turns.{no-way, owed, low-front, leaveTurn, turnWithin, turned-is, turned-out-is, Good, measure, good-start, good-next, nearer-next, turns-on, turns-stop, near-start}
 use Rattle.tables.proofs.Booleans.{and-left}
 
 abbrev Whole : Type 0
@@ -115,7 +115,7 @@ Small (One b) = Unit {0}
 Small (Header c n) = n < 1024
 
 module _ (ss : List ℕ) (fin : List Device × (List ℕ × ℕ)) where
-  record Holds (ys : List Device) (ws : List ℕ) (f at w : ℕ) (p : Sent) : Type 0 where
+  record Invariant (ys : List Device) (ws : List ℕ) (f at w : ℕ) (p : Sent) : Type 0 where
     pub ps : List Device
     pub qs : List Device
     pub split : ys ≡ ps ++ qs
@@ -152,13 +152,13 @@ module _ (ss : List ℕ) (fin : List Device × (List ℕ × ℕ)) where
     pub out : wrote ws w (joined (through ps (drop at ss)) (d ∷ qs) ins .1) ≡ fin .1
 
   -- the front device became t's
-  HoldsTaken : Front → Taken → Type 0
-  HoldsTaken b t = Holds (set (b .ps ++ b .d ∷ b .qs) (b .f) (t .device)) (b .ws) (frontAfter (b .f) (t .sent)) (t .at) (b .w) (t .sent)
+  InvariantTaken : Front → Taken → Type 0
+  InvariantTaken b t = Invariant (set (b .ps ++ b .d ∷ b .qs) (b .f) (t .device)) (b .ws) (frontAfter (b .f) (t .sent)) (t .at) (b .w) (t .sent)
 
   -- it becomes e and sends nothing
   stays : (low : Bool) (b : Front) (d0 e : Device) (k : ℕ) → (low ≡ true → b .ps ≡ []) → Neat e → run (b .d) (b .ins) ≡ (d0, [])
-      → Takes low d0 (drop (b .at) ss) (b .at) (stopped e k Nothing) → HoldsTaken b (stopped e k Nothing)
-  unfolding HoldsTaken Small
+      → Takes low d0 (drop (b .at) ss) (b .at) (stopped e k Nothing) → InvariantTaken b (stopped e k Nothing)
+  unfolding InvariantTaken Small
   stays low b d0 e k z ne h x =
       let m : joined (through (b .ps) (drop (b .at) ss)) (b .d ∷ b .qs) (b .ins) ≡ joined (through (b .ps) (drop k ss)) (e ∷ b .qs) [] =
       takes-on low (b .ps) (b .qs) (b .d) d0 (b .ins) (drop (b .at) ss) (b .at) (stopped e k Nothing) (b .passing) z h x ∙ sym (here (through (b .ps) (x .rest)) e (b .qs))
@@ -176,8 +176,8 @@ module _ (ss : List ℕ) (fin : List Device × (List ℕ × ℕ)) where
       }
 
   after : (low : Bool) (b : Front) (d0 : Device) (t : Taken) → (low ≡ true → b .ps ≡ []) → run (b .d) (b .ins) ≡ (d0, [])
-      → Takes low d0 (drop (b .at) ss) (b .at) t → Ending t → HoldsTaken b t
-  unfolding HoldsTaken Small
+      → Takes low d0 (drop (b .at) ss) (b .at) t → Ending t → InvariantTaken b t
+  unfolding InvariantTaken Small
   after low b d0 t z h x (quiet {d = e} {k} p) = stays low b d0 e k z (λ q. absurd (true≢false (sym q ∙ p))) h x
   after low b d0 t z h x (sent {r} {k} {c} {n} few) =
       let more : List Device = b .ps ++ (passer r ∷ []) in
@@ -206,8 +206,8 @@ module _ (ss : List ℕ) (fin : List Device × (List ℕ × ℕ)) where
   not-low ps e = absurd (true≢false (sym e))
 
   -- a passing device moves the front on
-  hands-on : (b : Front) → b .ins ≡ [] → b .d ≡ passer (b .d .registers) → HoldsTaken b (stopped (b .d) (b .at) (One 0))
-  unfolding HoldsTaken Small
+  hands-on : (b : Front) → b .ins ≡ [] → b .d ≡ passer (b .d .registers) → InvariantTaken b (stopped (b .d) (b .at) (One 0))
+  unfolding InvariantTaken Small
   hands-on b i g =
       let A : Whole = through (b .ps) (drop (b .at) ss) in
       let more : List Device = b .ps ++ (b .d ∷ []) in
@@ -227,14 +227,14 @@ module _ (ss : List ℕ) (fin : List Device × (List ℕ × ℕ)) where
 
   -- no header is under way
   fronts : (b : Front) (rest : List ℕ) → b .ins ≡ [] → drop (b .at) ss ≡ rest → ((s : ℕ) (xs : List ℕ) → rest ≡ s ∷ xs → ltb s 2 ≡ true → b .f ≡ 0)
-      → HoldsTaken b (frontTaken (b .d) rest (b .at))
+      → InvariantTaken b (frontTaken (b .d) rest (b .at))
   fronts b [] i e z = stays false b (b .d) (b .d) (b .at) (not-low (b .ps)) (b .neat .0) (nothing-in (b .d) (b .ins) i) (takes-none false (b .d) (drop (b .at) ss) (b .at))
   fronts b (s ∷ xs) i e z = go (ltb s 2) refl (passes (b .d)) refl
     where
       go : (low : Bool) → ltb s 2 ≡ low → (p : Bool) → passes (b .d) ≡ p
-          → HoldsTaken b (cond low (roamTaken (b .d) (roamed (phaseOf (b .d .place)) (s ∷ xs) (b .at))) (cond p (stopped (b .d) (b .at) (One 0)) (highTaken (b .d) (s ∷ xs) (b .at))))
+          → InvariantTaken b (cond low (phaseTaken (b .d) (phaseRun (phaseOf (b .d .place)) (s ∷ xs) (b .at))) (cond p (stopped (b .d) (b .at) (One 0)) (highTaken (b .d) (s ∷ xs) (b .at))))
       go true h p g =
-          let t = roamTaken (b .d) (roamed (phaseOf (b .d .place)) (s ∷ xs) (b .at)) in
+          let t = phaseTaken (b .d) (phaseRun (phaseOf (b .d .place)) (s ∷ xs) (b .at)) in
           after true b (b .d) t (λ _. no-more (b .ps) (b .count ∙ z s xs refl h)) (nothing-in (b .d) (b .ins) i)
           (subst (λ (r : List ℕ). Takes true (b .d) r (b .at) t) (sym e) (takes-low (b .d) s xs (b .at) h)) (ending-low (b .d) s xs (b .at) h)
       go false h true g = hands-on b i (b .neat .0 g)
@@ -246,7 +246,7 @@ module _ (ss : List ℕ) (fin : List Device × (List ℕ × ℕ)) where
   -- whatever is under way
   serves : (b : Front) (p : Sent) → b .ins ≡ underWay p → Small p
       → ((s : ℕ) (xs : List ℕ) → drop (b .at) ss ≡ s ∷ xs → owed p ≡ 0 → ltb s 2 ≡ true → b .f ≡ 0)
-      → HoldsTaken b (deviceTaken (b .d) p (drop (b .at) ss) (b .at))
+      → InvariantTaken b (deviceTaken (b .d) p (drop (b .at) ss) (b .at))
   unfolding Small
   serves b Nothing i k z = fronts b (drop (b .at) ss) i refl (λ s xs e h. z s xs e refl h)
   serves b (One x) i k z = fronts b (drop (b .at) ss) i refl (λ s xs e h. z s xs e refl h)
@@ -255,8 +255,8 @@ module _ (ss : List ℕ) (fin : List Device × (List ℕ × ℕ)) where
       after false b d0 (highTaken d0 (drop (b .at) ss) (b .at)) (not-low (b .ps)) (ap (run (b .d)) i ∙ run-header (b .d) c n k)
       (takes d0 (drop (b .at) ss) (b .at)) (endings d0 (drop (b .at) ss) (b .at) refl)
 
-  -- ---- the cursor is aimed
-  reset : (ys : List Device) (ws : List ℕ) (f at w : ℕ) → Holds ys ws f at w Nothing → Holds ys ws 0 at w Nothing
+  -- ---- the cursor of the next turn
+  reset : (ys : List Device) (ws : List ℕ) (f at w : ℕ) → Invariant ys ws f at w Nothing → Invariant ys ws 0 at w Nothing
   unfolding Small chain
   reset ys ws f at w h =
       let m : joined (through (h .ps) (drop at ss)) (h .qs) [] ≡ through ys (drop at ss) =
@@ -273,23 +273,23 @@ module _ (ss : List ℕ) (fin : List Device × (List ℕ × ℕ)) where
         out = sym (ap (λ (b : Whole). wrote ws w (b .1)) m) ∙ h .out;
       }
 
-  abbrev HoldsAt : List Device → List ℕ → Cursor → Type 0
-  HoldsAt ys ws c = Holds ys ws (c .front) (c .at) (c .written) (c .pending)
+  abbrev InvariantAt : List Device → List ℕ → Cursor → Type 0
+  InvariantAt ys ws c = Invariant ys ws (c .front) (c .at) (c .written) (c .pending)
 
-  facing-holds : (n : ℕ) (ys : List Device) (ws : List ℕ) (f at w : ℕ) (rest : List ℕ) → Holds ys ws f at w Nothing → HoldsAt ys ws (facing n f at w rest)
-  facing-holds n ys ws f at w [] h = h
-  facing-holds n ys ws f at w (s ∷ xs) h = by-test (ltb s 2) (cursor n 0 0 at w Nothing true) (cursor n f (indexOf n f) at w Nothing true) (HoldsAt ys ws) (reset ys ws f at w h) h
+  turnByState-holds : (n : ℕ) (ys : List Device) (ws : List ℕ) (f at w : ℕ) (rest : List ℕ) → Invariant ys ws f at w Nothing → InvariantAt ys ws (turnByState n f at w rest)
+  turnByState-holds n ys ws f at w [] h = h
+  turnByState-holds n ys ws f at w (s ∷ xs) h = by-test (ltb s 2) (cursor n 0 0 at w Nothing true) (cursor n f (indexOf n f) at w Nothing true) (InvariantAt ys ws) (reset ys ws f at w h) h
 
-  one-none : (ys : List Device) (ws : List ℕ) (f at w b : ℕ) → Holds ys ws f at w (One b) → Holds ys ws f at w Nothing
+  one-none : (ys : List Device) (ws : List ℕ) (f at w b : ℕ) → Invariant ys ws f at w (One b) → Invariant ys ws f at w Nothing
   unfolding Small
   one-none ys ws f at w b h = record { ps = h .ps; qs = h .qs; split = h .split; count = h .count; passing = h .passing; neat = h .neat; small = tt; devices = h .devices; out = h .out }
 
-  aim-holds : (n : ℕ) (ys : List Device) (ws : List ℕ) (f at w : ℕ) (p : Sent) (rest : List ℕ) → Holds ys ws f at w p → HoldsAt ys ws (aimed n f at w p rest)
-  aim-holds n ys ws f at w Nothing rest h = facing-holds n ys ws f at w rest h
-  aim-holds n ys ws f at w (One b) rest h = facing-holds n ys ws f at w rest (one-none ys ws f at w b h)
-  aim-holds n ys ws f at w (Header c k) rest h = h
+  nextTurn-holds : (n : ℕ) (ys : List Device) (ws : List ℕ) (f at w : ℕ) (p : Sent) (rest : List ℕ) → Invariant ys ws f at w p → InvariantAt ys ws (nextTurn n f at w p rest)
+  nextTurn-holds n ys ws f at w Nothing rest h = turnByState-holds n ys ws f at w rest h
+  nextTurn-holds n ys ws f at w (One b) rest h = turnByState-holds n ys ws f at w rest (one-none ys ws f at w b h)
+  nextTurn-holds n ys ws f at w (Header c k) rest h = h
 
-  -- ---- the line's turn
+  -- ---- what leaves the chain
   full-or-not : (room w k : ℕ) (P : ℕ → Type 0) → (w + k ≤ room → P (w + k)) → (room < w + k → P room) → P (putEnd room w k)
   full-or-not room w k P a b = go (leb (w + k) room) refl
     where
@@ -324,8 +324,8 @@ module _ (ss : List ℕ) (fin : List Device × (List ℕ × ℕ)) where
   unfolding chain
   last-out a q = refl
 
-  leaves : (ys : List Device) (ws : List ℕ) (f at w : ℕ) (c : Command) (n : ℕ) → (h : Holds ys ws f at w (Header c n)) → h .qs ≡ []
-      → Holds ys (putAll ws w (headerStates c n)) f at (putEnd (length ws) w 24) Nothing
+  leaves : (ys : List Device) (ws : List ℕ) (f at w : ℕ) (c : Command) (n : ℕ) → (h : Invariant ys ws f at w (Header c n)) → h .qs ≡ []
+      → Invariant ys (putAll ws w (headerStates c n)) f at (putEnd (length ws) w 24) Nothing
   unfolding Small
   leaves ys ws f at w c n h e =
       let A : Whole = through (h .ps) (drop at ss) in
@@ -347,31 +347,31 @@ module _ (ss : List ℕ) (fin : List Device × (List ℕ × ℕ)) where
             ∙ sym (wrote-append ws w (headerStates c n) (through (h .ps) (drop at ss) .1) 24 (length-header-states c n)) ∙ sym (ap (λ (b : Whole). wrote ws w (b .1)) m) ∙ h .out;
       }
 
-  highs-high : (xs : List ℕ) → High (take (highs xs) xs)
-  unfolding highs
-  highs-high [] = none
-  highs-high (x ∷ xs) = go (highs-high xs) (ltb x 2) refl
+  highCount-high : (xs : List ℕ) → High (take (highCount xs) xs)
+  unfolding highCount
+  highCount-high [] = none
+  highCount-high (x ∷ xs) = go (highCount-high xs) (ltb x 2) refl
     where
-      go : High (take (highs xs) xs) → (t : Bool) → ltb x 2 ≡ t → High (take (cond t 0 (highs xs + 1)) (x ∷ xs))
+      go : High (take (highCount xs) xs) → (t : Bool) → ltb x 2 ≡ t → High (take (cond t 0 (highCount xs + 1)) (x ∷ xs))
       go r true e = none
-      go r false e = subst (λ (n : ℕ). High (take n (x ∷ xs))) (one (highs xs)) (also e r)
+      go r false e = subst (λ (n : ℕ). High (take n (x ∷ xs))) (one (highCount xs)) (also e r)
         where
           one : (n : ℕ) → suc n ≡ n + 1
           one n = omega arith
 
-  all-pass : (ys : List Device) (ws : List ℕ) (f at w : ℕ) → (h : Holds ys ws f at w Nothing) → h .qs ≡ []
-      → Holds ys (putAll ws w (take (highs (drop at ss)) (drop at ss))) f (at + highs (drop at ss)) (putEnd (length ws) w (highs (drop at ss))) Nothing
+  all-pass : (ys : List Device) (ws : List ℕ) (f at w : ℕ) → (h : Invariant ys ws f at w Nothing) → h .qs ≡ []
+      → Invariant ys (putAll ws w (take (highCount (drop at ss)) (drop at ss))) f (at + highCount (drop at ss)) (putEnd (length ws) w (highCount (drop at ss))) Nothing
   unfolding Small
   all-pass ys ws f at w h e =
       let R : List ℕ = drop at ss in
-      let hs : List ℕ = take (highs (drop at ss)) (drop at ss) in
-      let rest-is : drop (at + highs (drop at ss)) ss ≡ drop (highs (drop at ss)) (drop at ss) = sym (drop-drop (highs (drop at ss)) at ss) in
-      let B : Whole = through (h .ps) (drop (at + highs (drop at ss)) ss) in
-      let whole : drop at ss ≡ hs ++ drop (at + highs (drop at ss)) ss =
-      sym (take-append-drop (highs (drop at ss)) (drop at ss)) ∙ ap (λ (r : List ℕ). take (highs (drop at ss)) (drop at ss) ++ r) (sym rest-is) in
+      let hs : List ℕ = take (highCount (drop at ss)) (drop at ss) in
+      let rest-is : drop (at + highCount (drop at ss)) ss ≡ drop (highCount (drop at ss)) (drop at ss) = sym (drop-drop (highCount (drop at ss)) at ss) in
+      let B : Whole = through (h .ps) (drop (at + highCount (drop at ss)) ss) in
+      let whole : drop at ss ≡ hs ++ drop (at + highCount (drop at ss)) ss =
+      sym (take-append-drop (highCount (drop at ss)) (drop at ss)) ∙ ap (λ (r : List ℕ). take (highCount (drop at ss)) (drop at ss) ++ r) (sym rest-is) in
       let m : joined (through (h .ps) (drop at ss)) (h .qs) [] ≡ (B .0 ++ [], hs ++ B .1) =
       ap (λ (b : List Device). joined (through (h .ps) (drop at ss)) b []) e ∙ last-out (through (h .ps) (drop at ss)) []
-      ∙ ap (λ (a : Whole). (a .0 ++ [], a .1)) (ap (λ (r : List ℕ). through (h .ps) r) whole ∙ through-high (h .ps) hs (drop (at + highs (drop at ss)) ss) (h .passing) (highs-high (drop at ss))) in
+      ∙ ap (λ (a : Whole). (a .0 ++ [], a .1)) (ap (λ (r : List ℕ). through (h .ps) r) whole ∙ through-high (h .ps) hs (drop (at + highCount (drop at ss)) ss) (h .passing) (highCount-high (drop at ss))) in
       let k : joined B (h .qs) [] ≡ (B .0 ++ [], B .1) = ap (λ (b : List Device). joined B b []) e ∙ last-out B [] in
       record {
         ps = h .ps;
@@ -382,18 +382,18 @@ module _ (ss : List ℕ) (fin : List Device × (List ℕ × ℕ)) where
         neat = h .neat;
         small = tt;
         devices = ap (λ (b : Whole). b .0) k ∙ sym (ap (λ (b : Whole). b .0) m) ∙ h .devices;
-        out = ap (λ (b : Whole). wrote (putAll ws w hs) (putEnd (length ws) w (highs (drop at ss))) (b .1)) k
-            ∙ sym (wrote-append ws w hs (B .1) (highs (drop at ss)) (length-take-le (highs (drop at ss)) (drop at ss) (highs-fit (drop at ss))))
+        out = ap (λ (b : Whole). wrote (putAll ws w hs) (putEnd (length ws) w (highCount (drop at ss))) (b .1)) k
+            ∙ sym (wrote-append ws w hs (B .1) (highCount (drop at ss)) (length-take-le (highCount (drop at ss)) (drop at ss) (highCount-fit (drop at ss))))
             ∙ sym (ap (λ (b : Whole). wrote ws w (b .1)) m) ∙ h .out;
       }
 
   -- ---- a whole turn
-  abbrev Aim : ℕ → ℕ → ℕ → ℕ → ℕ → Sent → Bool → List ℕ → Type 0
-  Aim n f i at w p g rest = cursor n f i at w p g ≡ aimed n f at w p rest
+  abbrev NextTurn : ℕ → ℕ → ℕ → ℕ → ℕ → Sent → Bool → List ℕ → Type 0
+  NextTurn n f i at w p g rest = cursor n f i at w p g ≡ nextTurn n f at w p rest
 
-  index-facing : (n f i at w : ℕ) (p : Sent) (g : Bool) (rest : List ℕ) → cursor n f i at w p g ≡ facing n f at w rest → ltb f n ≡ true → g ≡ true → i ≡ f
-  index-facing n f i at w p g [] e l v = absurd (no-way (sym (ap (λ (c : Cursor). c .going) e) ∙ v))
-  index-facing n f i at w p g (s ∷ xs) e l v = go (ltb s 2) refl
+  index-turnByState : (n f i at w : ℕ) (p : Sent) (g : Bool) (rest : List ℕ) → cursor n f i at w p g ≡ turnByState n f at w rest → ltb f n ≡ true → g ≡ true → i ≡ f
+  index-turnByState n f i at w p g [] e l v = absurd (no-way (sym (ap (λ (c : Cursor). c .going) e) ∙ v))
+  index-turnByState n f i at w p g (s ∷ xs) e l v = go (ltb s 2) refl
     where
       go : (t : Bool) → ltb s 2 ≡ t → i ≡ f
       go true h =
@@ -403,21 +403,21 @@ module _ (ss : List ℕ) (fin : List Device × (List ℕ × ℕ)) where
           let q : cursor n f i at w p g ≡ cursor n f (indexOf n f) at w Nothing true = e ∙ ap (λ (t : Bool). cond t (cursor n 0 0 at w Nothing true) (cursor n f (indexOf n f) at w Nothing true)) h in
           ap (λ (c : Cursor). c .index) q ∙ ap (λ (t : Bool). cond t f 0) l
 
-  index-is : (n f i at w : ℕ) (p : Sent) (g : Bool) (rest : List ℕ) → Aim n f i at w p g rest → ltb f n ≡ true → g ≡ true → i ≡ f
-  index-is n f i at w Nothing g rest e l v = index-facing n f i at w Nothing g rest e l v
-  index-is n f i at w (One b) g rest e l v = index-facing n f i at w (One b) g rest e l v
+  index-is : (n f i at w : ℕ) (p : Sent) (g : Bool) (rest : List ℕ) → NextTurn n f i at w p g rest → ltb f n ≡ true → g ≡ true → i ≡ f
+  index-is n f i at w Nothing g rest e l v = index-turnByState n f i at w Nothing g rest e l v
+  index-is n f i at w (One b) g rest e l v = index-turnByState n f i at w (One b) g rest e l v
   index-is n f i at w (Header c m) g rest e l v = ap (λ (c : Cursor). c .index) e ∙ ap (λ (t : Bool). cond t f 0) l
 
-  device-holds : (ys : List Device) (ws : List ℕ) (n f i at w : ℕ) (p : Sent) (g : Bool) → (h : Holds ys ws f at w p) → Aim n f i at w p g (drop at ss) → i ≡ f → (qs : List Device)
+  device-holds : (ys : List Device) (ws : List ℕ) (n f i at w : ℕ) (p : Sent) (g : Bool) → (h : Invariant ys ws f at w p) → NextTurn n f i at w p g (drop at ss) → i ≡ f → (qs : List Device)
       → h .qs ≡ qs → 0 < length qs
-      → HoldsAt (set ys i (deviceTurn (getD ys i blank) (cursor n f i at w p g) ss .device)) ws (deviceTurn (getD ys i blank) (cursor n f i at w p g) ss .cursor)
-  unfolding HoldsTaken
+      → InvariantAt (set ys i (deviceTurn (getD ys i blank) (cursor n f i at w p g) ss .device)) ws (deviceTurn (getD ys i blank) (cursor n f i at w p g) ss .cursor)
+  unfolding InvariantTaken
   device-holds ys ws n f i at w p g h e j [] q l = absurd (omega (arith, l))
   device-holds ys ws n f i at w p g h e j (d ∷ qs) q l =
       let sp : ys ≡ h .ps ++ d ∷ qs = h .split ∙ ap (λ (b : List Device). h .ps ++ b) q in
       let dd : getD ys i blank ≡ d = ap (λ (k : ℕ). getD ys k blank) j ∙ ap (λ (b : List Device). getD b f blank) sp ∙ getD-at (h .ps) d qs blank f (h .count) in
       let t : Taken = deviceTaken d p (drop at ss) at in
-      let served : Holds (set (h .ps ++ d ∷ qs) f (t .device)) ws (frontAfter f (t .sent)) (t .at) w (t .sent) =
+      let served : Invariant (set (h .ps ++ d ∷ qs) f (t .device)) ws (frontAfter f (t .sent)) (t .at) w (t .sent) =
       serves
       (record {
         ps = h .ps;
@@ -434,26 +434,26 @@ module _ (ss : List ℕ) (fin : List Device × (List ℕ × ℕ)) where
         devices = ap (λ (b : List Device). joined (through (h .ps) (drop at ss)) b (underWay p) .0) (sym q) ∙ h .devices;
         out = ap (λ (b : List Device). wrote ws w (joined (through (h .ps) (drop at ss)) b (underWay p) .1)) (sym q) ∙ h .out;
       })
-      p refl (h .small) (λ s xs r k u. low-front n f i at w p g s xs (e ∙ ap (λ (y : List ℕ). aimed n f at w p y) r) k u) in
-      let aims : HoldsAt (set (h .ps ++ d ∷ qs) f (t .device)) ws (deviceTurn d (cursor n f i at w p g) ss .cursor) =
-      aim-holds n (set (h .ps ++ d ∷ qs) f (t .device)) ws (frontAfter f (t .sent)) (t .at) w (t .sent) (drop (t .at) ss) served in
-      subst (λ (x : Device). HoldsAt (set ys i (deviceTurn x (cursor n f i at w p g) ss .device)) ws (deviceTurn x (cursor n f i at w p g) ss .cursor)) (sym dd)
-      (subst (λ (k : ℕ). HoldsAt (set ys k (deviceTurn d (cursor n f i at w p g) ss .device)) ws (deviceTurn d (cursor n f i at w p g) ss .cursor)) (sym j)
-      (subst (λ (b : List Device). HoldsAt (set b f (deviceTurn d (cursor n f i at w p g) ss .device)) ws (deviceTurn d (cursor n f i at w p g) ss .cursor)) (sym sp) aims))
+      p refl (h .small) (λ s xs r k u. low-front n f i at w p g s xs (e ∙ ap (λ (y : List ℕ). nextTurn n f at w p y) r) k u) in
+      let next-holds : InvariantAt (set (h .ps ++ d ∷ qs) f (t .device)) ws (deviceTurn d (cursor n f i at w p g) ss .cursor) =
+      nextTurn-holds n (set (h .ps ++ d ∷ qs) f (t .device)) ws (frontAfter f (t .sent)) (t .at) w (t .sent) (drop (t .at) ss) served in
+      subst (λ (x : Device). InvariantAt (set ys i (deviceTurn x (cursor n f i at w p g) ss .device)) ws (deviceTurn x (cursor n f i at w p g) ss .cursor)) (sym dd)
+      (subst (λ (k : ℕ). InvariantAt (set ys k (deviceTurn d (cursor n f i at w p g) ss .device)) ws (deviceTurn d (cursor n f i at w p g) ss .cursor)) (sym j)
+      (subst (λ (b : List Device). InvariantAt (set b f (deviceTurn d (cursor n f i at w p g) ss .device)) ws (deviceTurn d (cursor n f i at w p g) ss .cursor)) (sym sp) next-holds))
 
-  line-holds : (ys : List Device) (ws : List ℕ) (n f i at w : ℕ) (p : Sent) (g : Bool) → (h : Holds ys ws f at w p) → h .qs ≡ []
-      → HoldsAt ys (lineOut (cursor n f i at w p g) ss ws) (lineCursor p (cursor n f i at w p g) ss (length ws))
+  leave-holds : (ys : List Device) (ws : List ℕ) (n f i at w : ℕ) (p : Sent) (g : Bool) → (h : Invariant ys ws f at w p) → h .qs ≡ []
+      → InvariantAt ys (leaveOut (cursor n f i at w p g) ss ws) (leaveCursor p (cursor n f i at w p g) ss (length ws))
   unfolding one-none
-  line-holds ys ws n f i at w Nothing g h e = aim-holds n ys _ f (at + highs (drop at ss)) _ Nothing (drop (at + highs (drop at ss)) ss) (all-pass ys ws f at w h e)
-  line-holds ys ws n f i at w (One b) g h e =
-      aim-holds n ys _ f (at + highs (drop at ss)) _ Nothing (drop (at + highs (drop at ss)) ss) (all-pass ys ws f at w (one-none ys ws f at w b h) (one-qs ys ws f at w b h e))
+  leave-holds ys ws n f i at w Nothing g h e = nextTurn-holds n ys _ f (at + highCount (drop at ss)) _ Nothing (drop (at + highCount (drop at ss)) ss) (all-pass ys ws f at w h e)
+  leave-holds ys ws n f i at w (One b) g h e =
+      nextTurn-holds n ys _ f (at + highCount (drop at ss)) _ Nothing (drop (at + highCount (drop at ss)) ss) (all-pass ys ws f at w (one-none ys ws f at w b h) (one-qs ys ws f at w b h e))
     where
-      one-qs : (ys : List Device) (ws : List ℕ) (f at w b : ℕ) (h : Holds ys ws f at w (One b)) → h .qs ≡ [] → one-none ys ws f at w b h .qs ≡ []
+      one-qs : (ys : List Device) (ws : List ℕ) (f at w b : ℕ) (h : Invariant ys ws f at w (One b)) → h .qs ≡ [] → one-none ys ws f at w b h .qs ≡ []
       one-qs ys ws f at w b h e = e
-  line-holds ys ws n f i at w (Header c m) g h e = aim-holds n ys _ f at _ Nothing (drop at ss) (leaves ys ws f at w c m h e)
+  leave-holds ys ws n f i at w (Header c m) g h e = nextTurn-holds n ys _ f at _ Nothing (drop at ss) (leaves ys ws f at w c m h e)
 
-  turn-holds : (ys : List Device) (ws : List ℕ) (n f i at w : ℕ) (p : Sent) (g : Bool) → length ys ≡ n → Holds ys ws f at w p → Aim n f i at w p g (drop at ss) → g ≡ true
-      → HoldsAt (set ys i (turnWithin (getD ys i blank) (cursor n f i at w p g) ss (length ws) .device)) (cond (ltb f n) ws (lineOut (cursor n f i at w p g) ss ws))
+  turn-holds : (ys : List Device) (ws : List ℕ) (n f i at w : ℕ) (p : Sent) (g : Bool) → length ys ≡ n → Invariant ys ws f at w p → NextTurn n f i at w p g (drop at ss) → g ≡ true
+      → InvariantAt (set ys i (turnWithin (getD ys i blank) (cursor n f i at w p g) ss (length ws) .device)) (cond (ltb f n) ws (leaveOut (cursor n f i at w p g) ss ws))
       (turnWithin (getD ys i blank) (cursor n f i at w p g) ss (length ws) .cursor)
   turn-holds ys ws n f i at w p g l h e v = go (ltb f n) refl
     where
@@ -461,19 +461,19 @@ module _ (ss : List ℕ) (fin : List Device × (List ℕ × ℕ)) where
       long = sym (length-append (h .ps) (h .qs)) ∙ sym (ap length (h .split)) ∙ l
 
       go : (t : Bool) → ltb f n ≡ t
-          → HoldsAt (set ys i (cond t (deviceTurn (getD ys i blank) (cursor n f i at w p g) ss) (lineTurn (getD ys i blank) (cursor n f i at w p g) ss (length ws)) .device))
-          (cond t ws (lineOut (cursor n f i at w p g) ss ws))
-          (cond t (deviceTurn (getD ys i blank) (cursor n f i at w p g) ss) (lineTurn (getD ys i blank) (cursor n f i at w p g) ss (length ws)) .cursor)
+          → InvariantAt (set ys i (cond t (deviceTurn (getD ys i blank) (cursor n f i at w p g) ss) (leaveTurn (getD ys i blank) (cursor n f i at w p g) ss (length ws)) .device))
+          (cond t ws (leaveOut (cursor n f i at w p g) ss ws))
+          (cond t (deviceTurn (getD ys i blank) (cursor n f i at w p g) ss) (leaveTurn (getD ys i blank) (cursor n f i at w p g) ss (length ws)) .cursor)
       go true q = device-holds ys ws n f i at w p g h e (index-is n f i at w p g (drop at ss) e q v) (h .qs) refl (omega (arith, long, h .count, ltb-true f n q))
       go false q =
-          subst (λ (b : List Device). HoldsAt b (lineOut (cursor n f i at w p g) ss ws) (lineCursor p (cursor n f i at w p g) ss (length ws))) (sym (set-getD ys i blank))
-          (line-holds ys ws n f i at w p g h (no-more (h .qs) (omega (arith, long, h .count, ltb-false f n q))))
+          subst (λ (b : List Device). InvariantAt b (leaveOut (cursor n f i at w p g) ss ws) (leaveCursor p (cursor n f i at w p g) ss (length ws))) (sym (set-getD ys i blank))
+          (leave-holds ys ws n f i at w p g h (no-more (h .qs) (omega (arith, long, h .count, ltb-false f n q))))
 
   -- ---- the end
   abbrev Ended : List Device → List ℕ → ℕ → Type 0
   Ended ys ws w = (ys ≡ fin .0) × ((ws, w) ≡ fin .1)
 
-  ends-empty : (ys : List Device) (ws : List ℕ) (f at w : ℕ) → Holds ys ws f at w Nothing → drop at ss ≡ [] → w ≤ length ws → Ended ys ws w
+  ends-empty : (ys : List Device) (ws : List ℕ) (f at w : ℕ) → Invariant ys ws f at w Nothing → drop at ss ≡ [] → w ≤ length ws → Ended ys ws w
   unfolding putAll
   ends-empty ys ws f at w h e l =
       let m : joined (through (h .ps) (drop at ss)) (h .qs) [] ≡ (h .ps ++ h .qs, []) =
@@ -483,43 +483,43 @@ module _ (ss : List ℕ) (fin : List Device × (List ℕ × ℕ)) where
         ap (λ (k : ℕ). (ws, k)) (full-or-not (length ws) w 0 (λ (k : ℕ). w ≡ k) (λ g. omega arith) (λ g. absurd (omega (arith, g, l)))) ∙ sym (ap (λ (b : Whole). wrote ws w (b .1)) m) ∙ h .out,
       )
 
-  ends-facing : (ys : List Device) (ws : List ℕ) (n f i at w : ℕ) (p : Sent) (g : Bool) (rest : List ℕ) → Holds ys ws f at w Nothing → drop at ss ≡ rest
-      → cursor n f i at w p g ≡ facing n f at w rest → g ≡ false → w ≤ length ws → Ended ys ws w
-  ends-facing ys ws n f i at w p g [] h r e v l = ends-empty ys ws f at w h r l
-  ends-facing ys ws n f i at w p g (s ∷ xs) h r e v l =
+  ends-turnByState : (ys : List Device) (ws : List ℕ) (n f i at w : ℕ) (p : Sent) (g : Bool) (rest : List ℕ) → Invariant ys ws f at w Nothing → drop at ss ≡ rest
+      → cursor n f i at w p g ≡ turnByState n f at w rest → g ≡ false → w ≤ length ws → Ended ys ws w
+  ends-turnByState ys ws n f i at w p g [] h r e v l = ends-empty ys ws f at w h r l
+  ends-turnByState ys ws n f i at w p g (s ∷ xs) h r e v l =
       absurd
       (no-way (sym v ∙ ap (λ (c : Cursor). c .going) e ∙ by-test (ltb s 2) (cursor n 0 0 at w Nothing true) (cursor n f (indexOf n f) at w Nothing true) (λ (c : Cursor). c .going ≡ true) refl refl))
 
-  end-holds : (ys : List Device) (ws : List ℕ) (n f i at w : ℕ) (p : Sent) (g : Bool) → Holds ys ws f at w p → Aim n f i at w p g (drop at ss) → g ≡ false → w ≤ length ws → Ended ys ws w
-  end-holds ys ws n f i at w Nothing g h e v l = ends-facing ys ws n f i at w Nothing g (drop at ss) h refl e v l
-  end-holds ys ws n f i at w (One b) g h e v l = ends-facing ys ws n f i at w (One b) g (drop at ss) (one-none ys ws f at w b h) refl e v l
+  end-holds : (ys : List Device) (ws : List ℕ) (n f i at w : ℕ) (p : Sent) (g : Bool) → Invariant ys ws f at w p → NextTurn n f i at w p g (drop at ss) → g ≡ false → w ≤ length ws → Ended ys ws w
+  end-holds ys ws n f i at w Nothing g h e v l = ends-turnByState ys ws n f i at w Nothing g (drop at ss) h refl e v l
+  end-holds ys ws n f i at w (One b) g h e v l = ends-turnByState ys ws n f i at w (One b) g (drop at ss) (one-none ys ws f at w b h) refl e v l
   end-holds ys ws n f i at w (Header c m) g h e v l = absurd (no-way (sym v ∙ ap (λ (c : Cursor). c .going) e))
 
   -- ---- turn after turn
   abbrev Same : Running → Type 0
   Same r = Ended (r .devices) (r .out) (r .cursor .written)
 
-  finish : (t n room : ℕ) (r : Running) → Good n ss room r → HoldsAt (r .devices) (r .out) (r .cursor) → r .cursor .going ≡ false → Same (turns t ss r)
+  finish : (t n room : ℕ) (r : Running) → Good n ss room r → InvariantAt (r .devices) (r .out) (r .cursor) → r .cursor .going ≡ false → Same (turns t ss r)
   finish t n room r good h e =
       subst Same (sym (turns-stop t ss r e))
-      (end-holds (r .devices) (r .out) (r .cursor .count) (r .cursor .front) (r .cursor .index) (r .cursor .at) (r .cursor .written) (r .cursor .pending) (r .cursor .going) h (good .aim) e (subst (λ (m : ℕ). r .cursor .written ≤ m) (sym (good .out)) (good .written)))
+      (end-holds (r .devices) (r .out) (r .cursor .count) (r .cursor .front) (r .cursor .index) (r .cursor .at) (r .cursor .written) (r .cursor .pending) (r .cursor .going) h (good .next) e (subst (λ (m : ℕ). r .cursor .written ≤ m) (sym (good .out)) (good .written)))
 
-  turns-same : (n room : ℕ) (r : Running) → Good n ss room r → HoldsAt (r .devices) (r .out) (r .cursor) → r .cursor .going ≡ true
-      → HoldsAt (turning ss r .devices) (turning ss r .out) (turning ss r .cursor)
+  turns-same : (n room : ℕ) (r : Running) → Good n ss room r → InvariantAt (r .devices) (r .out) (r .cursor) → r .cursor .going ≡ true
+      → InvariantAt (turning ss r .devices) (turning ss r .out) (turning ss r .cursor)
   turns-same n room r good h e =
       let d : Device = getD (r .devices) (r .cursor .index) blank in
       let w : r .cursor .written ≤ length (r .out) = subst (λ (m : ℕ). r .cursor .written ≤ m) (sym (good .out)) (good .written) in
-      subst (λ (t : Turned). HoldsAt (set (r .devices) (r .cursor .index) (t .device)) (turnedOut (r .cursor) ss (r .out)) (t .cursor))
+      subst (λ (t : Turned). InvariantAt (set (r .devices) (r .cursor .index) (t .device)) (turnedOut (r .cursor) ss (r .out)) (t .cursor))
       (sym (turned-is d (r .cursor) ss (length (r .out)) (good .at) w))
-      (subst (λ (os : List ℕ). HoldsAt (set (r .devices) (r .cursor .index) (turnWithin d (r .cursor) ss (length (r .out)) .device)) os (turnWithin d (r .cursor) ss (length (r .out)) .cursor)) (sym (turned-out-is (r .cursor) ss (r .out) (good .at) w))
-      (turn-holds (r .devices) (r .out) (r .cursor .count) (r .cursor .front) (r .cursor .index) (r .cursor .at) (r .cursor .written) (r .cursor .pending) (r .cursor .going) (good .devices ∙ sym (good .count)) h (good .aim) e))
+      (subst (λ (os : List ℕ). InvariantAt (set (r .devices) (r .cursor .index) (turnWithin d (r .cursor) ss (length (r .out)) .device)) os (turnWithin d (r .cursor) ss (length (r .out)) .cursor)) (sym (turned-out-is (r .cursor) ss (r .out) (good .at) w))
+      (turn-holds (r .devices) (r .out) (r .cursor .count) (r .cursor .front) (r .cursor .index) (r .cursor .at) (r .cursor .written) (r .cursor .pending) (r .cursor .going) (good .devices ∙ sym (good .count)) h (good .next) e))
 
-  by-going : (t n room : ℕ) (r : Running) → 0 < n → n < 1024 → Good n ss room r → HoldsAt (r .devices) (r .out) (r .cursor) → (g : Bool) → r .cursor .going ≡ g
+  by-going : (t n room : ℕ) (r : Running) → 0 < n → n < 1024 → Good n ss room r → InvariantAt (r .devices) (r .out) (r .cursor) → (g : Bool) → r .cursor .going ≡ g
       → (r .cursor .going ≡ true → Same (turns t ss r)) → Same (turns t ss r)
   by-going t n room r some few good h false e k = finish t n room r good h e
   by-going t n room r some few good h true e k = k e
 
-  turns-all : (t n room : ℕ) (r : Running) → 0 < n → n < 1024 → Good n ss room r → measure (length ss) n (r .cursor) ≤ t → HoldsAt (r .devices) (r .out) (r .cursor) → Same (turns t ss r)
+  turns-all : (t n room : ℕ) (r : Running) → 0 < n → n < 1024 → Good n ss room r → measure (length ss) n (r .cursor) ≤ t → InvariantAt (r .devices) (r .out) (r .cursor) → Same (turns t ss r)
   turns-all zero n room r some few good near h = by-going zero n room r some few good h (r .cursor .going) refl (λ e. absurd (omega (arith, near, nearer-next n ss room r some few good e)))
   turns-all (suc t) n room r some few good near h =
       by-going (suc t) n room r some few good h (r .cursor .going) refl (λ e. subst Same (sym (turns-on t ss r e))
@@ -558,5 +558,5 @@ unfolding frontRun chain Small
 front-run-same ds ss os some few ne =
     let fin : List Device × (List ℕ × ℕ) = (through ds ss .0, (putAll os 0 (through ds ss .1), putEnd (length os) 0 (length (through ds ss .1)))) in
     let all = turns-all ss fin (enough ss) (length ds) (length os) (started ds ss os) some few (good-start ds ss os some) (near-start ds ss few)
-    (aim-holds ss fin (length ds) ds os 0 0 0 Nothing ss (record { ps = []; qs = ds; split = refl; count = refl; passing = none; neat = ne; small = tt; devices = refl; out = refl })) in
+    (nextTurn-holds ss fin (length ds) ds os 0 0 0 Nothing ss (record { ps = []; qs = ds; split = refl; count = refl; passing = none; neat = ne; small = tt; devices = refl; out = refl })) in
     (all .0, ap (λ (x : List ℕ × ℕ). x .0) (all .1), ap (λ (x : List ℕ × ℕ). x .1) (all .1))

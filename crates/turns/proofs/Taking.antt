@@ -28,12 +28,12 @@ use Rattle.device.specs.declared.device.Stepped.{Stepped}
 use Rattle.phases.proofs.Places.{Small}
 use Rattle.intake.specs.Intake.{stopped, unlessSent, highTaken}
 use Rattle.intake.specs.declared.taken.Taken.{Taken}
-use Rattle.intake.proofs.Lines.{drop-on, high-end}
+use Rattle.intake.proofs.Clauses.{drop-on, high-end}
 use Rattle.intake.proofs.Phases.{high-low-at}
 use Rattle.calls.specs.Chain.{through}
-use Rattle.turns.specs.Front.{isPassing, passes, roams, roamStep, roamed, roamTaken, frontTaken, sliceStart, deviceTaken, afterHeader, lowTaken}
-use Rattle.turns.specs.declared.states.Roamed.{Roamed}
-use Rattle.turns.proofs.Phases.{step-low, step-roams, heard-small, roamStep-small, headed-quiet, roamed-quiet, roamed-low}
+use Rattle.turns.specs.Front.{isPassing, passes, phaseOnly, phaseStep, phaseRun, phaseTaken, frontTaken, sliceStart, deviceTaken, afterHeader, lowTaken}
+use Rattle.turns.specs.declared.front.PhaseRun.{PhaseRun}
+use Rattle.turns.proofs.Phases.{step-low, step-phaseOnly, heard-small, roamStep-small, headed-quiet, phaseRun-quiet, phaseRun-low}
 
 pub by-test : {A : Type 0} (t : Bool) (x y : A) (P : A → Type 0) → P x → P y → P (cond t x y)
 by-test true x y P a b = a
@@ -135,27 +135,27 @@ takes d (s ∷ ss) k = go (takes (step d s .device) ss (k + 1)) (ltb s 2) refl
     go r false h = takes-step d s ss k (step d s .sent) refl h r
 
 -- states at which the phase alone goes on
-abbrev gone : Registers → Roamed → Taken
+abbrev gone : Registers → PhaseRun → Taken
 gone r q = stopped (at r (q .phase)) (q .at) Nothing
 
-takes-roamed : (r : Registers) (p : Phase) (ss : List ℕ) (k : ℕ) → Small p → Takes true (at r p) ss k (gone r (roamed p ss k))
-unfolding roamed
-takes-roamed r p [] k h = takes-none true (at r p) [] k
-takes-roamed r p (s ∷ ss) k h = go (takes-roamed r (roamStep p s) ss (k + 1) (roamStep-small p s h)) (roams p s) refl
+takes-phaseRun : (r : Registers) (p : Phase) (ss : List ℕ) (k : ℕ) → Small p → Takes true (at r p) ss k (gone r (phaseRun p ss k))
+unfolding phaseRun
+takes-phaseRun r p [] k h = takes-none true (at r p) [] k
+takes-phaseRun r p (s ∷ ss) k h = go (takes-phaseRun r (phaseStep p s) ss (k + 1) (roamStep-small p s h)) (phaseOnly p s) refl
   where
-    go : Takes true (at r (roamStep p s)) ss (k + 1) (gone r (roamed (roamStep p s) ss (k + 1))) → (t : Bool) → roams p s ≡ t
-        → Takes true (at r p) (s ∷ ss) k (gone r (cond t (roamed (roamStep p s) ss (k + 1)) (record { phase = p; at = k })))
+    go : Takes true (at r (phaseStep p s)) ss (k + 1) (gone r (phaseRun (phaseStep p s) ss (k + 1))) → (t : Bool) → phaseOnly p s ≡ t
+        → Takes true (at r p) (s ∷ ss) k (gone r (cond t (phaseRun (phaseStep p s) ss (k + 1)) (record { phase = p; at = k })))
     go x true e =
-        takes-on true (at r p) s ss k (moved r (roamStep p s)) (gone r (roamed (roamStep p s) ss (k + 1))) (step-roams r p s h e) refl (λ f. absurd (true≢false f)) x
+        takes-on true (at r p) s ss k (moved r (phaseStep p s)) (gone r (phaseRun (phaseStep p s) ss (k + 1))) (step-phaseOnly r p s h e) refl (λ f. absurd (true≢false f)) x
     go x false e = takes-none true (at r p) (s ∷ ss) k
 
 -- and so does any device, from a low state on
-pub takes-low : (d : Device) (s : ℕ) (ss : List ℕ) (k : ℕ) → ltb s 2 ≡ true → Takes true d (s ∷ ss) k (roamTaken d (roamed (phaseOf (d .place)) (s ∷ ss) k))
+pub takes-low : (d : Device) (s : ℕ) (ss : List ℕ) (k : ℕ) → ltb s 2 ≡ true → Takes true d (s ∷ ss) k (phaseTaken d (phaseRun (phaseOf (d .place)) (s ∷ ss) k))
 takes-low d s ss k e =
     let p = heard (phaseOf (d .place)) s in
-    subst (λ (q : Roamed). Takes true d (s ∷ ss) k (roamTaken d q)) (sym (roamed-low (phaseOf (d .place)) s ss k e))
-    (takes-on true d s ss k (moved (d .registers) p) (gone (d .registers) (roamed p ss (k + 1))) (step-low d s e) refl (λ f. absurd (true≢false f))
-    (takes-roamed (d .registers) p ss (k + 1) (heard-small (phaseOf (d .place)) s)))
+    subst (λ (q : PhaseRun). Takes true d (s ∷ ss) k (phaseTaken d q)) (sym (phaseRun-low (phaseOf (d .place)) s ss k e))
+    (takes-on true d s ss k (moved (d .registers) p) (gone (d .registers) (phaseRun p ss (k + 1))) (step-low d s e) refl (λ f. absurd (true≢false f))
+    (takes-phaseRun (d .registers) p ss (k + 1) (heard-small (phaseOf (d .place)) s)))
 
 -- ---- a device that is not passing sends nothing, or a header once, and is passing then
 
@@ -212,11 +212,11 @@ endings d (s ∷ ss) k e =
     (quiet e) (fine-ending (step d s) ss (k + 1) (fine-step d s e) (λ d′ e′. endings d′ ss (k + 1) e′))
 
 -- any device at a low state, passing or not
-pub ending-low : (d : Device) (s : ℕ) (ss : List ℕ) (k : ℕ) → ltb s 2 ≡ true → Ending (roamTaken d (roamed (phaseOf (d .place)) (s ∷ ss) k))
+pub ending-low : (d : Device) (s : ℕ) (ss : List ℕ) (k : ℕ) → ltb s 2 ≡ true → Ending (phaseTaken d (phaseRun (phaseOf (d .place)) (s ∷ ss) k))
 ending-low d s ss k e =
     let p = heard (phaseOf (d .place)) s in
-    subst (λ (q : Roamed). Ending (roamTaken d q)) (sym (roamed-low (phaseOf (d .place)) s ss k e))
-    (quiet (passes-at (d .registers) (roamed p ss (k + 1) .phase) (roamed-quiet p ss (k + 1) refl)))
+    subst (λ (q : PhaseRun). Ending (phaseTaken d q)) (sym (phaseRun-low (phaseOf (d .place)) s ss k e))
+    (quiet (passes-at (d .registers) (phaseRun p ss (k + 1) .phase) (phaseRun-quiet p ss (k + 1) refl)))
 
 -- ---- the device of a turn, by the next state
 
@@ -227,7 +227,7 @@ device-end d (One b) ss i h = high-end d ss i i h ∙ ap (λ (xs : List ℕ). fr
 
 -- at a state s, by whether it is low and the device passes
 abbrev frontBy : Device → List ℕ → ℕ → Bool → Bool → Taken
-frontBy d xs i low passing = cond low (roamTaken d (roamed (phaseOf (d .place)) xs i)) (cond passing (stopped d i (One 0)) (highTaken d xs i))
+frontBy d xs i low passing = cond low (phaseTaken d (phaseRun (phaseOf (d .place)) xs i)) (cond passing (stopped d i (One 0)) (highTaken d xs i))
 
 front-by : (d : Device) (ss : List ℕ) (i : ℕ) (low passing : Bool) → i < length ss → ltb (getD ss i 0) 2 ≡ low → passes d ≡ passing
     → frontBy d (drop i ss) i low passing ≡ frontTaken d (drop i ss) i

@@ -19,16 +19,16 @@ use Rattle.intake.proofs.Phases.{high-cons}
 use Rattle.intake.specs.declared.taken.Taken.{Taken}
 use Rattle.calls.specs.Chain.{blank}
 use Rattle.turns.specs.declared.cursor.Cursor.{Cursor}
-use Rattle.turns.specs.declared.states.Roamed.{Roamed}
-use Rattle.turns.specs.Front.{passes, roamed, roamTaken, frontTaken, sliceStart, deviceTaken, putEnd, highs, indexOf, cursor, facing, aimed, frontAfter, leaving, lineCursor, lineOut, deviceTurn, within, turned, turnedOut, Running, turnAt, turning, turns, started, begun, enough, Turned, turnTaken, cursorTo, cursorAfter, lineAfter, lineRoom, halted}
-use Rattle.turns.proofs.Lines.{highs-within, length-put}
-use Rattle.turns.proofs.Phases.{roamed-low, roamed-along}
+use Rattle.turns.specs.declared.front.PhaseRun.{PhaseRun}
+use Rattle.turns.specs.Front.{passes, phaseRun, phaseTaken, frontTaken, sliceStart, deviceTaken, putEnd, highCount, indexOf, cursor, turnByState, nextTurn, frontAfter, leaving, leaveCursor, leaveOut, deviceTurn, within, turned, turnedOut, Running, turnAt, turning, turns, started, beginRun, enough, Turned, turnTaken, cursorTo, cursorAfter, leaveAfter, leaveRoom, halted}
+use Rattle.turns.proofs.LeavingStates.{highCount-within, length-put}
+use Rattle.turns.proofs.Phases.{phaseRun-low, phaseRun-along}
 use Rattle.turns.proofs.Taking.{by-test}
 
 pub no-way : false ≡ true → ⊥
 no-way e = true≢false (sym e)
 
--- ---- what a cursor that was aimed is
+-- ---- what the cursor of a next turn is
 abbrev pub owed : Sent → ℕ
 owed Nothing = 0
 owed (One b) = 0
@@ -38,14 +38,14 @@ abbrev pub measure : ℕ → ℕ → Cursor → ℕ
 measure len n c = 2048 * (len - c .at) + 1024 * owed (c .pending) + (n - c .front)
 
 -- what holds of both ways that the next state can go, holds
-facing-has : (n f at w : ℕ) (rest : List ℕ) (P : Cursor → Type 0) → P (cursor n f 0 at w Nothing false) → P (cursor n 0 0 at w Nothing true) → P (cursor n f (indexOf n f) at w Nothing true)
-    → P (facing n f at w rest)
-facing-has n f at w [] P a b c = a
-facing-has n f at w (s ∷ ss) P a b c = by-test (ltb s 2) (cursor n 0 0 at w Nothing true) (cursor n f (indexOf n f) at w Nothing true) P b c
+turnByState-has : (n f at w : ℕ) (rest : List ℕ) (P : Cursor → Type 0) → P (cursor n f 0 at w Nothing false) → P (cursor n 0 0 at w Nothing true) → P (cursor n f (indexOf n f) at w Nothing true)
+    → P (turnByState n f at w rest)
+turnByState-has n f at w [] P a b c = a
+turnByState-has n f at w (s ∷ ss) P a b c = by-test (ltb s 2) (cursor n 0 0 at w Nothing true) (cursor n f (indexOf n f) at w Nothing true) P b c
 
-loose : (len n f at w : ℕ) (p : Sent) (rest : List ℕ) → measure len n (aimed n f at w p rest) ≤ 2048 * (len - at) + 1024 * owed p + n
-loose len n f at w Nothing rest = facing-has n f at w rest (λ (c : Cursor). measure len n c ≤ 2048 * (len - at) + 0 + n) (omega arith) (omega arith) (omega arith)
-loose len n f at w (One b) rest = facing-has n f at w rest (λ (c : Cursor). measure len n c ≤ 2048 * (len - at) + 0 + n) (omega arith) (omega arith) (omega arith)
+loose : (len n f at w : ℕ) (p : Sent) (rest : List ℕ) → measure len n (nextTurn n f at w p rest) ≤ 2048 * (len - at) + 1024 * owed p + n
+loose len n f at w Nothing rest = turnByState-has n f at w rest (λ (c : Cursor). measure len n c ≤ 2048 * (len - at) + 0 + n) (omega arith) (omega arith) (omega arith)
+loose len n f at w (One b) rest = turnByState-has n f at w rest (λ (c : Cursor). measure len n c ≤ 2048 * (len - at) + 0 + n) (omega arith) (omega arith) (omega arith)
 loose len n f at w (Header c k) rest = omega arith
 
 index-within : (n f : ℕ) → 0 < n → indexOf n f < n
@@ -55,39 +55,39 @@ index-within n f h = go (ltb f n) refl
     go true e = ltb-true f n e
     go false e = h
 
--- what every aimed cursor has
+-- what every cursor of a next turn has
 record Kept (n k w : ℕ) (c : Cursor) : Type 0 where
   pub count : c .count ≡ n
   pub index : c .index < n
   pub at : c .at ≡ k
   pub written : c .written ≡ w
 
-aimed-kept : (n f at w : ℕ) (p : Sent) (rest : List ℕ) → 0 < n → Kept n at w (aimed n f at w p rest)
-aimed-kept n f at w Nothing rest h =
-    facing-has n f at w rest (Kept n at w) (record { count = refl; index = h; at = refl; written = refl }) (record { count = refl; index = h; at = refl; written = refl })
+nextTurn-kept : (n f at w : ℕ) (p : Sent) (rest : List ℕ) → 0 < n → Kept n at w (nextTurn n f at w p rest)
+nextTurn-kept n f at w Nothing rest h =
+    turnByState-has n f at w rest (Kept n at w) (record { count = refl; index = h; at = refl; written = refl }) (record { count = refl; index = h; at = refl; written = refl })
     (record { count = refl; index = index-within n f h; at = refl; written = refl })
-aimed-kept n f at w (One b) rest h =
-    facing-has n f at w rest (Kept n at w) (record { count = refl; index = h; at = refl; written = refl }) (record { count = refl; index = h; at = refl; written = refl })
+nextTurn-kept n f at w (One b) rest h =
+    turnByState-has n f at w rest (Kept n at w) (record { count = refl; index = h; at = refl; written = refl }) (record { count = refl; index = h; at = refl; written = refl })
     (record { count = refl; index = index-within n f h; at = refl; written = refl })
-aimed-kept n f at w (Header c k) rest h = record { count = refl; index = index-within n f h; at = refl; written = refl }
+nextTurn-kept n f at w (Header c k) rest h = record { count = refl; index = index-within n f h; at = refl; written = refl }
 
--- an aimed cursor is aimed by its own numbers
+-- the cursor of a next turn is that of its own numbers
 abbrev pub again : Cursor → List ℕ → Cursor
-again c rest = aimed (c .count) (c .front) (c .at) (c .written) (c .pending) rest
+again c rest = nextTurn (c .count) (c .front) (c .at) (c .written) (c .pending) rest
 
-facing-self : (n f at w : ℕ) (rest : List ℕ) → again (facing n f at w rest) rest ≡ facing n f at w rest
-facing-self n f at w [] = refl
-facing-self n f at w (s ∷ ss) = go (ltb s 2) refl
+turnByState-self : (n f at w : ℕ) (rest : List ℕ) → again (turnByState n f at w rest) rest ≡ turnByState n f at w rest
+turnByState-self n f at w [] = refl
+turnByState-self n f at w (s ∷ ss) = go (ltb s 2) refl
   where
     go : (t : Bool) → ltb s 2 ≡ t
         → again (cond t (cursor n 0 0 at w Nothing true) (cursor n f (indexOf n f) at w Nothing true)) (s ∷ ss) ≡ cond t (cursor n 0 0 at w Nothing true) (cursor n f (indexOf n f) at w Nothing true)
     go true e = ap (λ (u : Bool). cond u (cursor n 0 0 at w Nothing true) (cursor n 0 (indexOf n 0) at w Nothing true)) e
     go false e = ap (λ (u : Bool). cond u (cursor n 0 0 at w Nothing true) (cursor n f (indexOf n f) at w Nothing true)) e
 
-aimed-self : (n f at w : ℕ) (p : Sent) (rest : List ℕ) → again (aimed n f at w p rest) rest ≡ aimed n f at w p rest
-aimed-self n f at w Nothing rest = facing-self n f at w rest
-aimed-self n f at w (One b) rest = facing-self n f at w rest
-aimed-self n f at w (Header c k) rest = refl
+nextTurn-self : (n f at w : ℕ) (p : Sent) (rest : List ℕ) → again (nextTurn n f at w p rest) rest ≡ nextTurn n f at w p rest
+nextTurn-self n f at w Nothing rest = turnByState-self n f at w rest
+nextTurn-self n f at w (One b) rest = turnByState-self n f at w rest
+nextTurn-self n f at w (Header c k) rest = refl
 
 -- ---- a device takes at least what it owes
 
@@ -123,16 +123,16 @@ high-on d s ss k e =
     (by-sent (step d s .sent) (highTaken (step d s .device) ss (k + 1)) (step d s .device) (k + 1) (λ (t : Taken). k + 1 ≤ t .at) (omega (arith, high-far (step d s .device) ss (k + 1) .owes)) (λ x. omega arith))
 
 -- and a low one
-low-on : (p : Phase) (s : ℕ) (ss : List ℕ) (k : ℕ) → ltb s 2 ≡ true → k + 1 ≤ roamed p (s ∷ ss) k .at
-low-on p s ss k e = subst (λ (q : Roamed). k + 1 ≤ q .at) (sym (roamed-low p s ss k e)) (roamed-along (heard p s) ss (k + 1) .starts)
+low-on : (p : Phase) (s : ℕ) (ss : List ℕ) (k : ℕ) → ltb s 2 ≡ true → k + 1 ≤ phaseRun p (s ∷ ss) k .at
+low-on p s ss k e = subst (λ (q : PhaseRun). k + 1 ≤ q .at) (sym (phaseRun-low p s ss k e)) (phaseRun-along (heard p s) ss (k + 1) .starts)
 
-roam-far : (d : Device) (ss : List ℕ) (k : ℕ) → Far ss k (roamTaken d (roamed (phaseOf (d .place)) ss k))
-roam-far d ss k = let a = roamed-along (phaseOf (d .place)) ss k in record { owes = omega (arith, a .starts); ends = a .ends }
+phaseRun-far : (d : Device) (ss : List ℕ) (k : ℕ) → Far ss k (phaseTaken d (phaseRun (phaseOf (d .place)) ss k))
+phaseRun-far d ss k = let a = phaseRun-along (phaseOf (d .place)) ss k in record { owes = omega (arith, a .starts); ends = a .ends }
 
 front-far : (d : Device) (ss : List ℕ) (k : ℕ) → Far ss k (frontTaken d ss k)
 front-far d [] k = record { owes = omega arith; ends = omega arith }
 front-far d (s ∷ ss) k =
-    by-test (ltb s 2) (roamTaken d (roamed (phaseOf (d .place)) (s ∷ ss) k)) (cond (passes d) (stopped d k (One 0)) (highTaken d (s ∷ ss) k)) (Far (s ∷ ss) k) (roam-far d (s ∷ ss) k)
+    by-test (ltb s 2) (phaseTaken d (phaseRun (phaseOf (d .place)) (s ∷ ss) k)) (cond (passes d) (stopped d k (One 0)) (highTaken d (s ∷ ss) k)) (Far (s ∷ ss) k) (phaseRun-far d (s ∷ ss) k)
     (by-test (passes d) (stopped d k (One 0)) (highTaken d (s ∷ ss) k) (Far (s ∷ ss) k) (record { owes = omega arith; ends = omega arith }) (high-far d (s ∷ ss) k))
 
 device-far : (d : Device) (p : Sent) (ss : List ℕ) (k : ℕ) → Far ss k (deviceTaken d p ss k)
@@ -151,13 +151,13 @@ pub record Good (n : ℕ) (ss : List ℕ) (room : ℕ) (r : Running) : Type 0 wh
   pub index : r .cursor .index < n
   pub at : r .cursor .at ≤ length ss
   pub written : r .cursor .written ≤ room
-  pub aim : r .cursor ≡ again (r .cursor) (drop (r .cursor .at) ss)
+  pub next : r .cursor ≡ again (r .cursor) (drop (r .cursor .at) ss)
 
 out-length : (c : Cursor) (ss os : List ℕ) → length (turnedOut c ss os) ≡ length os
 unfolding turnedOut
 out-length c ss os =
-    by-test (ltb (c .front) (c .count)) os (lineRoom c ss os) (λ (xs : List ℕ). length xs ≡ length os) refl
-    (by-test (within c ss (length os)) (lineOut c ss os) os (λ (xs : List ℕ). length xs ≡ length os) (length-put os (c .written) (leaving (c .pending) (drop (c .at) ss))) refl)
+    by-test (ltb (c .front) (c .count)) os (leaveRoom c ss os) (λ (xs : List ℕ). length xs ≡ length os) refl
+    (by-test (within c ss (length os)) (leaveOut c ss os) os (λ (xs : List ℕ). length xs ≡ length os) (length-put os (c .written) (leaving (c .pending) (drop (c .at) ss))) refl)
 
 putEnd-within : (room w k : ℕ) → putEnd room w k ≤ room
 putEnd-within room w k = go (leb (w + k) room) refl
@@ -166,43 +166,43 @@ putEnd-within room w k = go (leb (w + k) room) refl
     go true e = leb-true (w + k) room e
     go false e = omega arith
 
--- a cursor that a turn leaves: aimed, in range
+-- a cursor that a turn leaves: that of the next turn, in range
 record Fit (n : ℕ) (ss : List ℕ) (room : ℕ) (c : Cursor) : Type 0 where
   pub count : c .count ≡ n
   pub index : c .index < n
   pub at : c .at ≤ length ss
   pub written : c .written ≤ room
-  pub aim : c ≡ again c (drop (c .at) ss)
+  pub next : c ≡ again c (drop (c .at) ss)
 
-aimed-fit : (n f at w room : ℕ) (p : Sent) (ss : List ℕ) → 0 < n → at ≤ length ss → w ≤ room → Fit n ss room (aimed n f at w p (drop at ss))
-aimed-fit n f at w room p ss h a b =
-    let k : Kept n at w (aimed n f at w p (drop at ss)) = aimed-kept n f at w p (drop at ss) h in
+nextTurn-fit : (n f at w room : ℕ) (p : Sent) (ss : List ℕ) → 0 < n → at ≤ length ss → w ≤ room → Fit n ss room (nextTurn n f at w p (drop at ss))
+nextTurn-fit n f at w room p ss h a b =
+    let k : Kept n at w (nextTurn n f at w p (drop at ss)) = nextTurn-kept n f at w p (drop at ss) h in
     record {
       count = k .count;
       index = k .index;
       at = subst (λ (x : ℕ). x ≤ length ss) (sym (k .at)) a;
       written = subst (λ (x : ℕ). x ≤ room) (sym (k .written)) b;
-      aim = sym (aimed-self n f at w p (drop at ss)) ∙ ap (λ (x : ℕ). again (aimed n f at w p (drop at ss)) (drop x ss)) (sym (k .at));
+      next = sym (nextTurn-self n f at w p (drop at ss)) ∙ ap (λ (x : ℕ). again (nextTurn n f at w p (drop at ss)) (drop x ss)) (sym (k .at));
     }
 
-line-fit : (p : Sent) (c : Cursor) (ss : List ℕ) (room : ℕ) → 0 < c .count → c .at ≤ length ss → c .written ≤ room → Fit (c .count) ss room (lineCursor p c ss room)
-line-fit Nothing c ss room h a b = aimed-fit (c .count) (c .front) _ _ room Nothing ss h (highs-within ss (c .at) a) (putEnd-within room (c .written) _)
-line-fit (One x) c ss room h a b = aimed-fit (c .count) (c .front) _ _ room Nothing ss h (highs-within ss (c .at) a) (putEnd-within room (c .written) _)
-line-fit (Header k m) c ss room h a b = aimed-fit (c .count) (c .front) (c .at) _ room Nothing ss h a (putEnd-within room (c .written) _)
+leave-fit : (p : Sent) (c : Cursor) (ss : List ℕ) (room : ℕ) → 0 < c .count → c .at ≤ length ss → c .written ≤ room → Fit (c .count) ss room (leaveCursor p c ss room)
+leave-fit Nothing c ss room h a b = nextTurn-fit (c .count) (c .front) _ _ room Nothing ss h (highCount-within ss (c .at) a) (putEnd-within room (c .written) _)
+leave-fit (One x) c ss room h a b = nextTurn-fit (c .count) (c .front) _ _ room Nothing ss h (highCount-within ss (c .at) a) (putEnd-within room (c .written) _)
+leave-fit (Header k m) c ss room h a b = nextTurn-fit (c .count) (c .front) (c .at) _ room Nothing ss h a (putEnd-within room (c .written) _)
 
 -- a turn whose cursor is within the states and the room
-abbrev pub lineTurn : Device → Cursor → List ℕ → ℕ → Turned
-lineTurn d c ss room = record { device = d; cursor = lineCursor (c .pending) c ss room }
+abbrev pub leaveTurn : Device → Cursor → List ℕ → ℕ → Turned
+leaveTurn d c ss room = record { device = d; cursor = leaveCursor (c .pending) c ss room }
 
 abbrev pub turnWithin : Device → Cursor → List ℕ → ℕ → Turned
-turnWithin d c ss room = cond (ltb (c .front) (c .count)) (deviceTurn d c ss) (lineTurn d c ss room)
+turnWithin d c ss room = cond (ltb (c .front) (c .count)) (deviceTurn d c ss) (leaveTurn d c ss room)
 
 within-fit : (d : Device) (c : Cursor) (ss : List ℕ) (room : ℕ) → 0 < c .count → c .at ≤ length ss → c .written ≤ room → Fit (c .count) ss room (turnWithin d c ss room .cursor)
 within-fit d c ss room h a b =
     let t : Taken = deviceTaken d (c .pending) (drop (c .at) ss) (c .at) in
-    by-test (ltb (c .front) (c .count)) (deviceTurn d c ss) (lineTurn d c ss room) (λ (u : Turned). Fit (c .count) ss room (u .cursor))
-    (aimed-fit (c .count) (frontAfter (c .front) (t .sent)) (t .at) (c .written) room (t .sent) ss h (device-at d (c .pending) ss (c .at) a) b)
-    (line-fit (c .pending) c ss room h a b)
+    by-test (ltb (c .front) (c .count)) (deviceTurn d c ss) (leaveTurn d c ss room) (λ (u : Turned). Fit (c .count) ss room (u .cursor))
+    (nextTurn-fit (c .count) (frontAfter (c .front) (t .sent)) (t .at) (c .written) room (t .sent) ss h (device-at d (c .pending) ss (c .at) a) b)
+    (leave-fit (c .pending) c ss room h a b)
 
 -- a cursor within the states and the room
 within-is : (c : Cursor) (ss : List ℕ) (room : ℕ) → c .at ≤ length ss → c .written ≤ room → within c ss room ≡ true
@@ -211,11 +211,11 @@ within-is c ss room a b = rw (le-leb (c .at) (length ss) a, le-leb (c .written) 
 pub turned-is : (d : Device) (c : Cursor) (ss : List ℕ) (room : ℕ) → c .at ≤ length ss → c .written ≤ room → turned d c ss room ≡ turnWithin d c ss room
 unfolding turned
 turned-is d c ss room a b =
-    ap (λ (t : Bool). cond (ltb (c .front) (c .count)) (deviceTurn d c ss) (record { device = d; cursor = cond t (lineCursor (c .pending) c ss room) halted })) (within-is c ss room a b)
+    ap (λ (t : Bool). cond (ltb (c .front) (c .count)) (deviceTurn d c ss) (record { device = d; cursor = cond t (leaveCursor (c .pending) c ss room) halted })) (within-is c ss room a b)
 
-pub turned-out-is : (c : Cursor) (ss os : List ℕ) → c .at ≤ length ss → c .written ≤ length os → turnedOut c ss os ≡ cond (ltb (c .front) (c .count)) os (lineOut c ss os)
+pub turned-out-is : (c : Cursor) (ss os : List ℕ) → c .at ≤ length ss → c .written ≤ length os → turnedOut c ss os ≡ cond (ltb (c .front) (c .count)) os (leaveOut c ss os)
 unfolding turnedOut
-turned-out-is c ss os a b = ap (λ (t : Bool). cond (ltb (c .front) (c .count)) os (cond t (lineOut c ss os) os)) (within-is c ss (length os) a b)
+turned-out-is c ss os a b = ap (λ (t : Bool). cond (ltb (c .front) (c .count)) os (cond t (leaveOut c ss os) os)) (within-is c ss (length os) a b)
 
 -- first the record, then the cursor
 pub turned-device : (d : Device) (c : Cursor) (ss : List ℕ) (room : ℕ) → turnTaken d c ss .device ≡ turned d c ss room .device
@@ -223,7 +223,7 @@ unfolding turned
 turned-device d c ss room = go (ltb (c .front) (c .count))
   where
     go : (t : Bool) → cond t (deviceTaken d (c .pending) (drop (c .at) ss) (c .at)) (stopped d (c .at) Nothing) .device
-        ≡ cond t (deviceTurn d c ss) (record { device = d; cursor = lineAfter c ss room }) .device
+        ≡ cond t (deviceTurn d c ss) (record { device = d; cursor = leaveAfter c ss room }) .device
     go true = refl
     go false = refl
 
@@ -233,8 +233,8 @@ turned-cursor d c ss room = go (ltb (c .front) (c .count))
   where
     go : (t : Bool)
         → cond t
-        (cursorTo c (cond t (deviceTaken d (c .pending) (drop (c .at) ss) (c .at)) (stopped d (c .at) Nothing) .at) (cond t (deviceTaken d (c .pending) (drop (c .at) ss) (c .at)) (stopped d (c .at) Nothing) .sent) ss) (lineAfter c ss room)
-        ≡ cond t (deviceTurn d c ss) (record { device = d; cursor = lineAfter c ss room }) .cursor
+        (cursorTo c (cond t (deviceTaken d (c .pending) (drop (c .at) ss) (c .at)) (stopped d (c .at) Nothing) .at) (cond t (deviceTaken d (c .pending) (drop (c .at) ss) (c .at)) (stopped d (c .at) Nothing) .sent) ss) (leaveAfter c ss room)
+        ≡ cond t (deviceTurn d c ss) (record { device = d; cursor = leaveAfter c ss room }) .cursor
     go true = refl
     go false = refl
 
@@ -255,13 +255,13 @@ good-next n ss room r h g =
       index = f .index;
       at = f .at;
       written = f .written;
-      aim = f .aim;
+      next = f .next;
     }
 
 pub good-start : (ds : List Device) (ss os : List ℕ) → 0 < length ds → Good (length ds) ss (length os) (started ds ss os)
 good-start ds ss os h =
-    let f : Fit (length ds) ss (length os) (begun (length ds) ss) = aimed-fit (length ds) 0 0 0 (length os) Nothing ss h (omega arith) (omega arith) in
-    record { devices = refl; out = refl; count = f .count; index = f .index; at = f .at; written = f .written; aim = f .aim }
+    let f : Fit (length ds) ss (length os) (beginRun (length ds) ss) = nextTurn-fit (length ds) 0 0 0 (length os) Nothing ss h (omega arith) (omega arith) in
+    record { devices = refl; out = refl; count = f .count; index = f .index; at = f .at; written = f .written; next = f .next }
 
 -- ---- a turn takes a run nearer to its end
 Live : Sent → List ℕ → Type 0
@@ -271,7 +271,7 @@ Live (One b) [] = ⊥
 Live (One b) (s ∷ ss) = Unit {0}
 Live (Header c n) rest = Unit {0}
 
-lives : (n f i at w : ℕ) (p : Sent) (g : Bool) (rest : List ℕ) → cursor n f i at w p g ≡ aimed n f at w p rest → g ≡ true → Live p rest
+lives : (n f i at w : ℕ) (p : Sent) (g : Bool) (rest : List ℕ) → cursor n f i at w p g ≡ nextTurn n f at w p rest → g ≡ true → Live p rest
 unfolding Live
 lives n f i at w Nothing g [] e h = no-way (sym (ap (λ (c : Cursor). c .going) e) ∙ h)
 lives n f i at w Nothing g (s ∷ ss) e h = tt
@@ -281,7 +281,7 @@ lives n f i at w (Header c k) g rest e h = tt
 
 module _ (d : Device) (n f at w : ℕ) (ss : List ℕ) (far : at ≤ length ss) (few : n < 1024) where
   Nearer : ℕ → Taken → Type 0
-  Nearer o t = measure (length ss) n (aimed n (frontAfter f (t .sent)) (t .at) w (t .sent) (drop (t .at) ss)) < 2048 * (length ss - at) + 1024 * o + (n - f)
+  Nearer o t = measure (length ss) n (nextTurn n (frontAfter f (t .sent)) (t .at) w (t .sent) (drop (t .at) ss)) < 2048 * (length ss - at) + 1024 * o + (n - f)
 
   nearer : (o : ℕ) (t : Taken) → at + owed (t .sent) ≤ t .at → t .at ≤ length ss → (o ≡ 1) → Nearer o t
   unfolding Nearer
@@ -294,7 +294,7 @@ module _ (d : Device) (n f at w : ℕ) (ss : List ℕ) (far : at ≤ length ss) 
   moves-on : (s : ℕ) (rest : List ℕ) → drop at ss ≡ s ∷ rest → ltb s 2 ≡ false → f < n → Nearer 0 (stopped d at (One 0))
   unfolding Nearer
   moves-on s rest e h l =
-      subst (λ (r : List ℕ). measure (length ss) n (facing n (f + 1) at w r) < 2048 * (length ss - at) + 1024 * 0 + (n - f)) (sym e)
+      subst (λ (r : List ℕ). measure (length ss) n (turnByState n (f + 1) at w r) < 2048 * (length ss - at) + 1024 * 0 + (n - f)) (sym e)
       (subst (λ (t : Bool). measure (length ss) n (cond t (cursor n 0 0 at w Nothing true) (cursor n (f + 1) (indexOf n (f + 1)) at w Nothing true)) < 2048 * (length ss - at) + 1024 * 0 + (n - f)) (sym h) (omega (arith, l)))
 
   some-left : (s : ℕ) (rest : List ℕ) → drop at ss ≡ s ∷ rest → at + 1 + length rest ≡ length ss
@@ -305,9 +305,9 @@ module _ (d : Device) (n f at w : ℕ) (ss : List ℕ) (far : at ≤ length ss) 
   front-nearer s rest e l = go (ltb s 2) refl (passes d)
     where
       go : (low : Bool) → ltb s 2 ≡ low → (p : Bool)
-          → Nearer 0 (cond low (roamTaken d (roamed (phaseOf (d .place)) (s ∷ rest) at)) (cond p (stopped d at (One 0)) (highTaken d (s ∷ rest) at)))
+          → Nearer 0 (cond low (phaseTaken d (phaseRun (phaseOf (d .place)) (s ∷ rest) at)) (cond p (stopped d at (One 0)) (highTaken d (s ∷ rest) at)))
       go true h p =
-          nearer-on (roamTaken d (roamed (phaseOf (d .place)) (s ∷ rest) at)) (low-on (phaseOf (d .place)) s rest at h) (omega (arith, some-left s rest e, roam-far d (s ∷ rest) at .ends))
+          nearer-on (phaseTaken d (phaseRun (phaseOf (d .place)) (s ∷ rest) at)) (low-on (phaseOf (d .place)) s rest at h) (omega (arith, some-left s rest e, phaseRun-far d (s ∷ rest) at .ends))
       go false h true = moves-on s rest e h l
       go false h false = nearer-on (highTaken d (s ∷ rest) at) (high-on d s rest at h) (omega (arith, some-left s rest e, high-far d (s ∷ rest) at .ends))
 
@@ -320,16 +320,16 @@ module _ (d : Device) (n f at w : ℕ) (ss : List ℕ) (far : at ≤ length ss) 
   device-nearer (Header c k) rest e v l =
       nearer 1 (highTaken (sliceStart d c k) (drop at ss) at) (high-far (sliceStart d c k) (drop at ss) at .owes) (device-at d (Header c k) ss at far) refl
 
-high-turns : (s : ℕ) (rest : List ℕ) → ltb s 2 ≡ false → 1 ≤ highs (s ∷ rest)
-unfolding highs
-high-turns s rest h = subst (λ (t : Bool). 1 ≤ cond t 0 (highs rest + 1)) (sym h) (omega arith)
+high-turns : (s : ℕ) (rest : List ℕ) → ltb s 2 ≡ false → 1 ≤ highCount (s ∷ rest)
+unfolding highCount
+high-turns s rest h = subst (λ (t : Bool). 1 ≤ cond t 0 (highCount rest + 1)) (sym h) (omega arith)
 
-low-facing : (n f i at w : ℕ) (p : Sent) (g : Bool) (s : ℕ) (xs : List ℕ) → cursor n f i at w p g ≡ facing n f at w (s ∷ xs) → ltb s 2 ≡ true → f ≡ 0
-low-facing n f i at w p g s xs e h = ap (λ (c : Cursor). c .front) (e ∙ ap (λ (t : Bool). cond t (cursor n 0 0 at w Nothing true) (cursor n f (indexOf n f) at w Nothing true)) h)
+low-turnByState : (n f i at w : ℕ) (p : Sent) (g : Bool) (s : ℕ) (xs : List ℕ) → cursor n f i at w p g ≡ turnByState n f at w (s ∷ xs) → ltb s 2 ≡ true → f ≡ 0
+low-turnByState n f i at w p g s xs e h = ap (λ (c : Cursor). c .front) (e ∙ ap (λ (t : Bool). cond t (cursor n 0 0 at w Nothing true) (cursor n f (indexOf n f) at w Nothing true)) h)
 
 -- where all devices pass, a state that comes next is high
-line-high : (n f i at w : ℕ) (g : Bool) (s : ℕ) (rest : List ℕ) → cursor n f i at w Nothing g ≡ facing n f at w (s ∷ rest) → 0 < n → n ≤ f → ltb s 2 ≡ false
-line-high n f i at w g s rest e h l = go (ltb s 2) refl
+leave-high : (n f i at w : ℕ) (g : Bool) (s : ℕ) (rest : List ℕ) → cursor n f i at w Nothing g ≡ turnByState n f at w (s ∷ rest) → 0 < n → n ≤ f → ltb s 2 ≡ false
+leave-high n f i at w g s rest e h l = go (ltb s 2) refl
   where
     go : (t : Bool) → ltb s 2 ≡ t → t ≡ false
     go false q = refl
@@ -337,38 +337,38 @@ line-high n f i at w g s rest e h l = go (ltb s 2) refl
         let z : f ≡ 0 = ap (λ (c : Cursor). c .front) (e ∙ ap (λ (t : Bool). cond t (cursor n 0 0 at w Nothing true) (cursor n f (indexOf n f) at w Nothing true)) q) in
         absurd (omega (arith, z, h, l))
 
-line-nearer : (n f i at w : ℕ) (p : Sent) (g : Bool) (ss rest : List ℕ) (room : ℕ) → at ≤ length ss → 0 < n → n < 1024 → drop at ss ≡ rest → cursor n f i at w p g ≡ aimed n f at w p rest
+leave-nearer : (n f i at w : ℕ) (p : Sent) (g : Bool) (ss rest : List ℕ) (room : ℕ) → at ≤ length ss → 0 < n → n < 1024 → drop at ss ≡ rest → cursor n f i at w p g ≡ nextTurn n f at w p rest
     → g ≡ true → n ≤ f
-    → measure (length ss) n (lineCursor p (cursor n f i at w p g) ss room) < 2048 * (length ss - at) + 1024 * owed p + (n - f)
-line-nearer n f i at w Nothing g ss [] room far h few e q v l = absurd (no-way (sym (ap (λ (c : Cursor). c .going) q) ∙ v))
-line-nearer n f i at w Nothing g ss (s ∷ rest) room far h few e q v l =
-    let one : 1 ≤ highs (drop at ss) = subst (λ (r : List ℕ). 1 ≤ highs r) (sym e) (high-turns s rest (line-high n f i at w g s rest q h l)) in
-    omega (arith, few, one, highs-within ss at far, loose (length ss) n f (at + highs (drop at ss)) (putEnd room w (highs (drop at ss))) Nothing (drop (at + highs (drop at ss)) ss))
-line-nearer n f i at w (One b) g ss [] room far h few e q v l = absurd (no-way (sym (ap (λ (c : Cursor). c .going) q) ∙ v))
-line-nearer n f i at w (One b) g ss (s ∷ rest) room far h few e q v l =
-    absurd (no-one (cursor n f i at w (One b) g) b refl (subst (λ (c : Cursor). c .pending ≡ Nothing) (sym q) (facing-has n f at w (s ∷ rest) (λ (c : Cursor). c .pending ≡ Nothing) refl refl refl)))
+    → measure (length ss) n (leaveCursor p (cursor n f i at w p g) ss room) < 2048 * (length ss - at) + 1024 * owed p + (n - f)
+leave-nearer n f i at w Nothing g ss [] room far h few e q v l = absurd (no-way (sym (ap (λ (c : Cursor). c .going) q) ∙ v))
+leave-nearer n f i at w Nothing g ss (s ∷ rest) room far h few e q v l =
+    let one : 1 ≤ highCount (drop at ss) = subst (λ (r : List ℕ). 1 ≤ highCount r) (sym e) (high-turns s rest (leave-high n f i at w g s rest q h l)) in
+    omega (arith, few, one, highCount-within ss at far, loose (length ss) n f (at + highCount (drop at ss)) (putEnd room w (highCount (drop at ss))) Nothing (drop (at + highCount (drop at ss)) ss))
+leave-nearer n f i at w (One b) g ss [] room far h few e q v l = absurd (no-way (sym (ap (λ (c : Cursor). c .going) q) ∙ v))
+leave-nearer n f i at w (One b) g ss (s ∷ rest) room far h few e q v l =
+    absurd (no-one (cursor n f i at w (One b) g) b refl (subst (λ (c : Cursor). c .pending ≡ Nothing) (sym q) (turnByState-has n f at w (s ∷ rest) (λ (c : Cursor). c .pending ≡ Nothing) refl refl refl)))
   where
     no-one : (c : Cursor) (b : ℕ) → c .pending ≡ One b → c .pending ≡ Nothing → ⊥
     no-one c b x y = let z : _≡_ {A = ℕ} 0 1 = cc in omega (arith, z)
-line-nearer n f i at w (Header c k) g ss rest room far h few e q v l =
+leave-nearer n f i at w (Header c k) g ss rest room far h few e q v l =
     omega (arith, few, loose (length ss) n f at (putEnd room w 24) Nothing (drop at ss))
 
 -- a low state next, and no header under way: the front is the first device
-pub low-front : (n f i at w : ℕ) (p : Sent) (g : Bool) (s : ℕ) (xs : List ℕ) → cursor n f i at w p g ≡ aimed n f at w p (s ∷ xs) → owed p ≡ 0 → ltb s 2 ≡ true → f ≡ 0
-low-front n f i at w Nothing g s xs e k h = low-facing n f i at w Nothing g s xs e h
-low-front n f i at w (One b) g s xs e k h = low-facing n f i at w (One b) g s xs e h
+pub low-front : (n f i at w : ℕ) (p : Sent) (g : Bool) (s : ℕ) (xs : List ℕ) → cursor n f i at w p g ≡ nextTurn n f at w p (s ∷ xs) → owed p ≡ 0 → ltb s 2 ≡ true → f ≡ 0
+low-front n f i at w Nothing g s xs e k h = low-turnByState n f i at w Nothing g s xs e h
+low-front n f i at w (One b) g s xs e k h = low-turnByState n f i at w (One b) g s xs e h
 low-front n f i at w (Header c m) g s xs e k h = absurd (omega (arith, k))
 
-turned-nearer : (d : Device) (n f i at w : ℕ) (p : Sent) (g : Bool) (ss : List ℕ) (room : ℕ) → at ≤ length ss → 0 < n → n < 1024 → cursor n f i at w p g ≡ aimed n f at w p (drop at ss) → g ≡ true
+turned-nearer : (d : Device) (n f i at w : ℕ) (p : Sent) (g : Bool) (ss : List ℕ) (room : ℕ) → at ≤ length ss → 0 < n → n < 1024 → cursor n f i at w p g ≡ nextTurn n f at w p (drop at ss) → g ≡ true
     → measure (length ss) n (turnWithin d (cursor n f i at w p g) ss room .cursor) < measure (length ss) n (cursor n f i at w p g)
 unfolding Nearer
 turned-nearer d n f i at w p g ss room far h few q v = go (ltb f n) refl
   where
     go : (t : Bool) → ltb f n ≡ t
-        → measure (length ss) n (cond t (deviceTurn d (cursor n f i at w p g) ss) (lineTurn d (cursor n f i at w p g) ss room) .cursor) < measure (length ss) n (cursor n f i at w p g)
+        → measure (length ss) n (cond t (deviceTurn d (cursor n f i at w p g) ss) (leaveTurn d (cursor n f i at w p g) ss room) .cursor) < measure (length ss) n (cursor n f i at w p g)
     go true e =
         device-nearer d n f at w ss far few p (drop at ss) refl (lives n f i at w p g (drop at ss) q v) (ltb-true f n e)
-    go false e = line-nearer n f i at w p g ss (drop at ss) room far h few refl q v (ltb-false f n e)
+    go false e = leave-nearer n f i at w p g ss (drop at ss) room far h few refl q v (ltb-false f n e)
 
 pub nearer-next : (n : ℕ) (ss : List ℕ) (room : ℕ) (r : Running) → 0 < n → n < 1024 → Good n ss room r → r .cursor .going ≡ true
     → measure (length ss) n (turning ss r .cursor) < measure (length ss) n (r .cursor)
@@ -379,7 +379,7 @@ nearer-next n ss room r h few good v =
     (sym (turned-is (getD (r .devices) (r .cursor .index) blank) (r .cursor) ss (length (r .out)) (good .at) w))
     (subst (λ (m : ℕ). measure (length ss) m (turnWithin (getD (r .devices) (r .cursor .index) blank) (r .cursor) ss (length (r .out)) .cursor) < measure (length ss) m (r .cursor)) (good .count)
     (turned-nearer (getD (r .devices) (r .cursor .index) blank) (r .cursor .count) (r .cursor .front) (r .cursor .index) (r .cursor .at) (r .cursor .written) (r .cursor .pending) (r .cursor .going) ss (length (r .out)) (good .at)
-    (subst (λ (m : ℕ). 0 < m) (sym (good .count)) h) (subst (λ (m : ℕ). m < 1024) (sym (good .count)) few) (good .aim) v))
+    (subst (λ (m : ℕ). 0 < m) (sym (good .count)) h) (subst (λ (m : ℕ). m < 1024) (sym (good .count)) few) (good .next) v))
 
 pub turns-on : (t : ℕ) (ss : List ℕ) (r : Running) → r .cursor .going ≡ true → turns (suc t) ss r ≡ turns t ss (turning ss r)
 unfolding turns
@@ -390,5 +390,5 @@ unfolding turns
 turns-stop zero ss r e = refl
 turns-stop (suc t) ss r e = ap (λ (b : Bool). cond b (turns t ss (turning ss r)) r) e
 
-pub near-start : (ds : List Device) (ss : List ℕ) → length ds < 1024 → measure (length ss) (length ds) (begun (length ds) ss) ≤ enough ss
+pub near-start : (ds : List Device) (ss : List ℕ) → length ds < 1024 → measure (length ss) (length ds) (beginRun (length ds) ss) ≤ enough ss
 near-start ds ss few = omega (arith, few, loose (length ss) (length ds) 0 0 0 Nothing ss)

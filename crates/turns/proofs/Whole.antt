@@ -11,10 +11,10 @@ use Rattle.device.specs.declared.device.Device.{Device}
 use Rattle.calls.specs.Chain.{through}
 use Rattle.calls.specs.Calls.{runRefusal, runAfter, runRoom}
 use Rattle.turns.specs.declared.entry.Ran.{Ran}
-use Rattle.turns.specs.Front.{Running, nowAt, turning, turns, begun, halted, started, enough, frontRun}
+use Rattle.turns.specs.Front.{Running, nowAt, turning, turns, beginRun, halted, started, enough, frontRun}
 use Rattle.turns.specs.Answer.{ran, runAnswer}
 use Rattle.turns.specs.Entry.{entryUnder, runUnder, runEnd}
-use Rattle.turns.proofs.Lines.{put-over, put-end-all}
+use Rattle.turns.proofs.LeavingStates.{put-over, put-end-all}
 use Rattle.turns.proofs.Turns.{no-way, Good, measure, good-start, good-next, nearer-next, turns-on, turns-stop, near-start}
 use Rattle.turns.proofs.Same.{all-neat, front-run-same}
 use Rattle.calls.proofs.Accepted.{Accepted, accepted-run}
@@ -65,7 +65,7 @@ unfolding runUnder frontRun
 stands-start ds ss os = go (eqb (runRefusal ds ss (length os)) 0) refl
   where
     go : (t : Bool) → eqb (runRefusal ds ss (length os)) 0 ≡ t
-        → Stands (length ds) ss (length os) (enough ss) (cond t (frontRun ds ss os) (nowAt ds halted os)) (nowAt ds (cond t (begun (length ds) ss) halted) os)
+        → Stands (length ds) ss (length os) (enough ss) (cond t (frontRun ds ss os) (nowAt ds halted os)) (nowAt ds (cond t (beginRun (length ds) ss) halted) os)
     go false e = record { devices = refl; out = refl; written = omega arith; last = turns-stop (enough ss) ss (nowAt ds halted os) refl; live = λ v. absurd (no-way v) }
     go true e =
         let h : Accepted ds ss (length os) = accepted-run ds ss (length os) e in

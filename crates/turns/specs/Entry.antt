@@ -7,11 +7,11 @@ use lib.ListN.{length}
 use Rattle.device.specs.declared.device.Device.{Device}
 use Rattle.calls.specs.Calls.{runRefusal}
 use Rattle.turns.specs.declared.entry.Entry.{Entry}
-use Rattle.turns.specs.Front.{begun, halted, Running, nowAt, frontRun}
+use Rattle.turns.specs.Front.{beginRun, halted, Running, nowAt, frontRun}
 
 -- where a run begins: at its end if it is refused
 abbrev pub entryUnder : ℕ → ℕ → List ℕ → Entry
-entryUnder refusal n ss = record { refusal = refusal; cursor = cond (eqb refusal 0) (begun n ss) halted }
+entryUnder refusal n ss = record { refusal = refusal; cursor = cond (eqb refusal 0) (beginRun n ss) halted }
 
 -- a run under a refusal, or none
 unfoldable pub runUnder : ℕ → List Device → List ℕ → List ℕ → Running

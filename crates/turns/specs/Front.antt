@@ -19,7 +19,7 @@ use Rattle.intake.specs.Intake.{stopped, highTaken}
 use Rattle.intake.specs.declared.taken.Taken.{Taken}
 use Rattle.calls.specs.Chain.{blank}
 use Rattle.turns.specs.declared.cursor.Cursor.{Cursor}
-use Rattle.turns.specs.declared.states.Roamed.{Roamed}
+use Rattle.turns.specs.declared.front.PhaseRun.{PhaseRun}
 
 -- ---- one device
 
@@ -46,28 +46,28 @@ abbrev pub passes : Device → Bool
 passes d = isPassing (phaseOf (d .place))
 
 -- a phase goes on at a state without a register being touched: at any low one, and at a high one unless it is of the device's slice or passed on
-abbrev pub roams : Phase → ℕ → Bool
-roams p s = ltb s 2 || (inHeader p || isLost p)
+abbrev pub phaseOnly : Phase → ℕ → Bool
+phaseOnly p s = ltb s 2 || (inHeader p || isLost p)
 
 -- a phase by one state, low or high, that stores and sends nothing
-abbrev pub roamStep : Phase → ℕ → Phase
-roamStep p s = cond (ltb s 2) (heard p s) (headed p (s % 2))
+abbrev pub phaseStep : Phase → ℕ → Phase
+phaseStep p s = cond (ltb s 2) (heard p s) (headed p (s % 2))
 
 -- as long as it does; i counts along
-unfoldable pub roamed : Phase → List ℕ → ℕ → Roamed
-roamed p [] i = record { phase = p; at = i }
-roamed p (s ∷ ss) i = cond (roams p s) (roamed (roamStep p s) ss (i + 1)) (record { phase = p; at = i })
+unfoldable pub phaseRun : Phase → List ℕ → ℕ → PhaseRun
+phaseRun p [] i = record { phase = p; at = i }
+phaseRun p (s ∷ ss) i = cond (phaseOnly p s) (phaseRun (phaseStep p s) ss (i + 1)) (record { phase = p; at = i })
 
 -- the device whose phase went on alone
-abbrev pub roamTaken : Device → Roamed → Taken
-roamTaken d q = stopped (at (d .registers) (q .phase)) (q .at) Nothing
+abbrev pub phaseTaken : Device → PhaseRun → Taken
+phaseTaken d q = stopped (at (d .registers) (q .phase)) (q .at) Nothing
 
 -- the front device, no header being under way: from a low state on as long as its phase alone goes on; from a high one on until it sends, a
 -- low one or the end. A passing device takes no high state: `One 0` says that the front moves on
 abbrev pub frontTaken : Device → List ℕ → ℕ → Taken
 frontTaken d [] i = stopped d i Nothing
 frontTaken d (s ∷ ss) i =
-    cond (ltb s 2) (roamTaken d (roamed (phaseOf (d .place)) (s ∷ ss) i)) (cond (passes d) (stopped d i (One 0)) (highTaken d (s ∷ ss) i))
+    cond (ltb s 2) (phaseTaken d (phaseRun (phaseOf (d .place)) (s ∷ ss) i)) (cond (passes d) (stopped d i (One 0)) (highTaken d (s ∷ ss) i))
 
 -- after a header any device stands before the first bit of its slice
 abbrev pub sliceStart : Device → Command → ℕ → Device
@@ -88,8 +88,8 @@ afterHeader d (One s) = d
 -- such a device at a low state, which after a header it leaves to the first device
 abbrev pub lowTaken : Device → Sent → List ℕ → ℕ → Taken
 lowTaken d (Header c n) ss i = stopped d i Nothing
-lowTaken d Nothing ss i = roamTaken d (roamed (phaseOf (d .place)) ss i)
-lowTaken d (One s) ss i = roamTaken d (roamed (phaseOf (d .place)) ss i)
+lowTaken d Nothing ss i = phaseTaken d (phaseRun (phaseOf (d .place)) ss i)
+lowTaken d (One s) ss i = phaseTaken d (phaseRun (phaseOf (d .place)) ss i)
 
 -- ---- the cursor
 
@@ -103,17 +103,17 @@ cursor count front index at written pending going =
     record { count = count; front = front; index = index; at = at; written = written; pending = pending; going = going }
 
 -- no header is under way: the next state says whose turn it is, and a low one is the first device's
-abbrev pub facing : ℕ → ℕ → ℕ → ℕ → List ℕ → Cursor
-facing count front at written [] = cursor count front 0 at written Nothing false
-facing count front at written (s ∷ ss) =
+abbrev pub turnByState : ℕ → ℕ → ℕ → ℕ → List ℕ → Cursor
+turnByState count front at written [] = cursor count front 0 at written Nothing false
+turnByState count front at written (s ∷ ss) =
     cond (ltb s 2) (cursor count 0 0 at written Nothing true)
     (cursor count front (indexOf count front) at written Nothing true)
 
 -- by the header under way, or by the next state
-abbrev pub aimed : ℕ → ℕ → ℕ → ℕ → Sent → List ℕ → Cursor
-aimed count front at written (Header c n) ss = cursor count front (indexOf count front) at written (Header c n) true
-aimed count front at written Nothing ss = facing count front at written ss
-aimed count front at written (One s) ss = facing count front at written ss
+abbrev pub nextTurn : ℕ → ℕ → ℕ → ℕ → Sent → List ℕ → Cursor
+nextTurn count front at written (Header c n) ss = cursor count front (indexOf count front) at written (Header c n) true
+nextTurn count front at written Nothing ss = turnByState count front at written ss
+nextTurn count front at written (One s) ss = turnByState count front at written ss
 
 -- a device that sent, or passes, is no longer the front
 abbrev pub frontAfter : ℕ → Sent → ℕ
@@ -137,15 +137,15 @@ abbrev pub putEnd : ℕ → ℕ → ℕ → ℕ
 putEnd room w k = cond (leb (w + k) room) (w + k) room
 
 -- how many high states stand at the front
-unfoldable pub highs : List ℕ → ℕ
-highs [] = 0
-highs (s ∷ ss) = cond (ltb s 2) 0 (highs ss + 1)
+unfoldable pub highCount : List ℕ → ℕ
+highCount [] = 0
+highCount (s ∷ ss) = cond (ltb s 2) 0 (highCount ss + 1)
 
 -- what leaves a chain whose devices all pass: a header that the last one sent, or the high states
 abbrev pub leaving : Sent → List ℕ → List ℕ
 leaving (Header c n) ss = statesOf (header c n)
-leaving Nothing ss = take (highs ss) ss
-leaving (One s) ss = take (highs ss) ss
+leaving Nothing ss = take (highCount ss) ss
+leaving (One s) ss = take (highCount ss) ss
 
 -- ---- a turn
 
@@ -161,7 +161,7 @@ turnTaken d c ss =
 
 -- the cursor after the front device took the states before a place and sent
 abbrev pub cursorTo : Cursor → ℕ → Sent → List ℕ → Cursor
-cursorTo c at s ss = aimed (c .count) (frontAfter (c .front) s) at (c .written) s (drop at ss)
+cursorTo c at s ss = nextTurn (c .count) (frontAfter (c .front) s) at (c .written) s (drop at ss)
 
 -- the front device's turn
 abbrev pub deviceTurn : Device → Cursor → List ℕ → Turned
@@ -170,53 +170,53 @@ deviceTurn d c ss =
     record { device = t .device; cursor = cursorTo c (t .at) (t .sent) ss }
 
 -- the cursor after k states left the chain, the next state being at a place
-abbrev pub lineTo : Cursor → ℕ → ℕ → List ℕ → ℕ → Cursor
-lineTo c at k ss room = aimed (c .count) (c .front) at (putEnd room (c .written) k) Nothing (drop at ss)
+abbrev pub leaveTo : Cursor → ℕ → ℕ → List ℕ → ℕ → Cursor
+leaveTo c at k ss room = nextTurn (c .count) (c .front) at (putEnd room (c .written) k) Nothing (drop at ss)
 
 -- the cursor after high states that every device passes
 abbrev pub passedTo : Cursor → List ℕ → ℕ → Cursor
-passedTo c ss room = lineTo c (c .at + highs (drop (c .at) ss)) (highs (drop (c .at) ss)) ss room
+passedTo c ss room = leaveTo c (c .at + highCount (drop (c .at) ss)) (highCount (drop (c .at) ss)) ss room
 
 -- the cursor after what leaves the chain
-abbrev pub lineCursor : Sent → Cursor → List ℕ → ℕ → Cursor
-lineCursor (Header k n) c ss room = lineTo c (c .at) 24 ss room
-lineCursor Nothing c ss room = passedTo c ss room
-lineCursor (One s) c ss room = passedTo c ss room
+abbrev pub leaveCursor : Sent → Cursor → List ℕ → ℕ → Cursor
+leaveCursor (Header k n) c ss room = leaveTo c (c .at) 24 ss room
+leaveCursor Nothing c ss room = passedTo c ss room
+leaveCursor (One s) c ss room = passedTo c ss room
 
 -- the room after what leaves the chain
-abbrev pub lineOut : Cursor → List ℕ → List ℕ → List ℕ
-lineOut c ss os = putAll os (c .written) (leaving (c .pending) (drop (c .at) ss))
+abbrev pub leaveOut : Cursor → List ℕ → List ℕ → List ℕ
+leaveOut c ss os = putAll os (c .written) (leaving (c .pending) (drop (c .at) ss))
 
 -- the cursor is within the states and the room; one that is not halts
 abbrev pub within : Cursor → List ℕ → ℕ → Bool
 within c ss room = leb (c .at) (length ss) && leb (c .written) room
 
 -- the cursor where every device is passing
-abbrev pub lineAfter : Cursor → List ℕ → ℕ → Cursor
-lineAfter c ss room = cond (within c ss room) (lineCursor (c .pending) c ss room) halted
+abbrev pub leaveAfter : Cursor → List ℕ → ℕ → Cursor
+leaveAfter c ss room = cond (within c ss room) (leaveCursor (c .pending) c ss room) halted
 
 -- the room where every device is passing
-abbrev pub lineRoom : Cursor → List ℕ → List ℕ → List ℕ
-lineRoom c ss os = cond (within c ss (length os)) (lineOut c ss os) os
+abbrev pub leaveRoom : Cursor → List ℕ → List ℕ → List ℕ
+leaveRoom c ss os = cond (within c ss (length os)) (leaveOut c ss os) os
 
 -- the cursor after a turn whose device took the states before a place and sent
 abbrev pub cursorAfter : Cursor → ℕ → Sent → List ℕ → ℕ → Cursor
-cursorAfter c at s ss room = cond (ltb (c .front) (c .count)) (cursorTo c at s ss) (lineAfter c ss room)
+cursorAfter c at s ss room = cond (ltb (c .front) (c .count)) (cursorTo c at s ss) (leaveAfter c ss room)
 
 -- a turn of any device with any cursor
 unfoldable pub turned : Device → Cursor → List ℕ → ℕ → Turned
 turned d c ss room =
-    cond (ltb (c .front) (c .count)) (deviceTurn d c ss) (record { device = d; cursor = lineAfter c ss room })
+    cond (ltb (c .front) (c .count)) (deviceTurn d c ss) (record { device = d; cursor = leaveAfter c ss room })
 
 -- the room after a turn
 unfoldable pub turnedOut : Cursor → List ℕ → List ℕ → List ℕ
-turnedOut c ss os = cond (ltb (c .front) (c .count)) os (lineRoom c ss os)
+turnedOut c ss os = cond (ltb (c .front) (c .count)) os (leaveRoom c ss os)
 
 -- ---- turn after turn
 
 -- where an accepted run begins
-abbrev pub begun : ℕ → List ℕ → Cursor
-begun count ss = facing count 0 0 0 ss
+abbrev pub beginRun : ℕ → List ℕ → Cursor
+beginRun count ss = turnByState count 0 0 0 ss
 
 -- a run in progress: records, cursor, room
 pub record Running : Type 0 where
@@ -245,7 +245,7 @@ turns (suc k) ss r = cond (r .cursor .going) (turns k ss (turning ss r)) r
 
 -- a run that begins
 abbrev pub started : List Device → List ℕ → List ℕ → Running
-started ds ss os = nowAt ds (begun (length ds) ss) os
+started ds ss os = nowAt ds (beginRun (length ds) ss) os
 
 -- enough turns: two for each state, and one for each device before each of them
 abbrev pub enough : List ℕ → ℕ

@@ -2,7 +2,7 @@
 ghost use mathlib.Core.Path.{_≡_};
 ghost use lib.ListN.{drop};
 ghost use Prim.Native.Nat.{_<_, _+_, _^_};
-ghost use Rattle.turns.specs.Front.{indexOf, facing, aimed, frontAfter, halted};
+ghost use Rattle.turns.specs.Front.{indexOf, turnByState, nextTurn, frontAfter, halted};
 use phases::Sent;
 
 pub struct Cursor {
@@ -22,7 +22,7 @@ pub struct Cursor {
 }
 
 // By the header under way, or by the next state.
-pub fn aim(
+pub fn next_turn(
     count: usize,
     front: usize,
     at: usize,
@@ -30,7 +30,7 @@ pub fn aim(
     pending: Sent,
     states: &[u8],
 ) -> Cursor
-    ensures { λ r. ⌜ r ≡ aimed count front at written pending (drop at (now (states .entry))) ⌝ }
+    ensures { λ r. ⌜ r ≡ nextTurn count front at written pending (drop at (now (states .entry))) ⌝ }
 {
     if let Sent::Header { .. } = pending {
         return Cursor {
@@ -43,12 +43,12 @@ pub fn aim(
             going: true,
         };
     }
-    face(count, front, at, written, states)
+    turn_by_state(count, front, at, written, states)
 }
 
 // By the next state: a low one is the first device's.
-pub fn face(count: usize, front: usize, at: usize, written: usize, states: &[u8]) -> Cursor
-    ensures { λ r. ⌜ r ≡ facing count front at written (drop at (now (states .entry))) ⌝ }
+pub fn turn_by_state(count: usize, front: usize, at: usize, written: usize, states: &[u8]) -> Cursor
+    ensures { λ r. ⌜ r ≡ turnByState count front at written (drop at (now (states .entry))) ⌝ }
 {
     if at < states.len() {
         if states[at] < 2 {

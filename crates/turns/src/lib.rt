@@ -1,8 +1,8 @@
 // The turns of a run through a lent chain of devices, by value. The call itself, which walks the chain, is in the crate chain.
 mod cursor;
 mod entry;
-mod line;
-mod states;
+mod front;
+mod leaving;
 mod turning;
 
 pub use cursor::Cursor;

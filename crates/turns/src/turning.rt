@@ -15,7 +15,7 @@ pub fn take_turn(device: Device, cursor: Cursor, states: &[u8]) -> Taken
     let at = cursor.at;
     if cursor.front < cursor.count {
         let pending = cursor.pending;
-        return crate::states::device_take(device, pending, states, at);
+        return crate::front::device_take(device, pending, states, at);
     }
     Taken {
         device,
@@ -36,7 +36,7 @@ pub fn turn_after(
 {
     if cursor.front < cursor.count {
         let front = crate::cursor::front_after(cursor.front, sent);
-        return crate::cursor::aim(cursor.count, front, at, cursor.written, sent, states);
+        return crate::cursor::next_turn(cursor.count, front, at, cursor.written, sent, states);
     }
     if cursor.at > states.len() {
         return crate::cursor::halt();
@@ -44,5 +44,5 @@ pub fn turn_after(
     if cursor.written > returned.len() {
         return crate::cursor::halt();
     }
-    crate::line::line(cursor, states, returned)
+    crate::leaving::leave(cursor, states, returned)
 }

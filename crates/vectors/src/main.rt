@@ -1,4 +1,4 @@
-// The numbers of document 01, section "Numbers to hold against", run through the library. A line for each says the case, what it should
+// The numbers of docs/RULES.md, "Numbers to hold against", run through the library. A line for each says the case, what it should
 // be, what came out, and `ok`, or `WRONG` where the two differ.
 mod frame_cases; // a to f and h: written, compared and read back
 mod light_cases; // i to k

@@ -3,7 +3,7 @@ use cases::frame_of;
 use cases::no_tail;
 use cases::tail_of;
 use frames::Read;
-use frames::Returned;
+use frames::ReturnRead;
 use frames::Tail;
 use frames::Told;
 use frames::Written;
@@ -146,7 +146,7 @@ fn read_refusal(told: Told, tail: Tail, frame: &[u8]) -> u8 {
 
 fn return_refusal(devices: usize, tail: Tail, frame: &[u8]) -> u8 {
     match frames::read_return(6974, devices, Command::Configuration, tail, frame) {
-        Returned::Count(_) => 0,
-        Returned::Refused(number) => number,
+        ReturnRead::Count(_) => 0,
+        ReturnRead::Refused(number) => number,
     }
 }

@@ -1,4 +1,4 @@
-// Chains of document 01's numbers, and rules of a device that no number of it shows, run through the library. A line for each says the
+// Chains of the numbers of docs/RULES.md, and rules of a device that none of them shows, run through the library. A line for each says the
 // case, what it should be, what came out, and `ok`, or `WRONG` where the two differ.
 mod lists; // a list copied
 mod order_cases; // the order of unequal individual values

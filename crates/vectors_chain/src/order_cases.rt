@@ -71,7 +71,7 @@ fn load(chain: [Device; 3], configuration: u8, values: &[u16], count: usize) -> 
     )
 }
 
-// The chain after a frame, which is written, put on the line and run. Where the frame is refused the chain stays.
+// The chain after a frame, which is written, put on the wire and run. Where the frame is refused the chain stays.
 fn send(chain: [Device; 3], command: Command, configuration: u8, values: &[u16]) -> [Device; 3] {
     let told = frame_of(6974, 3, command, configuration);
     let mut frame = [0u8; 219];
@@ -82,7 +82,7 @@ fn send(chain: [Device; 3], command: Command, configuration: u8, values: &[u16])
     let end = least(n, 219);
     let bits = end * 8;
     let mut states = [0u8; 1752];
-    line::frame_states(&frame[..end], bits, &mut states);
+    serial::frame_states(&frame[..end], bits, &mut states);
     let mut returned = [0u8; 1775];
     load_three(chain, &states[..bits], &mut returned)
 }

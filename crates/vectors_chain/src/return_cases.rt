@@ -5,10 +5,10 @@ use cases::least;
 use cases::no_tail;
 use cases::tail_of;
 use device::Device;
-use frames::Returned;
+use frames::ReturnRead;
 use frames::Tail;
-use line::Line;
 use parts::Command;
+use serial::Converted;
 use three::fault_three;
 use three::fresh_three;
 use three::run_three;
@@ -24,7 +24,7 @@ pub fn run() {
     let mut frame = [0u8; 13];
     frame_writer::write(told, tail, 0, bytes, &[0u16; 1], &mut frame);
     let mut states = [0u8; 104];
-    line::frame_states(&frame, 104, &mut states);
+    serial::frame_states(&frame, 104, &mut states);
     let mut returned = [0u8; 127];
     let ran = run_three(open_leds(1, 0, 1), &states, &mut returned);
     let end = least(ran.returned, 127);
@@ -45,7 +45,7 @@ pub fn run_joined() {
     let mut frame = [0u8; 3072];
     frame_writer::write(told, no_tail(), 0, b"", &[0u16; 1], &mut frame);
     let mut states = [0u8; 24576];
-    line::frame_states(&frame, 24576, &mut states);
+    serial::frame_states(&frame, 24576, &mut states);
     let end = least(join(&mut states, 24576, 341), 24576);
     return_case(
         b"-  6974, N = 1023 as 341 chains of 3, all with open LEDs, configuration",
@@ -102,12 +102,12 @@ fn return_case(
     cases::count(count as u64);
     cases::text(b", came out");
     let mut back = [0u8; 8];
-    match line::pack_states(states, &mut back) {
-        Line::Refused(number) => {
+    match serial::pack_states(states, &mut back) {
+        Converted::Refused(number) => {
             cases::refusal(number);
             cases::verdict(false);
         }
-        Line::Written(n) => {
+        Converted::Written(n) => {
             let end = least(n, 8);
             let frame = &back[..end];
             cases::bytes(frame);
@@ -121,11 +121,11 @@ fn return_case(
 fn is_counted(devices: usize, command: Command, tail: Tail, frame: &[u8], count: u16) -> bool {
     cases::text(b", count");
     match frames::read_return(6974, devices, command, tail, frame) {
-        Returned::Count(n) => {
+        ReturnRead::Count(n) => {
             cases::count(n as u64);
             n == count
         }
-        Returned::Refused(number) => {
+        ReturnRead::Refused(number) => {
             cases::refusal(number);
             false
         }

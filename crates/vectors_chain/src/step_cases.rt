@@ -1,4 +1,4 @@
-// One device, stepped by value: rules that no number of document 01 shows. Each frame is given as its bytes, SYNC at low load.
+// One device, stepped by value: rules that no number of docs/RULES.md shows. Each frame is given as its bytes, SYNC at low load.
 ghost use Prim.Native.Nat.{_≤_};
 use device::Device;
 use phases::Place;
@@ -117,7 +117,7 @@ fn with_slots(first: u16, second: u16, third: u16, taken: u16) -> Device {
 // A device that is given a frame.
 fn feed(device: Device, frame: &[u8]) -> Fed {
     let mut states = [0u8; 48];
-    line::frame_states(frame, 48, &mut states);
+    serial::frame_states(frame, 48, &mut states);
     steps(device, &states)
 }
 

@@ -2,7 +2,7 @@
 
 use baseline::writer::Told;
 use baseline::{chain, compare, device, grouped, packing, reader, writer};
-use cases::{lines, records, sets, Random};
+use cases::{records, sets, states, Random};
 use model::bits;
 use model::frame::Tail;
 use model::part::Command;
@@ -163,7 +163,7 @@ fn runs_of_any_chain() {
             .collect();
         let mut copy = records.clone();
         for _ in 0..4 {
-            let states = lines::noise(random, part, devices);
+            let states = states::noise(random, part, devices);
             let mut returned = vec![0; states.len() + 23];
             let expected = model::chain::run(&mut records, &states, returned.len()).unwrap();
             let sent = chain::run(&mut copy, &states, &mut returned);

@@ -1,6 +1,6 @@
 //! Random cases from fixed seeds: sets, tails, line states and device records, in order and damaged.
 
-pub mod lines;
+pub mod states;
 pub mod random;
 pub mod records;
 pub mod sets;

@@ -2,7 +2,7 @@
 
 use crate::bits::answer;
 use crate::tally::{Case, Tally};
-use cases::{lines, records, sets, Random};
+use cases::{records, sets, states, Random};
 use record::Device;
 
 /// Chains of records that fit, of damaged ones and of junk; too few and too many; of two parts.
@@ -51,7 +51,7 @@ fn any_chain(random: &mut Random, part: u16) -> Vec<Device> {
 /// States for a single call, seldom with one that is over 3.
 fn states(random: &mut Random, part: u16) -> Vec<u8> {
     let devices = random.between(1, 3);
-    let mut states = lines::noise(random, part, devices);
+    let mut states = states::noise(random, part, devices);
     if random.one_in(8) {
         states.clear();
     }

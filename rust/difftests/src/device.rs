@@ -5,7 +5,7 @@ use cases::{records, sets, Random};
 use ffi::Stepped;
 use model::device::Device;
 use model::frame::header;
-use model::line::clocked;
+use model::serial::clocked;
 use model::part::Command;
 
 /// Records that fit, records with one number changed, and records of anything; states 0 to 3, and others.

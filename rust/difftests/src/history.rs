@@ -4,7 +4,7 @@
 //! of docs/RULES.md, "The three demands", as well.
 
 use crate::tally::{Case, Tally};
-use cases::{lines, records, sets, Random};
+use cases::{records, sets, states, Random};
 use model::frame::{header, Tail};
 use model::part::{multiplexed, slice_bits, Command, Part};
 use model::set::Set;
@@ -98,7 +98,7 @@ impl Chain {
             3 if random.one_in(4) => self.fresh(case, part),
             3 | 4 => self.refused_call(case, random),
             5 => {
-                let states = lines::frame(random, part, devices);
+                let states = states::frame(random, part, devices);
                 self.run(case, &states);
             }
             6 => {
@@ -107,7 +107,7 @@ impl Chain {
                 self.run(case, &states);
             }
             _ => {
-                let states = lines::noise(random, part, devices);
+                let states = states::noise(random, part, devices);
                 self.run(case, &states);
             }
         }
@@ -153,12 +153,12 @@ impl Restore<'_> {
     /// Four frames with any tails, low clocks before, between and after.
     fn new<'a>(random: &mut Random, set: &'a Set) -> Restore<'a> {
         let tails = [(); 4].map(|()| sets::tail(random));
-        let mut states = lines::gap(random);
+        let mut states = states::gap(random);
         let mut begins = [0; 4];
         for (k, command) in Command::RESTORE.into_iter().enumerate() {
             begins[k] = states.len();
             states.extend(library_states(set, command, tails[k]));
-            states.extend(lines::gap(random));
+            states.extend(states::gap(random));
         }
         Restore {
             set,
@@ -306,7 +306,7 @@ impl Restore<'_> {
     }
 }
 
-/// A frame's states by the library's own way: written, and put on the line.
+/// A frame's states by the library's own way: written, and put on the wire.
 fn library_states(set: &Set, command: Command, tail: Tail) -> Vec<u8> {
     let given = set.given(command);
     let told = told(set, command, tail);

@@ -12,7 +12,7 @@ mod device;
 mod frames;
 mod history;
 mod light;
-mod line;
+mod serial;
 mod tally;
 
 use tally::{commas, Tally};
@@ -25,8 +25,8 @@ fn main() {
         ("frames::written", frames::written),
         ("frames::read", frames::read),
         ("frames::returned", frames::returned),
-        ("line::states", line::states),
-        ("line::data_bytes", line::data_bytes),
+        ("serial::states", serial::states),
+        ("serial::data_bytes", serial::data_bytes),
         ("device::judged_and_stepped", device::judged_and_stepped),
         ("chain::lent", chain::lent),
         ("history::restored", history::restored),

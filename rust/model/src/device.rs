@@ -2,7 +2,7 @@
 
 use crate::bits::{bits_of, number_of};
 use crate::frame::{header, SYNC};
-use crate::line::clocked;
+use crate::serial::clocked;
 use crate::part::{field_width, multiplexed, slice_bits, Command, Part};
 use crate::{refuse, Refusal};
 

@@ -11,7 +11,7 @@ pub mod compare;
 pub mod device;
 pub mod frame;
 pub mod light;
-pub mod line;
+pub mod serial;
 pub mod part;
 pub mod reader;
 pub mod set;

@@ -1,7 +1,7 @@
 //! A set: the settings of a whole sign.
 
 use crate::frame::{frame_bits, Tail, Told};
-use crate::line::states_of_frame;
+use crate::serial::states_of_frame;
 use crate::part::{values_per_device, Command, Part};
 use crate::writer::{write, Given};
 use crate::{refuse, Refusal};

@@ -3,7 +3,7 @@
 use model::chain;
 use model::frame::{Tail, Told};
 use model::light::{self, is_lit, is_on, lead, Position};
-use model::line::data_bytes;
+use model::serial::data_bytes;
 use model::part::Command;
 use model::reader::{read, read_return, Contents};
 use model::set::Set;

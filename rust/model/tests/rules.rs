@@ -141,7 +141,7 @@ fn unequal_values_are_stored_in_wire_order() {
 /// One device after a packed frame, and the states that it sent on.
 fn fed(device: Device, frame: &[u8]) -> (Device, Vec<u8>) {
     let mut devices = [device];
-    let states = model::line::clocked(&model::bits::unpack(frame));
+    let states = model::serial::clocked(&model::bits::unpack(frame));
     let sent = chain::run(&mut devices, &states, states.len() + 23).unwrap();
     (devices[0], sent)
 }
@@ -161,7 +161,7 @@ fn the_count_wraps() {
     device.registers.openled = 1;
     let (_, sent) = fed(device, &[0xE8, 0xFF, 0xFF, 1, 1, 1]);
     let header = model::frame::header(Command::Configuration, 0);
-    assert_eq!(sent, model::line::clocked(&header));
+    assert_eq!(sent, model::serial::clocked(&header));
 }
 
 #[test]

@@ -21,8 +21,8 @@ returns : tie.Need-returns
 returns c =
     let a = c .before .args in
     by-way (c .if1 .came)
-    (λ w. sym (answers.fits-wide (a .widest) (a .width) (a .count) (a .at) (a .room) (w .taken)))
-    (λ w. sym (answers.fits-short (a .widest) (a .width) (a .count) (a .at) (a .room) (omega (arith, ltb-true (a .room) (a .at) (w .1 .taken)))))
+    (λ w. sym (answers.roomFits-wide (a .widest) (a .width) (a .count) (a .at) (a .room) (w .taken)))
+    (λ w. sym (answers.roomFits-short (a .widest) (a .width) (a .count) (a .at) (a .room) (omega (arith, ltb-true (a .room) (a .at) (w .1 .taken)))))
 
 mul-bytes : tie.Need-mul-bytes
 mul-bytes c =

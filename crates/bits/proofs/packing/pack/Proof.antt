@@ -22,7 +22,7 @@ push-each-requires c κs =
     let e = answers.told-true (c .before .before .has-room .ensures) (c .before .if1 .left) in
     let n : ℕ = length (a .values .now) in
     let room : ℕ = length (a .out .now) in
-    ((omega arith, answers.fits-width 16 (a .width) n (a .at) room e), omega (arith, answers.fits-room 16 (a .width) n (a .at) room e))
+    ((omega arith, answers.roomFits-width 16 (a .width) n (a .at) room e), omega (arith, answers.roomFits-room 16 (a .width) n (a .at) room e))
 
 finish-requires : tie.Need-finish-requires
 finish-requires c κs =
@@ -31,7 +31,7 @@ finish-requires c κs =
     let a = t .before .before .before .before .args in
     let e = answers.told-true (t .before .has-room .ensures) (t .if1 .left) in
     let d = w .push-each .ensures in
-    (d .small, omega (arith, answers.fits-room 16 (a .width) (length (a .values .now)) (a .at) (length (a .out .now)) e, d .count))
+    (d .small, omega (arith, answers.roomFits-room 16 (a .width) (length (a .values .now)) (a .at) (length (a .out .now)) e, d .count))
 
 sub-t9 : tie.Need-sub-t9
 sub-t9 c = search needs

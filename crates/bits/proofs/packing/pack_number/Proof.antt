@@ -20,14 +20,14 @@ push-wide-requires : tie.Need-push-wide-requires
 push-wide-requires c κs =
     let a = c .before .before .before .before .args in
     let e = answers.told-true (c .before .before .has-room .ensures) (c .before .if1 .left) in
-    ((omega arith, answers.fits-width 64 (a .width) 1 (a .at) (length (a .out .now)) e), omega (arith, answers.fits-room 64 (a .width) 1 (a .at) (length (a .out .now)) e))
+    ((omega arith, answers.roomFits-width 64 (a .width) 1 (a .at) (length (a .out .now)) e), omega (arith, answers.roomFits-room 64 (a .width) 1 (a .at) (length (a .out .now)) e))
 
 finish-requires : tie.Need-finish-requires
 finish-requires c κs =
     let a = c .before .before .before .before .before .before .before .before .args in
     let e = answers.told-true (c .before .before .before .before .before .before .has-room .ensures) (c .before .before .before .before .before .if1 .left) in
     let d = c .before .before .before .push-wide .ensures in
-    (d .small, omega (arith, answers.fits-room 64 (a .width) 1 (a .at) (length (a .out .now)) e, d .count))
+    (d .small, omega (arith, answers.roomFits-room 64 (a .width) 1 (a .at) (length (a .out .now)) e, d .count))
 
 sub-t9 : tie.Need-sub-t9
 sub-t9 c = search needs

@@ -23,8 +23,8 @@ pull-each-requires : tie.Need-pull-each-requires
 pull-each-requires c κs =
     let a = c .before .before .before .before .before .args in
     let e = answers.told-true (c .before .before .has-room .ensures) (c .before .if1 .left) in
-    let w = answers.fits-width 16 (a .width) (length (a .values .now)) (a .at) (length (a .src .now)) e in
-    let r = answers.fits-room 16 (a .width) (length (a .values .now)) (a .at) (length (a .src .now)) e in
+    let w = answers.roomFits-width 16 (a .width) (length (a .values .now)) (a .at) (length (a .src .now)) e in
+    let r = answers.roomFits-room 16 (a .width) (length (a .values .now)) (a .at) (length (a .src .now)) e in
     ((omega arith, w, omega arith), omega arith)
 
 same-length : tie.Need-same-length
@@ -39,7 +39,7 @@ returns-2 c =
     let n : length (f .last .1 .1 .1 .0) ≡ length (a .values .now) = omega arith in (
       sym e,
       reading.pulled-split all (f .ensures) (reading.from-start (a .src .now) (a .at) 0) ∙ ap (λ (k : ℕ). split (a .width) k all) n
-          ∙ sym (answers.unpackedOut-fits (a .width) (a .src .now) (a .at) (a .values .now) e),
+          ∙ sym (answers.unpackedOut-roomFits (a .width) (a .src .now) (a .at) (a .values .now) e),
     )
 
 pub unpack-spec : {M : Type 1} → statement M

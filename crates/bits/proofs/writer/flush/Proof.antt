@@ -6,14 +6,14 @@ use native.Mathlib.Omega.{arith}
 use lib.ListN.{length, drop, set, length-set}
 use lib.Seq.{drop-set-lt, drop-drop}
 use lib.Bits.{bitAnd, mask-lt}
-use Rattle.bits.specs.Writing.{written}
+use Rattle.bits.specs.Writing.{writtenBits}
 use Rattle.bits.proofs.Writing as writing
 use borrow.Author.Needs.{needs}
 use Rattle.bits.proofs.writer.flush.Statement.{statement}
 use Rattle.bits.proofs.writer.flush.Tie as tie
 
 record Flushing (out₀ : List ℕ) (acc have₀ at₀ : ℕ) (out : List ℕ) (have at : ℕ) : Type 0 where
-  said : written out at have acc ≡ written out₀ at₀ have₀ acc
+  said : writtenBits out at have acc ≡ writtenBits out₀ at₀ have₀ acc
   rest : drop at out ≡ drop at out₀
   long : length out ≡ length out₀
   count : 8 * at + have ≡ 8 * at₀ + have₀
@@ -25,7 +25,7 @@ turn : {out₀ out : List ℕ} {acc have₀ at₀ have at : ℕ} → Flushing ou
 turn {out₀} {out} {acc} {have₀} {at₀} {have} {at} i full room =
     let e : 8 + (have - 8) ≡ have = omega arith in
     record {
-      said = writing.byte-written out at (have - 8) acc room ∙ ap (λ (n : ℕ). written out at n acc) e ∙ i .said;
+      said = writing.byte-writtenBits out at (have - 8) acc room ∙ ap (λ (n : ℕ). writtenBits out at n acc) e ∙ i .said;
       rest = drop-set-lt (at + 1) out at _ (omega arith) ∙ sym (drop-drop 1 at out) ∙ ap (drop 1) (i .rest) ∙ drop-drop 1 at out₀;
       long = length-set out at _ ∙ i .long;
       count = omega arith;

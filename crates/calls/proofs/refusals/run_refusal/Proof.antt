@@ -1,7 +1,7 @@
 -- The rows of the records come first; then the row of the room, and the row of the states.
 use Rattle.tables.proofs.Rows.{sooner, later}
 use Rattle.tables.specs.Refusals.{Row, _when_}
-use Rattle.calls.specs.Judging.{partRows}
+use Rattle.calls.specs.Judging.{judgedRows}
 use mathlib.Core.Path.{refl, sym, _∙_}
 use mathlib.Core.Bool.{not, _&&_}
 use mathlib.Core.List.{List, [], _∷_}
@@ -21,7 +21,7 @@ part-refusal-requires : tie.Need-part-refusal-requires
 part-refusal-requires c κs = search needs
 
 returns : tie.Need-returns
-returns c = let s = c .before .before .before in sooner (partRows (s .args .judged) (s .args .n)) (own s) (c .before .part-refusal .ensures) (c .if1 .taken)
+returns c = let s = c .before .before .before in sooner (judgedRows (s .args .judged) (s .args .n)) (own s) (c .before .part-refusal .ensures) (c .if1 .taken)
 
 lacks-room-requires : tie.Need-lacks-room-requires
 lacks-room-requires c κs = search needs
@@ -30,7 +30,7 @@ returns-2 : tie.Need-returns-2
 returns-2 c =
     let e = c .before .before in
     let s = e .before .before .before in
-    later {m = 5} (partRows (s .args .judged) (s .args .n)) (own s) refl (e .before .part-refusal .ensures) (e .if1 .left) (rw (sym (c .before .lacks-room .ensures) ∙ c .if2 .taken))
+    later {m = 5} (judgedRows (s .args .judged) (s .args .n)) (own s) refl (e .before .part-refusal .ensures) (e .if1 .left) (rw (sym (c .before .lacks-room .ensures) ∙ c .if2 .taken))
 
 states-fit-requires : tie.Need-states-fit-requires
 states-fit-requires c κs = search needs
@@ -40,7 +40,7 @@ returns-3 c =
     let r = c .before .before in
     let e = r .before .before in
     let s = e .before .before .before in
-    later {m = 0} (partRows (s .args .judged) (s .args .n)) (own s) refl (e .before .part-refusal .ensures) (e .if1 .left)
+    later {m = 0} (judgedRows (s .args .judged) (s .args .n)) (own s) refl (e .before .part-refusal .ensures) (e .if1 .left)
     (rw (sym (r .before .lacks-room .ensures) ∙ r .if2 .left, sym (c .before .states-fit .ensures) ∙ c .if3 .taken))
 
 returns-4 : tie.Need-returns-4
@@ -48,7 +48,7 @@ returns-4 c =
     let r = c .before .before in
     let e = r .before .before in
     let s = e .before .before .before in
-    later {m = 13} (partRows (s .args .judged) (s .args .n)) (own s) refl (e .before .part-refusal .ensures) (e .if1 .left)
+    later {m = 13} (judgedRows (s .args .judged) (s .args .n)) (own s) refl (e .before .part-refusal .ensures) (e .if1 .left)
     (rw (sym (r .before .lacks-room .ensures) ∙ r .if2 .left, sym (c .before .states-fit .ensures) ∙ c .if3 .left))
 
 pub run-refusal-spec : {M : Type 1} → statement M

@@ -1,5 +1,5 @@
 -- `capi::bb_read_return` meets its contract. Assumes nothing.
-use Rattle.capi.specs.Answers.{ofReturned}
+use Rattle.capi.specs.Answers.{ofReturnRead}
 use mathlib.Core.Path.{ap, _∙_}
 use borrow.Author.Needs.{needs}
 use Rattle.capi.proofs.wire.bb_read_return.Statement.{statement}
@@ -11,11 +11,11 @@ command-of-requires c κs = search needs
 read-return-requires : tie.Need-read-return-requires
 read-return-requires c κs = search needs
 
-of-returned-requires : tie.Need-of-returned-requires
-of-returned-requires c κs = search needs
+of-return-read-requires : tie.Need-of-return-read-requires
+of-return-read-requires c κs = search needs
 
 returns : tie.Need-returns
-returns c = rw (← c .before .before .command-of .ensures) (c .of-returned .ensures ∙ ap ofReturned (c .before .read-return .ensures))
+returns c = rw (← c .before .before .command-of .ensures) (c .of-return-read .ensures ∙ ap ofReturnRead (c .before .read-return .ensures))
 
 pub bb-read-return-spec : {M : Type 1} → statement M
 bb-read-return-spec =
@@ -23,5 +23,5 @@ bb-read-return-spec =
     (tie.spec
     command-of-requires
     read-return-requires
-    of-returned-requires
+    of-return-read-requires
     returns)

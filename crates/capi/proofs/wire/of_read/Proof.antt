@@ -1,7 +1,7 @@
 -- `capi::of_read` meets its contract. Assumes nothing.
 use mathlib.Core.Path.{_≡_, refl, ap, _∙_}
 use Rattle.frames.proofs.Cases.{read-no-refusal}
-use Rattle.capi.specs.Answers.{accepted, given, ofRead}
+use Rattle.capi.specs.Answers.{accepted, valueGiven, ofRead}
 use borrow.Author.Needs.{needs}
 use Rattle.capi.proofs.wire.of_read.Statement.{statement}
 use Rattle.capi.proofs.wire.of_read.Tie as tie
@@ -9,8 +9,8 @@ use Rattle.capi.proofs.wire.of_read.Tie as tie
 enum-known-read : tie.Need-enum-known-read
 enum-known-read c = search needs
 
-given-requires : tie.Need-given-requires
-given-requires c κs = search needs
+value-given-requires : tie.Need-value-given-requires
+value-given-requires c κs = search needs
 
 accept-requires : tie.Need-accept-requires
 accept-requires c κs = search needs
@@ -19,8 +19,8 @@ returns : tie.Need-returns
 returns c =
     let k = c .before .before in
     c .accept .ensures
-    ∙ ap accepted (c .before .given .ensures)
-    ∙ read-no-refusal (λ r. accepted (given r) ≡ ofRead r) (λ b. refl) (λ n. refl) (λ n. refl) (k .before .args .read) (k .match .keys2)
+    ∙ ap accepted (c .before .value-given .ensures)
+    ∙ read-no-refusal (λ r. accepted (valueGiven r) ≡ ofRead r) (λ b. refl) (λ n. refl) (λ n. refl) (k .before .args .read) (k .match .keys2)
 
 refuse-requires : tie.Need-refuse-requires
 refuse-requires c κs = search needs
@@ -31,4 +31,4 @@ returns-2 c = rw (c .before .before .read .given .1) (c .refuse .ensures)
 pub of-read-spec : {M : Type 1} → statement M
 of-read-spec =
     tie.close
-    (tie.spec enum-known-read given-requires accept-requires returns refuse-requires returns-2)
+    (tie.spec enum-known-read value-given-requires accept-requires returns refuse-requires returns-2)

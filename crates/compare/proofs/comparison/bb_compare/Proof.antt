@@ -21,10 +21,10 @@ use Rattle.calls.proofs.judge.Symbol as judge-def
 use Rattle.calls.proofs.judge.Symbol.{name as #judge}
 use Rattle.calls.proofs.judge.Met as judge-thm
 use Rattle.compare.specs.declared.compared.Compared.{Compared}
-use Rattle.compare.specs.declared.compared.Given.{Given}
+use Rattle.compare.specs.declared.compared.SetNumbers.{SetNumbers}
 use Rattle.compare.specs.declared.compared.Search.{Search}
 use Rattle.compare.specs.Compare.{setOf, comparison}
-use Rattle.compare.specs.Search.{given, Ready, begun, lookedAt}
+use Rattle.compare.specs.Search.{setNumbers, OwnInLists, beginSearch, lookedAt}
 use Rattle.compare.proofs.Found.{Stands, stands-zero, stands-end, stands-index, stands-ready, stands-next, stands-start}
 use Rattle.compare.proofs.compared.Compared as R
 use Rattle.compare.proofs.compared.Compared.Laws as R′
@@ -106,8 +106,8 @@ module _ {M : Type 1} (𝓤 : URA M) (H : Heap 𝓤) (A : Atoms 𝓤) (W : walk-
   abbrev Post : Val → SProp 𝓤
   Post = walkOf 𝓤 H A bb-compare.ended stayed (bb-compare.clauses 𝓤 H A mem run) .post (((κ₀, (κ₁, (κ₂, tt))), (q₀, (q₁, (q₂, tt))), tt, x, at), tt)
 
-  abbrev g : Given
-  g = given pt n cf gl
+  abbrev g : SetNumbers
+  g = setNumbers pt n cf gl
 
   abbrev p : Part
   p = partOf pt
@@ -116,7 +116,7 @@ module _ {M : Type 1} (𝓤 : URA M) (H : Heap 𝓤) (A : Atoms 𝓤) (W : walk-
   fin = comparison (setOf pt n cf cs gl vs) xs
 
   abbrev bg : Search
-  bg = begun g (length cs) vs (judgedFrom unjudged xs) (length xs)
+  bg = beginSearch g (length cs) vs (judgedFrom unjudged xs) (length xs)
 
   exits : RIs fin → ent 𝓤 (⋆ 𝓤 H A (‵ (flft κ₁ q₁) ∷ ‵ (flft κ₀ q₀) ∷ ‵ (flft κ₂ q₂) ∷ [])) (Post (rval fin))
   exits is =
@@ -144,7 +144,7 @@ module _ {M : Type 1} (𝓤 : URA M) (H : Heap 𝓤) (A : Atoms 𝓤) (W : walk-
   to-look ν ν′ δ δ′ d s =
       (((ν ∷ [], (ν′ ∷ [], tt)), (fullShare, (fullShare, tt)), tt, (d, (s, (ref b₀ o₀ δ cs, (ref b₁ o₁ δ′ vs, tt)))), (vals d, (svals s, (sl b₀ o₀ (length cs), (sl b₁ o₁ (length vs), tt))))), tt)
 
-  asks-look : (ν ν′ : ℕ) (δ δ′ : GName) (d : Device) (s : Search) → Is D d (vals d) → SIs s → Ready s (length cs) (length vs)
+  asks-look : (ν ν′ : ℕ) (δ δ′ : GName) (d : Device) (s : Search) → Is D d (vals d) → SIs s → OwnInLists s (length cs) (length vs)
       → ent 𝓤 (sep 𝓤 (sem 𝓤 H A (ShrSlice (named 0) (ν ∷ []) u8 .own (ref b₀ o₀ δ cs) (sl b₀ o₀ (length cs)))) (sep 𝓤 (A .lft (ν ∷ []) fullShare) (sep 𝓤 (sem 𝓤 H A (ShrSlice (named 1) (ν′ ∷ []) u16 .own (ref b₁ o₁ δ′ vs) (sl b₁ o₁ (length vs)))) (A .lft (ν′ ∷ []) fullShare)))) (LookC 𝓤 H A mem run .pre (to-look ν ν′ δ δ′ d s))
   asks-look ν ν′ δ δ′ d s d-is s-is ready =
       qed W (‵ (ShrSlice (named 0) (ν ∷ []) u8 .own (ref b₀ o₀ δ cs) (sl b₀ o₀ (length cs))) ∷ ‵ (flft (ν ∷ []) fullShare) ∷ ‵ (ShrSlice (named 1) (ν′ ∷ []) u16 .own (ref b₁ o₁ δ′ vs) (sl b₁ o₁ (length vs))) ∷ ‵ (flft (ν′ ∷ []) fullShare) ∷ []) ∵ says ! ready $
@@ -169,7 +169,7 @@ module _ {M : Type 1} (𝓤 : URA M) (H : Heap 𝓤) (A : Atoms 𝓤) (W : walk-
     abbrev next : Search → Search
     next s = lookedAt s cs vs (getD xs (s .index) blank)
 
-    more : (s : Search) (X : SProp 𝓤) → Ready s (length cs) (length vs) → s .index < length xs → SIs s → s .going ≡ true → (SIs (next s) → ent 𝓤 (⋆ 𝓤 H A (At (next s))) X) → ent 𝓤 (⋆ 𝓤 H A (At s)) (Wp 𝓤 H (𝓣 .C) (𝓣 .Λ) E m.turn-1 (afterTurn 𝓤 H X Left))
+    more : (s : Search) (X : SProp 𝓤) → OwnInLists s (length cs) (length vs) → s .index < length xs → SIs s → s .going ≡ true → (SIs (next s) → ent 𝓤 (⋆ 𝓤 H A (At (next s))) X) → ent 𝓤 (⋆ 𝓤 H A (At s)) (Wp 𝓤 H (𝓣 .C) (𝓣 .Λ) E m.turn-1 (afterTurn 𝓤 H X Left))
     unfolding afterTurn
     more s X ready small s-is going k =
         let i : ℕ = s .index in
@@ -258,8 +258,8 @@ module _ {M : Type 1} (𝓤 : URA M) (H : Heap 𝓤) (A : Atoms 𝓤) (W : walk-
       assigns ! (of-opd ! (load ! (from ! (fld ! refl (stop !))) (look-in ! 26 (sub ! 1 refl (whole !))))) (from ! (stop !)) (init ! 14 refl (tt, record { fits = g₂ .0 })) $
       move ! (4 ∷ []) $ lends-shared ! tt u16 q₁′ vs b₁ o₁ g₁ (λ ν′ δ′. join ! $ use1 W (raw (BeginC 𝓤 H A mem run .pre (to-begin ν′ δ′ j))) (asks-begin ν′ δ′ j j-is pt-fits n-fits cf-fits gl-fits (g₀ .0) (g₂ .0)) $
       calls-val ! (fmOf 𝓤 H (W .laws) 𝓣) begin.ended (begin.clauses 𝓤 H A mem run) known-begin (to-begin ν′ δ′ j) sval (LL.tells S.the-type S′.the-laws) (and-then ! (load ! (from ! (stop !)) (look ! 39 refl)) (and-then ! (load ! (from ! (stop !)) (look ! 37 refl)) (and-then ! (load ! (from ! (stop !)) (look ! 35 refl)) (and-then ! (load ! (from ! (stop !)) (look ! 17 refl)) (and-then ! (load ! (from ! (stop !)) (look ! 31 refl)) (and-then ! (load ! (from ! (stop !)) (look ! 29 refl)) (and-then ! (load ! (from ! (stop !)) (look ! 25 refl)) (and-then ! (load ! (from ! (stop !)) (look ! 15 refl)) (no-more !))))))))) (λ r zs′ is′.
-      heard ! (r ≡ begun g (length cs) vs j (length xs)) (λ e′.
-      let is-bg : r ≡ bg = e′ ∙ ap (λ (z : Judged). begun g (length cs) vs z (length xs)) e in
+      heard ! (r ≡ beginSearch g (length cs) vs j (length xs)) (λ e′.
+      let is-bg : r ≡ bg = e′ ∙ ap (λ (z : Judged). beginSearch g (length cs) vs z (length xs)) e in
       use1 W (‵ (flft (ν′ ∷ []) fullShare) ⊛ ‵ ftrue) (id⊢ 𝓤 _) $ split ! $ move ! (1 ∷ []) $ drop ! $ move ! (1 ∷ []) $ drop ! $ returned-shared ! tt u16 q₁′ vs b₁ o₁ $ move ! (1 ∷ 2 ∷ 3 ∷ 4 ∷ 0 ∷ []) $
       land ! (from ! (stop !)) (init ! 22 refl (LL.lawful S.the-type S′.the-laws 𝓤 H A W .typed r _ is′ .0)) $
       rewrite ! 22 (λ (u : Search). ‵ (fat fullShare S′.mir l₉ 0 (sval u))) is-bg refl $

@@ -85,28 +85,28 @@ returns-3 c =
     let counted = c .before .before .before in
     rw (parts-pass (counted .before .before .before), counts-pass counted, sym (lists-tested (c .before)) ∙ not-true _ (c .if6 .taken))
 
-values-fit-requires : tie.Need-values-fit-requires
-values-fit-requires c κs = search needs
+settings-fit-requires : tie.Need-settings-fit-requires
+settings-fit-requires c κs = search needs
 
 returns-4 : tie.Need-returns-4
 returns-4 c =
     let listed = c .before .before in
     let counted = listed .before .before .before in
-    rw (parts-pass (counted .before .before .before), counts-pass counted, lists-pass listed, sym (c .before .values-fit .ensures) ∙ not-true _ (c .if7 .taken))
+    rw (parts-pass (counted .before .before .before), counts-pass counted, lists-pass listed, sym (c .before .settings-fit .ensures) ∙ not-true _ (c .if7 .taken))
 
 returns-5 : tie.Need-returns-5
 returns-5 c =
     let judged = c .before in
     let listed = judged .before .before in
     let counted = listed .before .before .before in
-    rw (parts-pass (counted .before .before .before), counts-pass counted, lists-pass listed, sym (judged .before .values-fit .ensures) ∙ not-false _ (judged .if7 .left), c .if8 .taken)
+    rw (parts-pass (counted .before .before .before), counts-pass counted, lists-pass listed, sym (judged .before .settings-fit .ensures) ∙ not-false _ (judged .if7 .left), c .if8 .taken)
 
 returns-6 : tie.Need-returns-6
 returns-6 c =
     let judged = c .before in
     let listed = judged .before .before in
     let counted = listed .before .before .before in
-    rw (parts-pass (counted .before .before .before), counts-pass counted, lists-pass listed, sym (judged .before .values-fit .ensures) ∙ not-false _ (judged .if7 .left), c .if8 .left)
+    rw (parts-pass (counted .before .before .before), counts-pass counted, lists-pass listed, sym (judged .before .settings-fit .ensures) ∙ not-false _ (judged .if7 .left), c .if8 .left)
 
 pub refusal-of-spec : {M : Type 1} → statement M
 refusal-of-spec =
@@ -120,7 +120,7 @@ refusal-of-spec =
     lists-fit-requires
     chain-fits-requires
     returns-3
-    values-fit-requires
+    settings-fit-requires
     returns-4
     returns-5
     returns-6)

@@ -11,7 +11,7 @@ use lib.ListN.{length}
 use Rattle.bits.specs.Bits.{bytesOf, bytesFor, overAt}
 use Rattle.bits.proofs.Laws as bit
 use mathlib.Core.Bool.{Bool}
-use Rattle.bits.proofs.Answers.{fits-within, packedOut-fits}
+use Rattle.bits.proofs.Answers.{roomFits-within, packedOut-roomFits}
 use Rattle.frames.proofs.Answers as answers
 
 pack-number-requires : tie.Need-pack-number-requires
@@ -50,8 +50,8 @@ returns-2 c =
     let a = s .args in
     let out = a .out .now in (
       pack-number .ensures .1
-          ∙ packedOut-fits 64 (a .width) (a .value ∷ []) (a .at) out
-          (fits-within 64 (a .width) 1 (a .at) (length out) (s .pre .0) (omega (arith, one-mul (a .width))))
+          ∙ packedOut-roomFits 64 (a .width) (a .value ∷ []) (a .at) out
+          (roomFits-within 64 (a .width) 1 (a .at) (length out) (s .pre .0) (omega (arith, one-mul (a .width))))
           ∙ ap (λ (z : List Bool). overAt (a .at) (bytesOf z) out) (bit.fields-one (a .width) (a .value)),
       ap (λ (k : ℕ). a .at + k)
           (answers.packed-bytes 64 (a .width) 1 (a .at) (length out) (s .pre .0) (omega (arith, one-mul (a .width))) (pack-number .ensures .0) (c .before .n .given .1)

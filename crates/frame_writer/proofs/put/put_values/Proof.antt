@@ -6,7 +6,7 @@ use Prim.Native.Nat.{ℕ, _+_}
 use mathlib.Core.Path.{ap, _∙_}
 use native.Mathlib.Omega.{arith}
 use lib.ListN.{length}
-use Rattle.bits.proofs.Answers.{fits-within, packedOut-fits}
+use Rattle.bits.proofs.Answers.{roomFits-within, packedOut-roomFits}
 use Rattle.frames.proofs.Answers as answers
 
 pack-requires : tie.Need-pack-requires
@@ -43,8 +43,8 @@ returns-2 c =
     let pack = c .before .before .before .before .before .pack in
     let s = c .before .before .before .before .before .before .before .before .before in
     let a = s .args in (
-      pack .ensures .1 ∙ packedOut-fits 16 (a .width) (a .values .now) (a .at) (a .out .now)
-          (fits-within 16 (a .width) (length (a .values .now)) (a .at) (length (a .out .now)) (s .pre .0) (s .pre .1)),
+      pack .ensures .1 ∙ packedOut-roomFits 16 (a .width) (a .values .now) (a .at) (a .out .now)
+          (roomFits-within 16 (a .width) (length (a .values .now)) (a .at) (length (a .out .now)) (s .pre .0) (s .pre .1)),
       ap (λ (k : ℕ). a .at + k)
           (answers.packed-bytes 16 (a .width) (length (a .values .now)) (a .at) (length (a .out .now)) (s .pre .0) (s .pre .1) (pack .ensures .0) (c .before .n .given .1)),
     )

@@ -19,7 +19,7 @@ returns c = let a = c .before .before .before .before .args in
 judge-settings-requires : tie.Need-judge-settings-requires
 judge-settings-requires c κs = let a = c .before .before .before .before .args in
     let t = a .told in
-    let k = accepted.told-taken (t .part) (t .devices) (a .tail) (c .before .judge-told .ensures) (c .if1 .left) in
+    let k = accepted.told-accepted (t .part) (t .devices) (a .tail) (c .before .judge-told .ensures) (c .if1 .left) in
     (k .few, k .short)
 
 returns-2 : tie.Need-returns-2

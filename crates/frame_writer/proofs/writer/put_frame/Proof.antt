@@ -45,7 +45,7 @@ returns c =
     let a = s .args in
     let w = accepted.writable (a .told) (a .tail) (a .byte) (a .bytes .now) (a .values .now) (length (a .out .now)) (s .pre) in
     pieces.put-together (a .told) (a .tail) (a .byte) (a .bytes .now) (a .values .now)
-    (accepted.length-given (a .told) (a .told .command) (a .byte) (a .bytes .now) (a .values .now) (w .list)) (a .out .now) (header-of .ensures)
+    (accepted.length-settingsOf (a .told) (a .told .command) (a .byte) (a .bytes .now) (a .values .now) (w .list)) (a .out .now) (header-of .ensures)
     (put-number .ensures) (put-slices .ensures) (put-number2 .ensures)
 
 pub put-frame-spec : {M : Type 1} → statement M

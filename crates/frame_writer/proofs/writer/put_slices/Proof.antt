@@ -10,7 +10,7 @@ use lib.ListN.{replicate, length-replicate}
 use Rattle.parts.specs.Parts.{partOf, fieldWidth}
 use Rattle.parts.specs.declared.command.Command.{Command}
 use Rattle.frames.specs.Frames.{fieldCount, fieldBits}
-use Rattle.frame_writer.specs.Writing.{given, settings}
+use Rattle.frame_writer.specs.Writing.{settingsOf, settings}
 use Rattle.frames.proofs.Tests as tests
 use Rattle.frames.proofs.Lengths as lengths
 use Rattle.frame_writer.proofs.Pieces as pieces
@@ -36,7 +36,7 @@ put-values-requires c κs =
     let list = entry .pre .1 in
     let e = c .before .enum-told .given .1 in
     let ew = c .before .before .before .field-width .ensures in
-    let ev : a .values .now ≡ settings t (a .byte) (a .bytes .now) (a .values .now) = sym (ap (λ (k : Command). given t k (a .byte) (a .bytes .now) (a .values .now)) e) in
+    let ev : a .values .now ≡ settings t (a .byte) (a .bytes .now) (a .values .now) = sym (ap (λ (k : Command). settingsOf t k (a .byte) (a .bytes .now) (a .values .now)) e) in
     (omega (arith, ew, lengths.width-small (t .part) (t .command) .1), omega (arith, entry .pre .2, pieces.length-settings t (a .byte) (a .bytes .now) (a .values .now) list ev ew))
 
 enum-told-2 : tie.Need-enum-told-2
@@ -50,7 +50,7 @@ put-bytes-requires c κs =
     let list = entry .pre .1 in
     let e = c .before .enum-told2 .given .1 in
     let ew : 8 ≡ fieldBits t = sym (ap (λ (k : Command). fieldWidth (partOf (t .part)) k) e) in
-    let ev : a .bytes .now ≡ settings t (a .byte) (a .bytes .now) (a .values .now) = sym (ap (λ (k : Command). given t k (a .byte) (a .bytes .now) (a .values .now)) e) in
+    let ev : a .bytes .now ≡ settings t (a .byte) (a .bytes .now) (a .values .now) = sym (ap (λ (k : Command). settingsOf t k (a .byte) (a .bytes .now) (a .values .now)) e) in
     omega (arith, entry .pre .2, pieces.length-settings t (a .byte) (a .bytes .now) (a .values .now) list ev ew)
 
 enum-told-3 : tie.Need-enum-told-3
@@ -66,7 +66,7 @@ put-same-requires c κs =
     let ew : 8 ≡ fieldBits t = sym (ap (λ (k : Command). fieldWidth (partOf (t .part)) k) e) in
     let n = c .before .before .before .before .told-fields .result in
     let ev : replicate n (a .byte) ≡ settings t (a .byte) (a .bytes .now) (a .values .now)
-    = ap (λ (k : ℕ). replicate k (a .byte)) (count (c .before .before .before .before)) ∙ sym (ap (λ (k : Command). given t k (a .byte) (a .bytes .now) (a .values .now)) e) in
+    = ap (λ (k : ℕ). replicate k (a .byte)) (count (c .before .before .before .before)) ∙ sym (ap (λ (k : Command). settingsOf t k (a .byte) (a .bytes .now) (a .values .now)) e) in
     omega (arith, entry .pre .2, pieces.length-settings t (a .byte) (a .bytes .now) (a .values .now) list ev ew, length-replicate n (a .byte))
 
 enum-told-4 : tie.Need-enum-told-4
@@ -82,7 +82,7 @@ put-same-requires-2 c κs =
     let ew : 8 ≡ fieldBits t = sym (ap (λ (k : Command). fieldWidth (partOf (t .part)) k) e) in
     let n = c .before .before .before .before .told-fields .result in
     let ev : replicate n (a .byte) ≡ settings t (a .byte) (a .bytes .now) (a .values .now)
-    = ap (λ (k : ℕ). replicate k (a .byte)) (count (c .before .before .before .before)) ∙ sym (ap (λ (k : Command). given t k (a .byte) (a .bytes .now) (a .values .now)) e) in
+    = ap (λ (k : ℕ). replicate k (a .byte)) (count (c .before .before .before .before)) ∙ sym (ap (λ (k : Command). settingsOf t k (a .byte) (a .bytes .now) (a .values .now)) e) in
     omega (arith, entry .pre .2, pieces.length-settings t (a .byte) (a .bytes .now) (a .values .now) list ev ew, length-replicate n (a .byte))
 
 same-length : tie.Need-same-length
@@ -96,7 +96,7 @@ returns c =
     let list = entry .pre .1 in
     let e = c .before .before .before .before .enum-told .given .1 in
     let ew = c .before .before .before .before .before .before .field-width .ensures in
-    let ev : a .values .now ≡ settings t (a .byte) (a .bytes .now) (a .values .now) = sym (ap (λ (k : Command). given t k (a .byte) (a .bytes .now) (a .values .now)) e) in
+    let ev : a .values .now ≡ settings t (a .byte) (a .bytes .now) (a .values .now) = sym (ap (λ (k : Command). settingsOf t k (a .byte) (a .bytes .now) (a .values .now)) e) in
     pieces.put-fields t (a .byte) (a .bytes .now) (a .values .now) list ev ew (a .at) (a .out .now) (c .before .before .put-values .ensures)
 
 same-length-2 : tie.Need-same-length-2
@@ -112,7 +112,7 @@ returns-2 c =
     let list = entry .pre .1 in
     let e = enum-told2 .given .1 in
     let ew : 8 ≡ fieldBits t = sym (ap (λ (k : Command). fieldWidth (partOf (t .part)) k) e) in
-    let ev : a .bytes .now ≡ settings t (a .byte) (a .bytes .now) (a .values .now) = sym (ap (λ (k : Command). given t k (a .byte) (a .bytes .now) (a .values .now)) e) in
+    let ev : a .bytes .now ≡ settings t (a .byte) (a .bytes .now) (a .values .now) = sym (ap (λ (k : Command). settingsOf t k (a .byte) (a .bytes .now) (a .values .now)) e) in
     pieces.put-whole t (a .byte) (a .bytes .now) (a .values .now) list ev ew refl (λ i. c .before .before .before .before .before .before .before .before .before .before .shared-slice-known .given i .fits) (a .at) (a .out .now) (put-bytes .ensures)
 
 same-length-3 : tie.Need-same-length-3
@@ -128,7 +128,7 @@ returns-3 c =
     let ew : 8 ≡ fieldBits t = sym (ap (λ (k : Command). fieldWidth (partOf (t .part)) k) e) in
     let n = c .before .before .before .before .before .before .before .told-fields .result in
     let ev : replicate n (a .byte) ≡ settings t (a .byte) (a .bytes .now) (a .values .now)
-    = ap (λ (k : ℕ). replicate k (a .byte)) (count (c .before .before .before .before .before .before .before)) ∙ sym (ap (λ (k : Command). given t k (a .byte) (a .bytes .now) (a .values .now)) e) in
+    = ap (λ (k : ℕ). replicate k (a .byte)) (count (c .before .before .before .before .before .before .before)) ∙ sym (ap (λ (k : Command). settingsOf t k (a .byte) (a .bytes .now) (a .values .now)) e) in
     let small = tests.below-replicate n (a .byte) 256 (omega arith) (omega arith) in
     pieces.put-whole t (a .byte) (a .bytes .now) (a .values .now) list ev ew refl small (a .at) (a .out .now)
     (c .before .before .put-same .ensures .0, c .before .before .put-same .ensures .1 ∙ ap (λ (k : ℕ). a .at + k) (sym (length-replicate n (a .byte))))
@@ -146,7 +146,7 @@ returns-4 c =
     let ew : 8 ≡ fieldBits t = sym (ap (λ (k : Command). fieldWidth (partOf (t .part)) k) e) in
     let n = c .before .before .before .before .before .before .before .told-fields .result in
     let ev : replicate n (a .byte) ≡ settings t (a .byte) (a .bytes .now) (a .values .now)
-    = ap (λ (k : ℕ). replicate k (a .byte)) (count (c .before .before .before .before .before .before .before)) ∙ sym (ap (λ (k : Command). given t k (a .byte) (a .bytes .now) (a .values .now)) e) in
+    = ap (λ (k : ℕ). replicate k (a .byte)) (count (c .before .before .before .before .before .before .before)) ∙ sym (ap (λ (k : Command). settingsOf t k (a .byte) (a .bytes .now) (a .values .now)) e) in
     let small = tests.below-replicate n (a .byte) 256 (omega arith) (omega arith) in
     pieces.put-whole t (a .byte) (a .bytes .now) (a .values .now) list ev ew refl small (a .at) (a .out .now)
     (c .before .before .put-same2 .ensures .0, c .before .before .put-same2 .ensures .1 ∙ ap (λ (k : ℕ). a .at + k) (sym (length-replicate n (a .byte))))

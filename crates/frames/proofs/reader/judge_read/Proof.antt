@@ -26,7 +26,7 @@ returns c = let a = c .before .before .before .args in
 judge-lengths-requires : tie.Need-judge-lengths-requires
 judge-lengths-requires c κs = let a = c .before .before .before .args in
     let t = a .told in
-    let k = accepted.told-taken (t .part) (t .devices) (a .tail) (c .before .judge-told .ensures) (c .if1 .left) in
+    let k = accepted.told-accepted (t .part) (t .devices) (a .tail) (c .before .judge-told .ensures) (c .if1 .left) in
     (k .few, k .short)
 
 returns-2 : tie.Need-returns-2
@@ -47,7 +47,7 @@ judge-body-requires c κs = let a = c .before .before .before .before .before .a
     let told = toldRows (t .part) (t .devices) (a .tail) in
     let lengths = lengthRows t (a .tail) (length f) (a .bytes) (a .values) in
     let p = c .before .before in
-    let k = accepted.told-taken (t .part) (t .devices) (a .tail) (p .before .judge-told .ensures) (p .if1 .left) in
+    let k = accepted.told-accepted (t .part) (t .devices) (a .tail) (p .before .judge-told .ensures) (p .if1 .left) in
     let z = rows.clear lengths refl (sym (c .before .judge-lengths .ensures) ∙ c .if2 .left) in
     (k .some, k .few, k .short, eqb-true (length f) (frameLength t (a .tail)) (not-false _ (z .0)))
 

@@ -18,7 +18,7 @@ returns c = let a = c .before .before .before .args in
 
 judge-back-requires : tie.Need-judge-back-requires
 judge-back-requires c κs = let a = c .before .before .before .args in
-    accepted.told-taken (a .part) (a .devices) (a .tail) (c .before .judge-told .ensures) (c .if1 .left) .short
+    accepted.told-accepted (a .part) (a .devices) (a .tail) (c .before .judge-told .ensures) (c .if1 .left) .short
 
 returns-2 : tie.Need-returns-2
 unfolding returnRefusal

@@ -1,8 +1,8 @@
 -- Accepted, there are 24 bits, and ten of them are a count.
 use Rattle.frames.proofs.Accepted as accepted
-use Rattle.frames.specs.declared.told.Returned.the-variants.{Count, Refused}
+use Rattle.frames.specs.declared.told.ReturnRead.the-variants.{Count, Refused}
 use Rattle.frames.specs.Frames.{field}
-use Rattle.frames.specs.Returns.{returned}
+use Rattle.frames.specs.Returns.{returnRead}
 use Rattle.bits.proofs.Laws as wire
 use Rattle.bits.specs.Bits.{fields}
 use lib.ListN.{drop}
@@ -17,7 +17,7 @@ judge-return-requires : tie.Need-judge-return-requires
 judge-return-requires c κs = search needs
 
 returns : tie.Need-returns
-unfolding returned
+unfolding returnRead
 returns c = let a = c .before .before .before .args in
     rows.refused Refused (Count (field 14 10 (fields 8 (a .frame .now)))) (c .before .judge-return .ensures) (c .if1 .taken)
 
@@ -30,7 +30,7 @@ cast-t9 c = let a = c .before .before .before .before .args in
     rw (c .field-at .ensures) (record { fits = omega (arith, wire.number-take-lt 10 (drop 14 (fields 8 (a .frame .now)))) })
 
 returns-2 : tie.Need-returns-2
-unfolding returned
+unfolding returnRead
 returns-2 c = rows.accepted Refused (c .before .before .judge-return .ensures) (c .before .if1 .left) (ap Count (c .field-at .ensures))
 
 pub read-return-spec : {M : Type 1} → statement M

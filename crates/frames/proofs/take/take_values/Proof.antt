@@ -9,7 +9,7 @@ use lib.ListN.{length, take, drop}
 use lib.Seq.{length-take-le}
 use Rattle.bits.specs.Bits.{fields, split}
 use Rattle.bits.proofs.Laws as bit
-use Rattle.bits.proofs.Answers.{fits-within, unpackedOut-fits}
+use Rattle.bits.proofs.Answers.{roomFits-within, unpackedOut-roomFits}
 use Rattle.frames.proofs.Copies as copies
 
 slice-relend-prefix-unpack : tie.Need-slice-relend-prefix-unpack
@@ -32,8 +32,8 @@ returns c = let s = c .before .before .before .before .before .before in
     let e : length front ≡ a .n = length-take-le (a .n) (a .values .now) (s .pre .2) in
     let m : length front * a .width ≡ a .n * a .width = ap (λ (k : ℕ). k * a .width) e in
     copies.over-front (a .n) (split (a .width) (a .n) held) (a .values .now) (bit.length-split (a .width) (a .n) held)
-    (c .before .before .unpack .ensures .1 ∙ unpackedOut-fits (a .width) (a .frame .now) 3 front
-    (fits-within 16 (a .width) (length front) 3 (length (a .frame .now)) (s .pre .0) (omega arith)) ∙ ap (λ (k : ℕ). split (a .width) k held) e)
+    (c .before .before .unpack .ensures .1 ∙ unpackedOut-roomFits (a .width) (a .frame .now) 3 front
+    (roomFits-within 16 (a .width) (length front) 3 (length (a .frame .now)) (s .pre .0) (omega arith)) ∙ ap (λ (k : ℕ). split (a .width) k held) e)
 
 pub take-values-spec : {M : Type 1} → statement M
 take-values-spec = tie.close (tie.spec slice-relend-prefix-unpack slice-aggregate-unpack unpack-requires same-length returns)

@@ -1,5 +1,5 @@
 use mathlib.Core.Path.{_≡_, refl, sym, ap, _∙_}
-use Rattle.intake.proofs.Lines.{filled-none, filled-low, filled-on}
+use Rattle.intake.proofs.Clauses.{filled-none, filled-low, filled-on}
 use Rattle.intake.specs.Intake.{filled}
 use Prim.Native.Nat.{ℕ, suc, _+_, _-_, _<_, _≤_}
 use lib.ListN.{drop}

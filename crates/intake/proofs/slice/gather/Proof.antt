@@ -6,8 +6,8 @@ use Rattle.intake.specs.Intake.{highTaken, collecting, filled}
 use Rattle.device.specs.Step.{at, sliceLength}
 use Rattle.phases.specs.declared.phase.Phase.the-variants.{Slice}
 use Rattle.parts.specs.Parts.{partOf, fieldWidth, fieldLimit}
-use Rattle.intake.proofs.Slices.{Turned, turned, slot-width, slice-le, least-right, goes-more, goes-full}
-use Rattle.intake.proofs.Lines.{high-end}
+use Rattle.intake.proofs.Slices.{FieldTaken, fieldTaken, slot-width, slice-le, least-right, goes-more, goes-full}
+use Rattle.intake.proofs.Clauses.{high-end}
 use native.Mathlib.Omega.{arith}
 use Rattle.intake.proofs.Phases.{high-low-at}
 use Rattle.registers.proofs.Fields.{field-width-pos, field-limit-pos}
@@ -32,7 +32,7 @@ abbrev μ-loop : tie.MeasureT-loop
 turn-of : (c : tie.After-fill Inv-loop μ-loop)
     → let o = c .before .before .before .before .before in
     let a = o .before .before .before .before .before .before .args in
-    Turned (a .registers) (a .command) (a .count) (a .states .now) (o .loop .slice) (o .loop .t) (o .loop .i)
+    FieldTaken (a .registers) (a .command) (a .count) (a .states .now) (o .loop .slice) (o .loop .t) (o .loop .i)
     (o .before .before .before .before .field-width .result) (o .before .before .before .field-limit .result) (c .fill .result)
 turn-of c =
     let o = c .before .before .before .before .before in
@@ -42,7 +42,7 @@ turn-of c =
     let ss = a .states .now in
     let i = o .loop .i in
     let m = o .before .before .before .field-limit .result in
-    turned (a .registers) (a .command) (a .count) ss (o .loop .slice) (o .loop .t) i w m (c .fill .result) (v .0) (v .1) (v .4) (v .3)
+    fieldTaken (a .registers) (a .command) (a .count) ss (o .loop .slice) (o .loop .t) i w m (c .fill .result) (v .0) (v .1) (v .4) (v .3)
     (c .before .before .before .before .loop-test .taken) (c .before .before .if1 .left)
     (c .fill .ensures ∙ ap (λ (x : ℕ). filled (getD (o .loop .slice) (o .loop .t / w) 0) (i + x - i) (drop i ss) i) (c .before .smaller .ensures))
 

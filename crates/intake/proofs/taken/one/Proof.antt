@@ -1,4 +1,4 @@
-use Rattle.intake.proofs.Lines.{drop-on}
+use Rattle.intake.proofs.Clauses.{drop-on}
 use lib.ListN.{drop-of-length-le}
 use borrow.Author.Tests.{lt-ltb, le-ltb}
 use borrow.Author.Needs.{needs}

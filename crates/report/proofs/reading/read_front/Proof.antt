@@ -11,8 +11,8 @@ use borrow.Author.Needs.{needs}
 use Rattle.report.proofs.reading.read_front.Statement.{statement}
 use Rattle.report.proofs.reading.read_front.Tie as tie
 
-frame-bits-requires : tie.Need-frame-bits-requires
-frame-bits-requires c κs = search needs
+frame-size-requires : tie.Need-frame-size-requires
+frame-size-requires c κs = search needs
 
 add-long : tie.Need-add-long
 add-long c = omega arith
@@ -36,13 +36,13 @@ returns c =
     let f = c .before .before .before .before .before in
     _∙_ {b = read (a .told) noTail (f .front .result .now) 1536 24576} (c .before .before .read .ensures .0)
     (ap (λ (l : List ℕ). read (a .told) noTail l 1536 24576)
-    (f .front .ensures ∙ ap (λ (n : ℕ). take ((n + 7) / 8) (a .input .now)) (f .before .frame-bits .ensures .0)))
+    (f .front .ensures ∙ ap (λ (n : ℕ). take ((n + 7) / 8) (a .input .now)) (f .before .frame-size .ensures .0)))
 
 pub read-front-spec : {M : Type 1} → statement M
 read-front-spec =
     tie.close
     (tie.spec
-    frame-bits-requires
+    frame-size-requires
     add-long
     front-requires
     slice-aggregate-read

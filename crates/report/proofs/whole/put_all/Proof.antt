@@ -13,8 +13,8 @@ use borrow.Author.Needs.{needs}
 use Rattle.report.proofs.whole.put_all.Statement.{statement}
 use Rattle.report.proofs.whole.put_all.Tie as tie
 
-frame-bits-requires : tie.Need-frame-bits-requires
-frame-bits-requires c κs = search needs
+frame-size-requires : tie.Need-frame-size-requires
+frame-size-requires c κs = search needs
 
 read-front-requires : tie.Need-read-front-requires
 read-front-requires c κs = search needs
@@ -32,7 +32,7 @@ returns : tie.Need-returns
 returns c =
     let k = c .before .before .before .before in
     let r = k .before in
-    let n = r .before .frame-bits in
+    let n = r .before .frame-size in
     let a = r .before .before .before .before .args in
     put.put-same
     (laws.all-refused (a .part) (a .devices) (a .input .now) (r .read-front .result) (n .result) (n .ensures .0) (k .match .keys2)
@@ -68,7 +68,7 @@ put-rest-requires c κs =
       p .put-part .ensures .behind,
       put.length-partLine (a .part) (a .devices) (k .answer .given .0 .0 % 2),
       f .put-frame2 .ensures .behind,
-      put.length-frameLine Configuration (n .frame-bits .result) (R.Byte (k .answer .given .0 .0)),
+      put.length-frameLine Configuration (n .frame-size .result) (R.Byte (k .answer .given .0 .0)),
     )
 
 same-length-2 : tie.Need-same-length-2
@@ -87,16 +87,16 @@ returns-2 c =
     let b = k .answer .given .0 .0 in
     let first = put.length-partLine (a .part) (a .devices) (b % 2) in
     put.put-same
-    (laws.all-accepted (a .part) (a .devices) (a .input .now) b (n .frame-bits .result) (e .back .result .now) (n .frame-bits .ensures .0) (e .back .ensures)
+    (laws.all-accepted (a .part) (a .devices) (a .input .now) b (n .frame-size .result) (e .back .result .now) (n .frame-size .ensures .0) (e .back .ensures)
     ∙ ap (allLines (a .part) (a .devices) (a .input .now)) (sym (k .answer .given .1) ∙ r .read-front .ensures))
     (put.put-append {s = partLine (a .part) (a .devices) (b % 2)} (omega arith) (p .put-part .ensures)
-    (put.put-append {s = frameLine Configuration (n .frame-bits .result) (R.Byte b)} (omega (arith, p .put-part .ensures .behind)) (f .put-frame2 .ensures) (d .put-rest .ensures)))
+    (put.put-append {s = frameLine Configuration (n .frame-size .result) (R.Byte b)} (omega (arith, p .put-part .ensures .behind)) (f .put-frame2 .ensures) (d .put-rest .ensures)))
 
 pub put-all-spec : {M : Type 1} → statement M
 put-all-spec =
     tie.close
     (tie.spec
-    frame-bits-requires
+    frame-size-requires
     read-front-requires
     enum-known-answer
     put-frame-requires

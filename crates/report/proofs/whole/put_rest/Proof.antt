@@ -29,8 +29,8 @@ loop-holds c = (omega arith, omega arith, omega arith, refl, record { place = re
 command-at-requires : tie.Need-command-at-requires Inv-loop μ-loop
 command-at-requires c κs = search needs
 
-frame-bits-requires : tie.Need-frame-bits-requires Inv-loop μ-loop
-frame-bits-requires c κs = search needs
+frame-size-requires : tie.Need-frame-size-requires Inv-loop μ-loop
+frame-size-requires c κs = search needs
 
 back-requires : tie.Need-back-requires Inv-loop μ-loop
 back-requires c κs = search needs
@@ -60,8 +60,8 @@ returns c =
     let e = r .read-front .ensures ∙ ap (answerOf told) (b .back .ensures) in
     put.ahead-last
     (put.ahead-same
-    (laws.lines-refused (a .part) (a .devices) (a .configuration) (a .input .now) (l .place) (l .from) (k .command-at .result) (r .read-front .result) (n .frame-bits .result)
-    (k .before .loop-test .taken) (k .command-at .ensures) (n .frame-bits .ensures .0) e (sym (c .before .is-refused .ensures) ∙ c .if1 .taken))
+    (laws.lines-refused (a .part) (a .devices) (a .configuration) (a .input .now) (l .place) (l .from) (k .command-at .result) (r .read-front .result) (n .frame-size .result)
+    (k .before .loop-test .taken) (k .command-at .ensures) (n .frame-size .ensures .0) e (sym (c .before .is-refused .ensures) ∙ c .if1 .taken))
     (l .inv .4))
     (f .put-frame .ensures)
 
@@ -90,12 +90,12 @@ loop-again c =
     let e = r .read-front .ensures ∙ ap (answerOf told) (b .back .ensures) in (
       omega arith,
       omega arith,
-      omega (arith, f .put-frame .ensures .behind, put.length-frameLine (k .command-at .result) (n .frame-bits .result) (r .read-front .result)),
+      omega (arith, f .put-frame .ensures .behind, put.length-frameLine (k .command-at .result) (n .frame-size .result) (r .read-front .result)),
       omega arith,
       put.ahead-append (omega arith)
           (put.ahead-same
-          (laws.lines-accepted (a .part) (a .devices) (a .configuration) (a .input .now) (l .place) (l .from) (k .command-at .result) (r .read-front .result) (n .frame-bits .result)
-          (k .before .loop-test .taken) (k .command-at .ensures) (n .frame-bits .ensures .0) e (sym (c .before .is-refused .ensures) ∙ c .if1 .left))
+          (laws.lines-accepted (a .part) (a .devices) (a .configuration) (a .input .now) (l .place) (l .from) (k .command-at .result) (r .read-front .result) (n .frame-size .result)
+          (k .before .loop-test .taken) (k .command-at .ensures) (n .frame-size .ensures .0) e (sym (c .before .is-refused .ensures) ∙ c .if1 .left))
           (l .inv .4))
           (f .put-frame .ensures),
     )
@@ -136,7 +136,7 @@ put-rest-spec =
     μ-loop
     loop-holds
     command-at-requires
-    frame-bits-requires
+    frame-size-requires
     back-requires
     read-front-requires
     put-frame-requires

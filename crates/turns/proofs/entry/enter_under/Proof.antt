@@ -3,11 +3,11 @@ use borrow.Author.Needs.{needs}
 use Rattle.turns.proofs.entry.enter_under.Statement.{statement}
 use Rattle.turns.proofs.entry.enter_under.Tie as tie
 
-face-requires : tie.Need-face-requires
-face-requires c κs = search needs
+turn-by-state-requires : tie.Need-turn-by-state-requires
+turn-by-state-requires c κs = search needs
 
 returns : tie.Need-returns
-returns c = rw (c .face .ensures, eq-eqb _ _ (c .before .if1 .taken))
+returns c = rw (c .turn-by-state .ensures, eq-eqb _ _ (c .before .if1 .taken))
 
 halt-requires : tie.Need-halt-requires
 halt-requires c κs = search needs
@@ -16,4 +16,4 @@ returns-2 : tie.Need-returns-2
 returns-2 c = rw (c .halt .ensures, ne-eqb _ _ (c .before .if1 .left))
 
 pub enter-under-spec : {M : Type 1} → statement M
-enter-under-spec = tie.close (tie.spec face-requires halt-requires returns returns-2)
+enter-under-spec = tie.close (tie.spec turn-by-state-requires halt-requires returns returns-2)

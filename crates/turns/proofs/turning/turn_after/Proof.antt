@@ -7,12 +7,12 @@ use Rattle.turns.proofs.turning.turn_after.Tie as tie
 front-after-requires : tie.Need-front-after-requires
 front-after-requires c κs = search needs
 
-aim-requires : tie.Need-aim-requires
-aim-requires c κs = search needs
+next-turn-requires : tie.Need-next-turn-requires
+next-turn-requires c κs = search needs
 
 returns : tie.Need-returns
 unfolding turnedOut
-returns c = (rw (c .aim .ensures, c .before .front-after .ensures, lt-ltb _ _ (c .before .before .if1 .taken)), rw (lt-ltb _ _ (c .before .before .if1 .taken)))
+returns c = (rw (c .next-turn .ensures, c .before .front-after .ensures, lt-ltb _ _ (c .before .before .if1 .taken)), rw (lt-ltb _ _ (c .before .before .if1 .taken)))
 
 halt-requires : tie.Need-halt-requires
 halt-requires c κs = search needs
@@ -36,8 +36,8 @@ returns-3 c =
     let w = lt-leb _ _ (c .before .if3 .taken) in
     (rw (c .halt2 .ensures, f, a, w), rw (f, a, w))
 
-line-requires : tie.Need-line-requires
-line-requires c κs = search needs
+leave-requires : tie.Need-leave-requires
+leave-requires c κs = search needs
 
 same-length : tie.Need-same-length
 same-length c = search needs
@@ -45,7 +45,7 @@ same-length c = search needs
 returns-4 : tie.Need-returns-4
 unfolding turnedOut
 returns-4 c =
-    let l = c .before .before .line .ensures in
+    let l = c .before .before .leave .ensures in
     let r = c .before .before .before .before in
     let s = r .before .before in
     let f = le-ltb _ _ (s .before .before .if1 .left) in
@@ -54,4 +54,4 @@ returns-4 c =
     (rw (l .0, f, a, w), rw (l .1, f, a, w))
 
 pub turn-after-spec : {M : Type 1} → statement M
-turn-after-spec = tie.close (tie.spec front-after-requires aim-requires returns halt-requires returns-2 halt-requires-2 returns-3 line-requires same-length returns-4)
+turn-after-spec = tie.close (tie.spec front-after-requires next-turn-requires returns halt-requires returns-2 halt-requires-2 returns-3 leave-requires same-length returns-4)

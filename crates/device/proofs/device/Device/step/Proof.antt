@@ -4,7 +4,7 @@ use native.Mathlib.Omega.{arith}
 use borrow.Author.Tests.{lt-ltb, le-ltb}
 use mathlib.Core.Bool.{Bool, cond}
 use lib.Dec.{ltb}
-use Rattle.device.specs.Judgement.{fits, stepRefusals, refusedWith, taken}
+use Rattle.device.specs.Judgement.{fits, stepRefusals, refusedWith, acceptedStep}
 use Rattle.tables.proofs.Rows.{refused, accepted}
 use Rattle.parts.specs.Parts.{known}
 use Rattle.device.proofs.Judged.{first-record, first-state}
@@ -27,7 +27,7 @@ returns c =
     let d = t .before .before .args .self in
     let s = t .before .before .args .state in
     c .refused-with .ensures
-    ∙ refused (refusedWith d) (taken (step d s))
+    ∙ refused (refusedWith d) (acceptedStep (step d s))
     (first-record (known (d .registers .part)) (fits d) (ltb s 4) (j .result) (j .ensures) (t .if1 .taken))
     (t .if1 .taken)
 
@@ -43,7 +43,7 @@ returns-2 c =
     let e : 13 ≡ first (stepRefusals d s) =
     ap (λ (b : Bool). cond b 0 13) (sym (le-ltb _ _ (t .if2 .taken)))
     ∙ first-state (known (d .registers .part)) (fits d) (ltb s 4) (j .result) (j .ensures) (t .before .if1 .left) in
-    c .refused-with2 .ensures ∙ refused {n = 13} (refusedWith d) (taken (step d s)) e (omega arith)
+    c .refused-with2 .ensures ∙ refused {n = 13} (refusedWith d) (acceptedStep (step d s)) e (omega arith)
 
 advance-requires : tie.Need-advance-requires
 advance-requires c κs = search needs

@@ -1,0 +1,109 @@
+-- The states of a header come first; what is left is by the phase that they left.
+use mathlib.Core.Path.{_≡_, sym, ap, _∙_}
+use lib.ListN.{drop}
+use Prim.Native.Nat.{ℕ}
+use Rattle.phases.specs.Phases.{phaseOf}
+use Rattle.device.specs.Step.{at}
+use Rattle.phases.specs.declared.phase.Phase.{Phase}
+use Rattle.phases.specs.declared.phase.Sent.the-variants.{Nothing}
+use Rattle.intake.specs.Intake.{highTaken, headedAll, stopped}
+use Rattle.intake.proofs.Phases.{onward, high-by, inHeader-tag, onward-header, onward-passing, onward-lost}
+use borrow.Author.Needs.{needs}
+use Rattle.intake.proofs.highs.high.Statement.{statement}
+use Rattle.intake.proofs.highs.high.Tie as tie
+
+phase-of-requires : tie.Need-phase-of-requires
+phase-of-requires c κs = search needs
+
+head-all-requires : tie.Need-head-all-requires
+head-all-requires c κs = search needs
+
+enum-known-phase : tie.Need-enum-known-phase
+enum-known-phase c = search needs
+
+collect-requires : tie.Need-collect-requires
+collect-requires c κs = search needs
+
+enum-told : tie.Need-enum-told
+enum-told c = search needs
+
+one-requires : tie.Need-one-requires
+one-requires c κs = search needs
+
+enum-told-2 : tie.Need-enum-told-2
+enum-told-2 c = search needs
+
+highs-end-requires : tie.Need-highs-end-requires
+highs-end-requires c κs = search needs
+
+quiet-requires : tie.Need-quiet-requires
+quiet-requires c κs = search needs
+
+quiet-requires-2 : tie.Need-quiet-requires-2
+quiet-requires-2 c κs = search needs
+
+-- what the states of a header left
+headed : (c : tie.After-head-all)
+    → let a = c .before .before .before .before .before .args in
+    c .head-all .result ≡ headedAll (phaseOf (a .device .place)) (drop (a .from) (a .states .now)) (a .from)
+headed c =
+    let a = c .before .before .before .before .before .args in
+    c .head-all .ensures ∙ ap (λ (p : Phase). headedAll p (drop (a .from) (a .states .now)) (a .from)) (c .before .phase-of .ensures)
+
+-- and what is left to do
+after-header : (c : tie.After-head-all)
+    → let a = c .before .before .before .before .before .args in
+    highTaken (a .device) (drop (a .from) (a .states .now)) (a .from) ≡ onward (a .device .registers) (a .states .now) (c .head-all .result)
+after-header c =
+    let s = c .before .before .before .before .before in
+    high-by (s .args .device) (s .args .states .now) (s .args .from) (c .head-all .result) (s .pre .0) (s .pre .1) (headed c)
+
+returns : tie.Need-returns
+returns c =
+    let h = c .before .before .before .before in
+    let a = h .before .before .before .before .before .args in
+    let q = h .head-all .result in
+    c .collect .ensures
+    ∙ sym (after-header h ∙ ap (λ (p : Phase). highTaken (at (a .device .registers) p) (drop (q .at) (a .states .now)) (q .at)) (c .before .before .phase .given .1))
+
+returns-2 : tie.Need-returns-2
+returns-2 c =
+    let h = c .before .before .before in
+    let a = h .before .before .before .before .before .args in
+    c .one .ensures ∙ sym (after-header h ∙ onward-passing (a .device .registers) (a .states .now) (h .head-all .result) (c .before .enum-told .given .1))
+
+returns-3 : tie.Need-returns-3
+returns-3 c =
+    let h = c .before .before .before .before in
+    let a = h .before .before .before .before .before .args in
+    let q = h .head-all .result in
+    c .quiet .ensures
+    ∙ ap (λ (j : ℕ). stopped (at (a .device .registers) (q .phase)) j Nothing) (c .before .highs-end .ensures)
+    ∙ sym (after-header h ∙ onward-lost (a .device .registers) (a .states .now) q (c .before .before .enum-told2 .given .1))
+
+returns-4 : tie.Need-returns-4
+returns-4 c =
+    let h = c .before .before in
+    let a = h .before .before .before .before .before .args in
+    let q = h .head-all .result in
+    c .quiet2 .ensures
+    ∙ sym (after-header h ∙ onward-header (a .device .registers) (a .states .now) (phaseOf (a .device .place)) (a .from) q (headed h) (inHeader-tag (q .phase) (c .before .match .keys4)))
+
+pub high-spec : {M : Type 1} → statement M
+high-spec =
+    tie.close
+    (tie.spec
+    phase-of-requires
+    head-all-requires
+    enum-known-phase
+    collect-requires
+    enum-told
+    one-requires
+    enum-told-2
+    highs-end-requires
+    quiet-requires
+    quiet-requires-2
+    returns
+    returns-2
+    returns-3
+    returns-4)

@@ -1,7 +1,0 @@
-// From a packed frame to the line and back: the states of a frame's bits, and the data bits of returned states, packed as a return is.
-mod packing;
-mod states;
-
-pub use packing::pack_states;
-pub use states::Line;
-pub use states::frame_states;

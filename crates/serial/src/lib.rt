@@ -1,0 +1,7 @@
+// From a packed frame to line states and back: the states of a frame's bits, and the data bits of returned states, packed as a return is.
+mod packing;
+mod states;
+
+pub use packing::pack_states;
+pub use states::Converted;
+pub use states::frame_states;

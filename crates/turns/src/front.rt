@@ -1,0 +1,122 @@
+// What the device of a turn takes.
+ghost use mathlib.Core.Path.{_≡_};
+ghost use lib.ListN.{drop};
+ghost use Rattle.turns.specs.Front.{isLost, afterHeader, lowTaken, deviceTaken};
+ghost use Rattle.turns.specs.Front.{phaseOnly, phaseStep, phaseRun};
+use device::Device;
+use intake::Taken;
+use phases::Phase;
+use phases::Sent;
+
+// A phase, and the place of the next state.
+pub struct PhaseRun {
+    pub phase: Phase,
+    pub at: usize,
+}
+
+// By the header under way and the next state. A passing device takes no high state: the front moves on. High states are taken in one place,
+// so that the whole turn is compiled into the loop of a run and moves a record as seldom as can be.
+pub fn device_take(device: Device, pending: Sent, states: &[u8], at: usize) -> Taken
+    ensures { λ r. ⌜ r ≡ deviceTaken device pending (drop at (now (states .entry))) at ⌝ }
+{
+    let next = after_header(device, pending);
+    if at < states.len() {
+        if states[at] < 2 {
+            return low_take(next, pending, states, at);
+        }
+        if next.place.phase == 4 {
+            return Taken {
+                device: next,
+                at,
+                sent: Sent::One(0),
+            };
+        }
+    }
+    intake::take(next, states, at)
+}
+
+// After a header a device stands before the first bit of its slice.
+fn after_header(device: Device, pending: Sent) -> Device
+    ensures { λ r. ⌜ r ≡ afterHeader device pending ⌝ }
+{
+    if let Sent::Header { command, count } = pending {
+        let place = phases::place_of(Phase::Slice {
+            command,
+            count,
+            taken: 0,
+        });
+        let mut next = device;
+        next.place = place;
+        return next;
+    }
+    device
+}
+
+// From a low state on as long as the phase alone goes on, so that a flood moves no record. After a header the state is the first device's.
+fn low_take(device: Device, pending: Sent, states: &[u8], at: usize) -> Taken
+    ensures { λ r. ⌜ r ≡ lowTaken device pending (drop at (now (states .entry))) at ⌝ }
+{
+    if let Sent::Header { .. } = pending {
+        return Taken {
+            device,
+            at,
+            sent: Sent::Nothing,
+        };
+    }
+    let place = device.place;
+    let run = run_phase(phases::phase_of(place), states, at);
+    let phase = run.phase;
+    let reached = phases::place_of(phase);
+    let mut next = device;
+    next.place = reached;
+    Taken {
+        device: next,
+        at: run.at,
+        sent: Sent::Nothing,
+    }
+}
+
+// A phase goes on as long as no register is touched.
+fn run_phase(phase: Phase, states: &[u8], at: usize) -> PhaseRun
+    ensures { λ r. ⌜ r ≡ phaseRun phase (drop at (now (states .entry))) at ⌝ }
+{
+    let mut p = phase;
+    let mut i = at;
+    while i < states.len() {
+        let s = states[i];
+        if !is_phase_only(p, s) {
+            return PhaseRun { phase: p, at: i };
+        }
+        p = step_phase(p, s);
+        i += 1;
+    }
+    PhaseRun { phase: p, at: i }
+}
+
+fn is_phase_only(phase: Phase, state: u8) -> bool
+    ensures { λ r. ⌜ r ≡ phaseOnly phase state ⌝ }
+{
+    if state < 2 {
+        return true;
+    }
+    if phases::in_header(phase) {
+        return true;
+    }
+    is_lost(phase)
+}
+
+fn step_phase(phase: Phase, state: u8) -> Phase
+    ensures { λ r. ⌜ r ≡ phaseStep phase state ⌝ }
+{
+    if state < 2 {
+        phases::hear(phase, state)
+    } else {
+        phases::header_bit(phase, state % 2)
+    }
+}
+
+fn is_lost(phase: Phase) -> bool
+    ensures { λ r. ⌜ r ≡ isLost phase ⌝ }
+{
+    if let Phase::Lost = phase { true } else { false }
+}

@@ -13,7 +13,7 @@ use Rattle.registers.specs.Held.{strided}
 use Rattle.registers.specs.Widths.{pairBelow}
 use Rattle.registers.proofs.Lists.{length-strided, getD-strided}
 
-strided-take : (s : List ℕ) (a n : ℕ) → a + n ≤ length s → strided s a 1 n ≡ take n (drop a s)
+pub strided-take : (s : List ℕ) (a n : ℕ) → a + n ≤ length s → strided s a 1 n ≡ take n (drop a s)
 strided-take s a n h =
     let room : n ≤ length (drop a s) = omega (arith, h, length-drop a s) in
     ext-getD 0 (strided s a 1 n) (take n (drop a s)) (length-strided s a 1 n ∙ sym (length-take-le n (drop a s) room))

@@ -28,7 +28,7 @@ use Rattle.compare.specs.Search.{setNumbers, OwnInLists, beginSearch, lo
 use Rattle.compare.proofs.Found.{Stands, stands-zero, stands-end, stands-index, stands-ready, stands-next, stands-start}
 use Rattle.compare.proofs.compared.Compared as R
 use Rattle.compare.proofs.compared.Compared.Laws as R′
-use Rattle.compare.proofs.search.Search as S
+use Rattle.compare.proofs.compared.Search as S
 use Rattle.compare.proofs.compared.Search.Laws as S′
 use Rattle.compare.proofs.search.begin as begin
 use Rattle.compare.proofs.search.begin.Symbol as begin-def

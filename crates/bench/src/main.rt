@@ -1,8 +1,8 @@
-// The bench program: bench PART N reads four frames from standard input and writes a line for each. All that it writes is worked out
-// by the crate `report`.
+// The bench program: bench PART N reads four frames from standard input and writes a line for each. What its arguments ask is
+// worked out by the crate `arguments`, all that it writes by `report`.
+use arguments::Asked;
 use libc::STDIN_FILENO;
 use libc::STDOUT_FILENO;
-use report::Asked;
 
 fn main() {
     // Linux hands over no argument that is longer.
@@ -10,7 +10,7 @@ fn main() {
     let mut devices = [0u8; 131072];
     let first = os::arg(1, &mut part);
     let second = os::arg(2, &mut devices);
-    let asked = report::ask(&part[..first], &devices[..second]);
+    let asked = arguments::ask(&part[..first], &devices[..second]);
     let Asked::Chain(_, _) = asked else {
         print(asked, b"");
         return;

@@ -56,8 +56,8 @@ use Rattle.schedule.specs.declared.answer.Clocks.the-variants as K
 use Rattle.compare.specs.Compare.{same, compared, difference, compareTable, compareRefusal, comparison}
 use Rattle.compare.specs.Differences.{FirstDifference}
 use Rattle.compare.specs.declared.compared.Compared.{Compared}
-use Rattle.report.specs.Arguments.{parsed, valueOf, askedRows, asked}
-use Rattle.report.specs.declared.arguments.Asked.the-variants as B
+use Rattle.arguments.specs.Arguments.{parsed, valueOf, askedRows, asked}
+use Rattle.arguments.specs.declared.judging.Asked.the-variants as B
 use Rattle.capi.specs.Answers.{accepted, refused, partRows, ofPart}
 use Rattle.capi.specs.declared.answer.Answer.{Answer as RowAnswer}
 use Rattle.claims.specs.Tables.{Exactly, Answers, Leaves, convertedNumber, writtenNumber, readNumber, returnReadNumber, askedNumber, leadNumber, clocksNumber, argumentsNumber}

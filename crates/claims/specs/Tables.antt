@@ -18,8 +18,8 @@ use Rattle.schedule.specs.declared.answer.Lead.{Lead}
 use Rattle.schedule.specs.declared.answer.Lead.the-variants as D
 use Rattle.schedule.specs.declared.answer.Clocks.{Clocks}
 use Rattle.schedule.specs.declared.answer.Clocks.the-variants as K
-use Rattle.report.specs.declared.arguments.Asked.{Asked as Arguments}
-use Rattle.report.specs.declared.arguments.Asked.the-variants as B
+use Rattle.arguments.specs.declared.judging.Asked.{Asked as Arguments}
+use Rattle.arguments.specs.declared.judging.Asked.the-variants as B
 
 -- 0 exactly where no number of the table applies, and any other number exactly where it is the lowest that applies
 pub record Exactly (rows : List Row) (number : ℕ) : Type 0 where

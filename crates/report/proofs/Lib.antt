@@ -1,4 +1,3 @@
 -- The laws behind the proofs of the functions.
-mod Numerals
 mod Putting
 pub mod Restoring

@@ -22,10 +22,10 @@ use Rattle.frames.specs.declared.told.Read.the-variants as R
 use Rattle.frames.specs.Frames.{toldOf}
 use Rattle.frames.proofs.told.Read.{the-type}
 use Rattle.frames.proofs.Cases.{read-no-byte}
+use Rattle.arguments.specs.declared.judging.Asked.{Asked}
+use Rattle.arguments.specs.declared.judging.Asked.the-variants as A
 use Rattle.report.specs.Lines.{trailingLine, partLine, frameLine}
 use Rattle.report.specs.Report.{frameSize, answerOf, isRefused, lineOf, laterCommands, linesOf, configurationOf, behind, allLines, reportOf}
-use Rattle.report.specs.declared.arguments.Asked.{Asked}
-use Rattle.report.specs.declared.arguments.Asked.the-variants as A
 use Rattle.report.proofs.Putting as put
 
 -- the lines of the frames behind the configuration frame

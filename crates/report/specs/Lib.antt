@@ -1,4 +1,3 @@
--- The bench program's arguments, its lines, and the whole report.
-pub mod Arguments
+-- The bench program's lines, and the whole report.
 pub mod Lines
 pub mod Report

@@ -15,9 +15,9 @@ use Rattle.frames.specs.Reading.{read}
 use Rattle.frames.specs.declared.told.Told.{Told}
 use Rattle.frames.specs.declared.told.Read.{Read}
 use Rattle.frames.specs.declared.told.Read.the-variants as R
+use Rattle.arguments.specs.declared.judging.Asked.{Asked}
+use Rattle.arguments.specs.declared.judging.Asked.the-variants as A
 use Rattle.report.specs.Lines.{refusedLine, trailingLine, partLine, frameLine}
-use Rattle.report.specs.declared.arguments.Asked.{Asked}
-use Rattle.report.specs.declared.arguments.Asked.the-variants as A
 
 -- the bits that a frame should have: header and slices
 abbrev pub frameSize : Told → ℕ

@@ -1,8 +1,8 @@
 -- `report::report` meets its contract, by cases on what is asked. Assumes nothing.
 use mathlib.Core.Path.{sym, ap}
 use Rattle.bits.proofs.Laws as bits
+use Rattle.arguments.specs.declared.judging.Asked.{Asked}
 use Rattle.report.specs.Report.{reportOf}
-use Rattle.report.specs.declared.arguments.Asked.{Asked}
 use Rattle.report.proofs.Putting as put
 use borrow.Author.Needs.{needs}
 use Rattle.report.proofs.whole.report.Statement.{statement}

@@ -9,10 +9,10 @@ use native.Mathlib.Omega.{arith}
 use lib.ListN.{length, getD, take, drop, length-append}
 use lib.Seq.{take-suc, drop-cons}
 use borrow.Author.Tests.{ne-eqb, eq-eqb, le-leb, lt-leb, le-ltb, lt-ltb}
-use Rattle.report.specs.Arguments.{isDigit, digitsOnly, numeral, parsed, valueOf, isPart, countAccepted, judged}
-use Rattle.report.specs.declared.arguments.Parsed.{Parsed}
-use Rattle.report.specs.declared.arguments.Parsed.the-variants as P
-use Rattle.report.specs.declared.arguments.Asked.the-variants as A
+use Rattle.arguments.specs.Arguments.{isDigit, digitsOnly, numeral, parsed, valueOf, isPart, countAccepted, judged}
+use Rattle.arguments.specs.declared.decimal.Parsed.{Parsed}
+use Rattle.arguments.specs.declared.decimal.Parsed.the-variants as P
+use Rattle.arguments.specs.declared.judging.Asked.the-variants as A
 
 -- one digit more at the end
 pub numeral-snoc : (bs : List ℕ) (b : ℕ) → numeral (bs ++ (b ∷ [])) ≡ numeral bs * 10 + (b - 48)

@@ -1,4 +1,4 @@
--- `report::parse` meets its contract: what lies before `i` is digits, and `value` is their number, held to 65,535. Assumes nothing.
+-- `arguments::parse` meets its contract: what lies before `i` is digits, and `value` is their number, held to 65,535. Assumes nothing.
 use mathlib.Core.Path.{_≡_, refl, sym, ap, _∙_}
 use mathlib.Core.Bool.{Bool, _&&_}
 use mathlib.Core.List.{List}
@@ -8,10 +8,10 @@ use lib.ListN.{length, getD, take, drop, drop-of-length-le}
 use lib.Seq.{take-all}
 use borrow.Author.Tests.{ltb-true, ltb-false}
 use Rattle.tables.proofs.Tests.{by-way}
-use Rattle.report.specs.Arguments.{digitsOnly, numeral}
-use Rattle.report.proofs.Numerals as laws
-use Rattle.report.proofs.arguments.parse.Statement.{statement}
-use Rattle.report.proofs.arguments.parse.Tie as tie
+use Rattle.arguments.specs.Arguments.{digitsOnly, numeral}
+use Rattle.arguments.proofs.Numerals as laws
+use Rattle.arguments.proofs.decimal.parse.Statement.{statement}
+use Rattle.arguments.proofs.decimal.parse.Tie as tie
 
 abbrev Inv-loop : tie.InvT-loop
 Inv-loop text value₀ i₀ value i =

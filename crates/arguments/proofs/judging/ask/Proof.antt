@@ -1,15 +1,15 @@
--- `report::ask` meets its contract: the part is judged first. Assumes nothing.
+-- `arguments::ask` meets its contract: the part is judged first. Assumes nothing.
 use mathlib.Core.Path.{_≡_, sym, ap, ap₂, _∙_}
 use mathlib.Core.Bool.{true}
 use Prim.Native.Nat.{ℕ}
 use borrow.Author.Tests.{not-true, not-false, ltb-true, ltb-false}
 use Rattle.tables.proofs.Tests.{by-way}
-use Rattle.report.specs.Arguments.{parsed, valueOf, isPart, countAccepted}
-use Rattle.report.specs.declared.arguments.Asked.the-variants as A
-use Rattle.report.proofs.Numerals as laws
+use Rattle.arguments.specs.Arguments.{parsed, valueOf, isPart, countAccepted}
+use Rattle.arguments.specs.declared.judging.Asked.the-variants as A
+use Rattle.arguments.proofs.Numerals as laws
 use borrow.Author.Needs.{needs}
-use Rattle.report.proofs.arguments.ask.Statement.{statement}
-use Rattle.report.proofs.arguments.ask.Tie as tie
+use Rattle.arguments.proofs.judging.ask.Statement.{statement}
+use Rattle.arguments.proofs.judging.ask.Tie as tie
 
 -- past the test of the part
 part-known : (k : tie.Else1) → isPart (parsed (k .before .before .before .before .before .before .before .before .args .part .now)) ≡ true

@@ -8,10 +8,10 @@ use lib.Dec.{eqb, ltb, leb}
 use lib.ListN.{length}
 use Rattle.tables.specs.Refusals.{Row, _when_, first, answer}
 use Rattle.parts.specs.Parts.{known}
-use Rattle.report.specs.declared.arguments.Parsed.{Parsed}
-use Rattle.report.specs.declared.arguments.Parsed.the-variants as P
-use Rattle.report.specs.declared.arguments.Asked.{Asked}
-use Rattle.report.specs.declared.arguments.Asked.the-variants as A
+use Rattle.arguments.specs.declared.decimal.Parsed.{Parsed}
+use Rattle.arguments.specs.declared.decimal.Parsed.the-variants as P
+use Rattle.arguments.specs.declared.judging.Asked.{Asked}
+use Rattle.arguments.specs.declared.judging.Asked.the-variants as A
 
 -- `0` to `9`
 abbrev pub isDigit : ℕ → Bool

@@ -1,0 +1,2 @@
+-- The bench program's two arguments.
+pub mod Arguments

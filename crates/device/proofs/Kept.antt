@@ -16,7 +16,7 @@ use Rattle.phases.specs.Phases.{placeOf, phaseOf, windowOf, heard, rising, open
 use Rattle.registers.specs.Held.{showing, zeros}
 use Rattle.device.specs.Step.{step, stepHigh, at, sliceLength, bounded, faulted, freshDevice}
 use Rattle.device.specs.Judgement.{phaseFits, placeFits, fits}
-use Rattle.registers.specs.Widths.{flagsFit, valuesFit}
+use Rattle.widths.specs.Widths.{flagsFit, valuesFit}
 use Rattle.phases.specs.declared.phase.Phase.{Phase}
 use Rattle.phases.specs.declared.phase.Phase.the-variants.{Hunting, Opening, Counting, Slice, Passing, Lost}
 use Rattle.phases.specs.declared.phase.Place.{Place}
@@ -24,7 +24,7 @@ use Rattle.registers.specs.declared.registers.Registers.{Registers}
 use Rattle.device.specs.declared.device.Device.{Device}
 use Rattle.device.specs.declared.device.Stepped.{Stepped}
 use Rattle.registers.proofs.Fields.{limit-pos, slice-bits-pos}
-use Rattle.registers.proofs.Below.{below-zeros, Below, below-of, of-below, stored-below, took-below, showing-below}
+use Rattle.widths.proofs.Below.{below-zeros, Below, below-of, of-below, stored-below, took-below, showing-below}
 use Rattle.device.proofs.Places.{place-fits}
 use Rattle.phases.proofs.Places.{Small, phase-small}
 use Rattle.tables.proofs.Booleans.{and-both, both-and, cond-both}

@@ -6,7 +6,7 @@ use lib.Dec.{ltb, leb}
 use Rattle.parts.specs.Parts.{known}
 use Rattle.tables.specs.Refusals.{Row, _when_, first, answer}
 use Rattle.phases.specs.Phases.{placeOf, phaseOf, samePlace}
-use Rattle.registers.specs.Widths.{flagsFit, valuesFit}
+use Rattle.widths.specs.Widths.{flagsFit, valuesFit}
 use Rattle.device.specs.Step.{step, sliceLength}
 use Rattle.phases.specs.declared.phase.Place.{Place}
 use Rattle.phases.specs.declared.phase.Phase.{Phase}

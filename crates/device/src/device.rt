@@ -56,7 +56,7 @@ impl Device {
     {
         let registers = self.registers;
         let place = self.place;
-        crate::judgement::place_fits(place, registers) && registers.fits()
+        crate::judgement::place_fits(place, registers) && widths::registers_fit(registers)
     }
 
     // The step of any record: what `step` does once nothing is refused.

@@ -12,9 +12,9 @@ use Rattle.tables.specs.Refusals.{_when_, first, answer}
 use Rattle.parts.specs.Parts.{known, partOf, limit}
 use Rattle.tables.proofs.Rows.{clear}
 use Rattle.tables.proofs.Booleans.{and-both, cond-both}
-use Rattle.registers.specs.Widths.{flagsFit, valuesFit}
+use Rattle.widths.specs.Widths.{flagsFit, valuesFit}
 use Rattle.registers.proofs.Fields.{limit-pos}
-use Rattle.registers.proofs.Below.{below-at, below-of}
+use Rattle.widths.proofs.Below.{below-at, below-of}
 use Rattle.device.specs.declared.device.Device.{Device}
 use Rattle.device.specs.Judgement.{placeFits, fits, judgement}
 use Rattle.schedule.specs.declared.answer.Asked.the-variants as asked

@@ -26,7 +26,7 @@ use Rattle.device.specs.declared.device.Stepped.{Stepped}
 use Rattle.phases.proofs.Places.{Small}
 use Rattle.tables.proofs.Booleans.{and-both, cond-both}
 use Rattle.device.proofs.Kept.{Good, phase-good, kept}
-use Rattle.registers.proofs.Below.{Below, below-of}
+use Rattle.widths.proofs.Below.{Below, below-of}
 use Rattle.model.specs.Lists.{All}
 use Rattle.machine.specs.Machine.{chain}
 use Rattle.model.specs.Device.{slice, stepDevice}

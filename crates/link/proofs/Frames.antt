@@ -24,7 +24,7 @@ use Rattle.frames.proofs.Lengths.{subframes-small}
 use Rattle.frame_writer.proofs.Writable.{length-settingsOf}
 use Rattle.frame_writer.proofs.Writable as writer
 use Rattle.frames.proofs.Pieces.{length-frameBits}
-use Rattle.registers.proofs.Below.{below-head}
+use Rattle.widths.proofs.Below.{below-head}
 use Rattle.model.specs.Lists.{All}
 use Rattle.model.specs.Device.{frameStates}
 use Rattle.model.specs.Set.{Set, Proper, owned, sliceOf, frameFields}

@@ -17,7 +17,7 @@ use Rattle.serial.specs.States.{dataBits}
 use Rattle.device.specs.Step.{faulted}
 use Rattle.device.specs.declared.device.Device.{Device}
 use Rattle.tables.proofs.Booleans.{cond-both}
-use Rattle.registers.proofs.Below.{below-head}
+use Rattle.widths.proofs.Below.{below-head}
 use Rattle.calls.specs.Chain.{blank}
 use Rattle.calls.specs.Calls.{runRefusal, faultRefusal, boundaryDevices}
 use Rattle.calls.specs.History.{Call, fresh, run, boundary, fault, refusalOf, after, afterCalls, given, FaultOrLow, Settles}

@@ -22,8 +22,8 @@ use Rattle.phases.specs.declared.phase.Phase.the-variants.{Slice, Passing}
 use Rattle.phases.specs.declared.phase.Sent.the-variants.{Nothing, One, Header}
 use Rattle.registers.specs.declared.registers.Registers.{Registers}
 use Rattle.registers.proofs.Fields.{field-width-pos}
-use Rattle.registers.proofs.Halves.{strided-take}
-use Rattle.registers.proofs.Below.{Below, below-head, took-below}
+use Rattle.registers.proofs.Lists.{strided-take}
+use Rattle.widths.proofs.Below.{Below, below-head, took-below}
 use Rattle.model.specs.Device.{slice, stepDevice, load, counted, evens, odds, headerStates}
 use Rattle.model.specs.Device as model
 use Rattle.model.proofs.Set.{double}

@@ -1,10 +1,12 @@
--- The length and the elements of `strided`. By induction on the number of values. Assumes nothing.
-use mathlib.Core.Path.{_≡_, refl, ap, _∙_}
+-- The length and the elements of `strided`, by induction on the number of values; values that stand one after another are a `take`, by
+-- their elements. Assumes nothing.
+use mathlib.Core.Path.{_≡_, refl, ap, sym, _∙_}
 use mathlib.Core.List.{List}
-use Prim.Native.Nat.{ℕ, zero, suc, _+_, _*_, _<_}
+use Prim.Native.Nat.{ℕ, zero, suc, _+_, _*_, _<_, _≤_}
 use native.Mathlib.Nat.{mul-suc, mul-zero, add-zero, le-of-suc-le-suc, not-suc-le-zero}
 use native.Mathlib.Omega.{arith}
-use lib.ListN.{length, getD}
+use lib.ListN.{length, getD, take, drop, length-drop}
+use lib.Seq.{ext-getD, getD-take, getD-drop, length-take-le}
 use Rattle.registers.specs.Held.{strided}
 
 pub length-strided : (s : List ℕ) (a k n : ℕ) → length (strided s a k n) ≡ n
@@ -19,3 +21,11 @@ getD-strided s a k (suc n) zero h = simp (mul-zero, add-zero)
 getD-strided s a k (suc n) (suc j) h =
     getD-strided s (a + k) k n j (le-of-suc-le-suc h)
     ∙ ap (λ (m : ℕ). getD s m 0) (simp mul-suc (omega arith))
+
+pub strided-take : (s : List ℕ) (a n : ℕ) → a + n ≤ length s → strided s a 1 n ≡ take n (drop a s)
+strided-take s a n h =
+    let room : n ≤ length (drop a s) = omega (arith, h, length-drop a s) in
+    ext-getD 0 (strided s a 1 n) (take n (drop a s)) (length-strided s a 1 n ∙ sym (length-take-le n (drop a s) room))
+    (λ j l. let k : j < n = omega (arith, l, length-strided s a 1 n) in
+    let one : a + 1 * j ≡ a + j = omega arith in
+    getD-strided s a 1 n j k ∙ ap (λ (m : ℕ). getD s m 0) one ∙ sym (getD-take n (drop a s) j 0 k ∙ getD-drop a s j 0))

@@ -1,3 +1,2 @@
--- What a device holds, and when its flags and values are within their widths.
+-- What a device holds.
 pub mod Held
-pub mod Widths

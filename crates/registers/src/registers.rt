@@ -40,7 +40,7 @@ fn same_copies(slice: [u16; 48]) -> bool
 }
 
 // 24 values of the slice, from a first one on, each a stride after the last.
-pub fn every(slice: [u16; 48], first: usize, stride: usize) -> [u16; 24]
+fn every(slice: [u16; 48], first: usize, stride: usize) -> [u16; 24]
     requires { ⌜ first + stride * 23 < 48 ⌝ }
     ensures { λ r. ⌜ r ≡ strided slice first stride 24 ⌝ }
 {
@@ -52,6 +52,20 @@ pub fn every(slice: [u16; 48], first: usize, stride: usize) -> [u16; 24]
         i += 1;
     }
     values
+}
+
+// The first 24 values of the slice.
+pub fn first_half(slice: [u16; 48]) -> [u16; 24]
+    ensures { λ r. ⌜ r ≡ strided slice 0 1 24 ⌝ }
+{
+    every(slice, 0, 1)
+}
+
+// The last 24 values of the slice.
+pub fn second_half(slice: [u16; 48]) -> [u16; 24]
+    ensures { λ r. ⌜ r ≡ strided slice 24 1 24 ⌝ }
+{
+    every(slice, 24, 1)
 }
 
 // The count sent on.

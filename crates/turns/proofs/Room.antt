@@ -22,7 +22,7 @@ use Rattle.phases.specs.Phases.{phaseOf, placeOf, heard, rising, opened, openin
 use Rattle.registers.specs.Held.{took, fault, raised}
 use Rattle.device.specs.Step.{step, stepHigh, moved, sliceLength, sentStates, at}
 use Rattle.device.specs.Judgement.{phaseFits, placeFits, fits}
-use Rattle.registers.specs.Widths.{flagsFit, valuesFit}
+use Rattle.widths.specs.Widths.{flagsFit, valuesFit}
 use Rattle.device.specs.Run.{stepRecord, run}
 use Rattle.phases.specs.declared.phase.Phase.{Phase}
 use Rattle.phases.specs.declared.phase.Phase.the-variants.{Hunting, Opening, Counting, Slice, Passing, Lost}

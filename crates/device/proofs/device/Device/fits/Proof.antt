@@ -6,11 +6,11 @@ use Rattle.device.proofs.device.Device.fits.Tie as tie
 place-fits-requires : tie.Need-place-fits-requires
 place-fits-requires c κs = search needs
 
-fits-requires : tie.Need-fits-requires
-fits-requires c κs = search needs
+registers-fit-requires : tie.Need-registers-fit-requires
+registers-fit-requires c κs = search needs
 
 returns : tie.Need-returns
-returns c = rw (sym (c .before .before .place-fits .ensures) ∙ c .before .if1 .taken) (c .fits2 .ensures)
+returns c = rw (sym (c .before .before .place-fits .ensures) ∙ c .before .if1 .taken) (c .registers-fit .ensures)
 
 returns-2 : tie.Need-returns-2
 returns-2 c = rw (sym (c .before .place-fits .ensures) ∙ c .if1 .left) (c .if1 .left)
@@ -20,6 +20,6 @@ fits-spec =
     tie.close
     (tie.spec
     place-fits-requires
-    fits-requires
+    registers-fit-requires
     returns
     returns-2)

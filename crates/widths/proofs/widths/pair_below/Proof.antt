@@ -1,7 +1,7 @@
 use mathlib.Core.Path.{sym, _∙_}
 use borrow.Author.Needs.{needs}
-use Rattle.registers.proofs.widths.pair_below.Statement.{statement}
-use Rattle.registers.proofs.widths.pair_below.Tie as tie
+use Rattle.widths.proofs.widths.pair_below.Statement.{statement}
+use Rattle.widths.proofs.widths.pair_below.Tie as tie
 
 all24-below-requires : tie.Need-all24-below-requires
 all24-below-requires c κs = search needs

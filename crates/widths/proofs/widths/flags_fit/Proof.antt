@@ -1,6 +1,6 @@
 use borrow.Author.Tests.{lt-ltb, le-ltb}
-use Rattle.registers.proofs.widths.flags_fit.Statement.{statement}
-use Rattle.registers.proofs.widths.flags_fit.Tie as tie
+use Rattle.widths.proofs.widths.flags_fit.Statement.{statement}
+use Rattle.widths.proofs.widths.flags_fit.Tie as tie
 
 returns : tie.Need-returns
 returns c = rw (lt-ltb _ _ (c .before .if1 .taken))

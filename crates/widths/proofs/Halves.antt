@@ -2,24 +2,16 @@
 use mathlib.Core.Path.{_≡_, refl, ap, ap₂, sym, _∙_}
 use mathlib.Core.Bool.{Bool, _&&_}
 use mathlib.Core.List.{List, [], _∷_, _++_}
-use Prim.Native.Nat.{ℕ, _+_, _*_, _<_, _≤_}
+use Prim.Native.Nat.{ℕ}
 use native.Mathlib.Omega.{arith}
 use lib.Dec.{ltb}
-use lib.ListN.{length, getD, take, drop, length-drop}
-use lib.Seq.{ext-getD, getD-take, getD-drop, length-take-le, take-add, take-all}
+use lib.ListN.{length, take, drop}
+use lib.Seq.{take-add, take-all}
 use Rattle.tables.specs.Lists.{allBelow}
 use Rattle.tables.proofs.Booleans.{and-assoc}
 use Rattle.registers.specs.Held.{strided}
-use Rattle.registers.specs.Widths.{pairBelow}
-use Rattle.registers.proofs.Lists.{length-strided, getD-strided}
-
-pub strided-take : (s : List ℕ) (a n : ℕ) → a + n ≤ length s → strided s a 1 n ≡ take n (drop a s)
-strided-take s a n h =
-    let room : n ≤ length (drop a s) = omega (arith, h, length-drop a s) in
-    ext-getD 0 (strided s a 1 n) (take n (drop a s)) (length-strided s a 1 n ∙ sym (length-take-le n (drop a s) room))
-    (λ j l. let k : j < n = omega (arith, l, length-strided s a 1 n) in
-    let one : a + 1 * j ≡ a + j = omega arith in
-    getD-strided s a 1 n j k ∙ ap (λ (m : ℕ). getD s m 0) one ∙ sym (getD-take n (drop a s) j 0 k ∙ getD-drop a s j 0))
+use Rattle.registers.proofs.Lists.{strided-take}
+use Rattle.widths.specs.Widths.{pairBelow}
 
 allBelow-append : (xs ys : List ℕ) (m : ℕ) → allBelow (xs ++ ys) m ≡ (allBelow xs m && allBelow ys m)
 allBelow-append [] ys m = refl

@@ -1,7 +1,7 @@
 use mathlib.Core.Path.{sym, _∙_}
 use borrow.Author.Needs.{needs}
-use Rattle.registers.proofs.widths.values_fit.Statement.{statement}
-use Rattle.registers.proofs.widths.values_fit.Tie as tie
+use Rattle.widths.proofs.widths.values_fit.Statement.{statement}
+use Rattle.widths.proofs.widths.values_fit.Tie as tie
 
 value-limit-requires : tie.Need-value-limit-requires
 value-limit-requires c κs = search needs

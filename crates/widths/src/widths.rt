@@ -2,16 +2,14 @@
 ghost use mathlib.Core.Path.{_≡_};
 ghost use mathlib.Core.Bool.{_&&_};
 ghost use Rattle.tables.specs.Lists.{allBelow};
-ghost use Rattle.registers.specs.Widths.{flagsFit, pairBelow, valuesFit};
-use crate::registers::Registers;
-use crate::registers::every;
+ghost use Rattle.widths.specs.Widths.{flagsFit, pairBelow, valuesFit};
+use registers::Registers;
 
-impl Registers {
-    pub fn fits(self) -> bool
-        ensures { λ r. ⌜ r ≡ (flagsFit self && valuesFit self) ⌝ }
-    {
-        flags_fit(self) && values_fit(self)
-    }
+// Each flag and each value is within its width.
+pub fn registers_fit(registers: Registers) -> bool
+    ensures { λ r. ⌜ r ≡ (flagsFit registers && valuesFit registers) ⌝ }
+{
+    flags_fit(registers) && values_fit(registers)
 }
 
 // A fault flag is 0 or 1.
@@ -53,7 +51,7 @@ fn all24_below(values: [u16; 24], limit: u16) -> bool
 fn all48_below(values: [u16; 48], limit: u16) -> bool
     ensures { λ r. ⌜ r ≡ allBelow values limit ⌝ }
 {
-    let low = every(values, 0, 1);
-    let high = every(values, 24, 1);
+    let low = registers::first_half(values);
+    let high = registers::second_half(values);
     pair_below(low, high, limit)
 }

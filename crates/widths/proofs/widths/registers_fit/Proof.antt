@@ -1,7 +1,7 @@
 use mathlib.Core.Path.{sym, _∙_}
 use borrow.Author.Needs.{needs}
-use Rattle.registers.proofs.registers.Registers.fits.Statement.{statement}
-use Rattle.registers.proofs.registers.Registers.fits.Tie as tie
+use Rattle.widths.proofs.widths.registers_fit.Statement.{statement}
+use Rattle.widths.proofs.widths.registers_fit.Tie as tie
 
 flags-fit-requires : tie.Need-flags-fit-requires
 flags-fit-requires c κs = search needs
@@ -15,5 +15,5 @@ returns c = rw (sym (c .before .before .flags-fit .ensures) ∙ c .before .if1 .
 returns-2 : tie.Need-returns-2
 returns-2 c = rw (sym (c .before .flags-fit .ensures) ∙ c .if1 .left) (c .if1 .left)
 
-pub fits-spec : {M : Type 1} → statement M
-fits-spec = tie.close (tie.spec flags-fit-requires values-fit-requires returns returns-2)
+pub registers-fit-spec : {M : Type 1} → statement M
+registers-fit-spec = tie.close (tie.spec flags-fit-requires values-fit-requires returns returns-2)

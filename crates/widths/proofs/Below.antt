@@ -14,10 +14,10 @@ use Rattle.parts.specs.declared.command.Command.{Command}
 use Rattle.parts.specs.declared.command.Command.the-variants.{Individual, Calibration, Global, Configuration}
 use Rattle.phases.specs.Phases.{pushed}
 use Rattle.tables.proofs.Booleans.{and-both, both-and, cond-both}
 use Rattle.registers.specs.Held.{holding, showing, took, stored, strided, copies}
-use Rattle.registers.specs.Widths.{flagsFit, valuesFit}
+use Rattle.widths.specs.Widths.{flagsFit, valuesFit}
 use Rattle.registers.specs.declared.registers.Registers.{Registers}
 use Rattle.registers.proofs.Fields.{limit-pos, field-limit-pos, field-limit-le}
 
 -- ---- lists of values
 

@@ -1,0 +1,3 @@
+-- Laws of values within their widths.
+pub mod Halves
+pub mod Below

@@ -1,0 +1,2 @@
+-- When what a device holds is within its widths.
+pub mod Widths

@@ -33,7 +33,7 @@ pub fn frame_length(told: Told, tail: Tail) -> usize
     (24 + slices_bits(told) + (tail.length as usize) + 7) / 8
 }
 
-// The fields of all slices, for any N: 0 where it is refused.
+// The fields of all slices, for any N: 0 where it is over 1023.
 pub fn told_fields(told: Told) -> usize
     ensures { λ r. ⌜ r ≡ cond (ltb (told .devices) 1024) (fieldCount told) 0 ⌝ }
 {
@@ -43,7 +43,7 @@ pub fn told_fields(told: Told) -> usize
     field_count(told)
 }
 
-// The bytes of the frame, for any N and any tail: 0 where one of them is refused.
+// The bytes of the frame, for any N and any tail: 0 where N is over 1023 or the tail has over 64 bits.
 pub fn told_length(told: Told, tail: Tail) -> usize
     ensures { λ r. ⌜ r ≡ cond (ltb (told .devices) 1024 && leb (tail .length) 64) (frameLength told tail) 0 ⌝ }
 {

@@ -5,9 +5,9 @@ ghost use mathlib.Core.Bool.{not};
 ghost use lib.Dec.{eqb};
 ghost use lib.ListN.{length};
 ghost use Rattle.calls.specs.Calls.{freshRefusal, freshAfter, runAfter, runRoom, boundaryRefusal, boundaryAfter, faultRefusal, faultAfter};
-ghost use Rattle.turns.specs.Answer.{runAnswer};
+ghost use Rattle.cursor.specs.Answer.{runAnswer};
+use cursor::Ran;
 use device::Device;
-use turns::Ran;
 
 // Makes a chain fresh: told the part, it takes the records whatever they hold. The refusal's number, or 0.
 #[no_mangle]
@@ -30,7 +30,7 @@ pub extern "C" fn bb_run(chain: &mut [Device], states: &[u8], returned: &mut [u8
     ensures { λ r. ⌜ (r ≡ runAnswer (now (chain .entry)) (now (states .entry)) (length (now (returned .entry)))) × (now (chain .exit) ≡ runAfter (now (chain .entry)) (now (states .entry)) (length (now (returned .entry)))) × (now (returned .exit) ≡ runRoom (now (chain .entry)) (now (states .entry)) (now (returned .entry))) ⌝ }
 {
     let judged = calls::judge(chain);
-    let entry = turns::enter(judged, chain.len(), states, returned.len());
+    let entry = cursor::enter(judged, chain.len(), states, returned.len());
     let mut cursor = entry.cursor;
     while cursor.going {
         let i = cursor.index;
@@ -39,7 +39,7 @@ pub extern "C" fn bb_run(chain: &mut [Device], states: &[u8], returned: &mut [u8
         chain[i] = taken.device;
         cursor = next;
     }
-    turns::answer(entry.refusal, cursor.written)
+    cursor::answer(entry.refusal, cursor.written)
 }
 
 // A frame boundary: waiting values become active. The refusal's number, or 0.

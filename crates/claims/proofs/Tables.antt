@@ -29,8 +29,8 @@ use Rattle.calls.specs.Calls.{freshRefusal, runTable, runRefusal, returned as c
 use Rattle.calls.specs.History.{Call, fresh, run, boundary, fault, tableOf, refusalOf, effect, after}
 use Rattle.model.specs.Set.{Set, Own, owned}
 use Rattle.link.proofs.Calls.{after-effect}
-use Rattle.turns.specs.Answer.{ran}
-use Rattle.turns.specs.declared.entry.Ran.{Ran}
+use Rattle.cursor.specs.Answer.{ran}
+use Rattle.cursor.specs.declared.entry.Ran.{Ran}
 use Rattle.schedule.specs.Answers.{onRows, leadRows, litRows, onAnswer, leadAnswer, litAnswer, litClocksAnswer}
 use Rattle.device_light.specs.OfDevice.{deviceRows, deviceAnswer, deviceClocksAnswer}
 use Rattle.schedule.specs.declared.answer.Asked.the-variants as A

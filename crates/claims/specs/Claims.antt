@@ -45,8 +45,8 @@ use Rattle.device.specs.Run.{stepRecord}
 use Rattle.link.specs.View.{deviceOf, Arrays, registersAt, registersAll, Holds}
 use Rattle.link.specs.Called.{called}
 use Rattle.link.specs.Restore.{Writable, framePart, restorePart, restoreStates, restoreThen, gapAfter, tailsOf, arrival}
-use Rattle.turns.specs.Answer.{ran, runAnswer}
-use Rattle.turns.specs.declared.entry.Ran.{Ran}
+use Rattle.cursor.specs.Answer.{ran, runAnswer}
+use Rattle.cursor.specs.declared.entry.Ran.{Ran}
 use Rattle.schedule.specs.Light.{count, level, isOn, leadOf, isLit, litAt, inRun, litCount}
 use Rattle.schedule.specs.Answers.{onRows, leadRows, litRows, litRun, onAnswer, leadAnswer, litAnswer, litClocksAnswer}
 use Rattle.device_light.specs.OfDevice.{isShown, shownRun, deviceRows, deviceAnswer, deviceClocksAnswer}

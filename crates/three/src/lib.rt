@@ -5,9 +5,9 @@ ghost use mathlib.Core.Bool.{not};
 ghost use lib.Dec.{eqb};
 ghost use lib.ListN.{length};
 ghost use Rattle.calls.specs.Calls.{freshAfter, faultAfter, runAfter, runRoom};
-ghost use Rattle.turns.specs.Answer.{runAnswer};
+ghost use Rattle.cursor.specs.Answer.{runAnswer};
+use cursor::Ran;
 use device::Device;
-use turns::Ran;
 
 // A fresh chain, whatever the records hold.
 pub fn fresh_three(chain: [Device; 3], part: u16) -> [Device; 3]

@@ -15,16 +15,10 @@ use Rattle.device.specs.declared.device.Device.{Device}
 use Rattle.phases.specs.Phases.{phaseOf}
 use Rattle.phases.proofs.phase.Phase as P
 use Rattle.phases.proofs.phase.Sent as S
-use Rattle.turns.specs.Front.{isLost, phaseRun, phaseTaken, afterHeader, lowTaken, turnByState, nextTurn, frontAfter, leaveCursor, leaving, passedTo}
+use Rattle.turns.specs.Front.{isLost, phaseRun, phaseTaken, afterHeader, lowTaken, frontAfter, leaveCursor, leaving, passedTo}
 use Rattle.turns.specs.declared.front.PhaseRun.{PhaseRun}
-use Rattle.turns.specs.declared.cursor.Cursor.{Cursor}
-
--- no header
-abbrev NoHeader : Sent → Type 0
-NoHeader p = OneOf (0 ∷ 1 ∷ []) (tagOf S.the-type p)
-
-not-last : OneOf (0 ∷ 1 ∷ []) 2 → ⊥
-not-last h = ⊎-elim (λ e. omega arith) (λ e. omega arith) h
+use Rattle.cursor.specs.declared.cursor.Cursor.{Cursor}
+use Rattle.cursor.proofs.Cases.{NoHeader, not-last}
 
 pub afterHeader-none : (d : Device) (p : Sent) → NoHeader p → d ≡ afterHeader d p
 afterHeader-none d Nothing h = refl
@@ -36,15 +30,10 @@ lowTaken-none d Nothing ss i q h e = ap (phaseTaken d) e
 lowTaken-none d (One s) ss i q h e = ap (phaseTaken d) e
 lowTaken-none d (Header c n) ss i q h e = absurd (not-last h)
 
-pub nextTurn-none : (n f at w : ℕ) (p : Sent) (ss : List ℕ) → NoHeader p → turnByState n f at w ss ≡ nextTurn n f at w p ss
-nextTurn-none n f at w Nothing ss h = refl
-nextTurn-none n f at w (One s) ss h = refl
-nextTurn-none n f at w (Header c m) ss h = absurd (not-last h)
-
-pub lineCursor-none : (p : Sent) (c : Cursor) (ss : List ℕ) (room : ℕ) → NoHeader p → passedTo c ss room ≡ leaveCursor p c ss room
-lineCursor-none Nothing c ss room h = refl
-lineCursor-none (One s) c ss room h = refl
-lineCursor-none (Header k n) c ss room h = absurd (not-last h)
+pub leaveCursor-none : (p : Sent) (c : Cursor) (ss : List ℕ) (room : ℕ) → NoHeader p → passedTo c ss room ≡ leaveCursor p c ss room
+leaveCursor-none Nothing c ss room h = refl
+leaveCursor-none (One s) c ss room h = refl
+leaveCursor-none (Header k n) c ss room h = absurd (not-last h)
 
 pub leaving-none : (p : Sent) (ss : List ℕ) → NoHeader p → leaving Nothing ss ≡ leaving p ss
 leaving-none Nothing ss h = refl

@@ -159,7 +159,10 @@ pub header-parts : (c : Command) (n : ℕ) → statesOf (header c n) ≡ opening
 header-parts c n = opening-states c n ∙ ap (λ (r : List ℕ). opening c ++ r) (high-states 10 n)
 
 pub header-is : (c : Command) (n : ℕ) → _≡_ {A = List ℕ}
-    (1 ∷ 1 ∷ 1 ∷ 0 ∷ 1 ∷ 0 ∷ 0 ∷ 0 ∷ (code c / 2 % 2 + 2) ∷ (code c / 1 % 2 + 2) ∷ (code c / 2 % 2 + 2) ∷ (code c / 1 % 2 + 2) ∷ (code c / 2 % 2 + 2) ∷ (code c / 1 % 2 + 2) ∷ (n / 512 % 2 + 2) ∷ (n / 256 % 2 + 2) ∷ (n / 128 % 2 + 2) ∷ (n / 64 % 2 + 2) ∷ (n / 32 % 2 + 2) ∷ (n / 16 % 2 + 2) ∷ (n / 8 % 2 + 2) ∷ (n / 4 % 2 + 2) ∷ (n / 2 % 2 + 2) ∷ (n / 1 % 2 + 2) ∷ [])
+    (1 ∷ 1 ∷ 1 ∷ 0 ∷ 1 ∷ 0 ∷ 0 ∷ 0 ∷
+    (code c / 2 % 2 + 2) ∷ (code c / 1 % 2 + 2) ∷ (code c / 2 % 2 + 2) ∷ (code c / 1 % 2 + 2) ∷ (code c / 2 % 2 + 2) ∷ (code c / 1 % 2 + 2) ∷
+    (n / 512 % 2 + 2) ∷ (n / 256 % 2 + 2) ∷ (n / 128 % 2 + 2) ∷ (n / 64 % 2 + 2) ∷ (n / 32 % 2 + 2) ∷
+    (n / 16 % 2 + 2) ∷ (n / 8 % 2 + 2) ∷ (n / 4 % 2 + 2) ∷ (n / 2 % 2 + 2) ∷ (n / 1 % 2 + 2) ∷ [])
     (statesOf (header c n))
 unfolding bitStates
 header-is c n = sym (header-parts c n)

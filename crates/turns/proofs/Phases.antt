@@ -34,7 +34,11 @@ passes-number d = go (eqb (d .place .phase) 0) refl (eqb (d .place .phase) 1) re
     go : (a : Bool) → eqb (d .place .phase) 0 ≡ a → (b : Bool) → eqb (d .place .phase) 1 ≡ b → (c : Bool) → eqb (d .place .phase) 2 ≡ c → (e : Bool) → eqb (d .place .phase) 3 ≡ e
         → (f : Bool) → eqb (d .place .phase) 4 ≡ f
         → isPassing
-        (cond a (Hunting (d .place .read % 256)) (cond b (Opening (d .place .read)) (cond c (Counting (commandAt (d .place .command)) (d .place .read)) (cond e (Slice (commandAt (d .place .command)) (d .place .count) (d .place .read)) (cond f Passing Lost))))) ≡ eqb (d .place .phase) 4
+        (cond a (Hunting (d .place .read % 256))
+        (cond b (Opening (d .place .read))
+        (cond c (Counting (commandAt (d .place .command)) (d .place .read))
+        (cond e (Slice (commandAt (d .place .command)) (d .place .count) (d .place .read)) (cond f Passing Lost)))))
+        ≡ eqb (d .place .phase) 4
     go true p b q c r e s f t = other 0 p (λ z. omega (arith, z))
     go false p true q c r e s f t = other 1 q (λ z. omega (arith, z))
     go false p false q true r e s f t = other 2 r (λ z. omega (arith, z))

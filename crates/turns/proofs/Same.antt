@@ -28,13 +28,14 @@ use Rattle.device.proofs.Places.{place-phase}
 use Rattle.intake.specs.Intake.{stopped, highTaken}
 use Rattle.intake.specs.declared.taken.Taken.{Taken}
 use Rattle.calls.specs.Chain.{through, allFit, blank}
-use Rattle.turns.specs.declared.cursor.Cursor.{Cursor}
-use Rattle.turns.specs.Front.{isPassing, passes, phaseRun, phaseTaken, frontTaken, sliceStart, deviceTaken, putAll, putEnd, highCount, indexOf, cursor, turnByState, nextTurn, frontAfter, leaveCursor, leaveOut, deviceTurn, turnedOut, Running, turning, turns, started, enough, frontRun, Turned}
+use Rattle.cursor.specs.declared.cursor.Cursor.{Cursor}
+use Rattle.cursor.specs.Cursor.{indexOf, cursor, turnByState, nextTurn}
+use Rattle.turns.specs.Front.{isPassing, passes, phaseRun, phaseTaken, frontTaken, sliceStart, deviceTaken, putAll, putEnd, highCount, frontAfter, leaveCursor, leaveOut, deviceTurn, turnedOut, Running, turning, turns, started, enough, frontRun, Turned}
 use Rattle.turns.proofs.LeavingStates.{put-full, length-put, put-append, highCount-fit, length-header-states}
 use Rattle.turns.proofs.Header.{run-header}
-use Rattle.turns.proofs.Taking.{by-test, High, AllPass, none, also, passer, through-high, Takes, takes-none, takes, takes-low, Ending, quiet, sent, endings, ending-low}
-use Rattle.turns.proofs.Turns.{no-way, owed, low-front, leaveTurn, turnWithin, turned-is, turned-out-is, Good, measure, good-start, good-next, nearer-next, turns-on, turns-stop, near-start}
-use Rattle.tables.proofs.Booleans.{and-left}
+use Rattle.turns.proofs.Taking.{High, AllPass, none, also, passer, through-high, Takes, takes-none, takes, takes-low, Ending, quiet, sent, endings, ending-low}
+use Rattle.turns.proofs.Turns.{no-way, owed, low-front, leaveTurn, turnWithin, turned-is, turned-out-is, Good, measure, good-start, good-next, nearer-next, turns-on, turns-stop, near-start, under, IsNext}
+use Rattle.tables.proofs.Booleans.{and-left, and-both, cond-both}
 
 abbrev Whole : Type 0
 Whole = List Device × List ℕ
@@ -278,7 +279,9 @@ module _ (ss : List ℕ) (fin : List Device × (List ℕ × ℕ)) where
 
   turnByState-holds : (n : ℕ) (ys : List Device) (ws : List ℕ) (f at w : ℕ) (rest : List ℕ) → Invariant ys ws f at w Nothing → InvariantAt ys ws (turnByState n f at w rest)
   turnByState-holds n ys ws f at w [] h = h
-  turnByState-holds n ys ws f at w (s ∷ xs) h = by-test (ltb s 2) (cursor n 0 0 at w Nothing true) (cursor n f (indexOf n f) at w Nothing true) (InvariantAt ys ws) (reset ys ws f at w h) h
+  turnByState-holds n ys ws f at w (s ∷ xs) h =
+      cond-both (InvariantAt ys ws) (ltb s 2) (cursor n 0 0 at w Nothing true) (cursor n f (indexOf n f) at w Nothing true)
+      (λ _. reset ys ws f at w h) (λ _. h)
 
   one-none : (ys : List Device) (ws : List ℕ) (f at w b : ℕ) → Invariant ys ws f at w (One b) → Invariant ys ws f at w Nothing
   unfolding Small
@@ -371,7 +374,9 @@ module _ (ss : List ℕ) (fin : List Device × (List ℕ × ℕ)) where
       sym (take-append-drop (highCount (drop at ss)) (drop at ss)) ∙ ap (λ (r : List ℕ). take (highCount (drop at ss)) (drop at ss) ++ r) (sym rest-is) in
       let m : joined (through (h .ps) (drop at ss)) (h .qs) [] ≡ (B .0 ++ [], hs ++ B .1) =
       ap (λ (b : List Device). joined (through (h .ps) (drop at ss)) b []) e ∙ last-out (through (h .ps) (drop at ss)) []
-      ∙ ap (λ (a : Whole). (a .0 ++ [], a .1)) (ap (λ (r : List ℕ). through (h .ps) r) whole ∙ through-high (h .ps) hs (drop (at + highCount (drop at ss)) ss) (h .passing) (highCount-high (drop at ss))) in
+      ∙ ap (λ (a : Whole). (a .0 ++ [], a .1))
+      (ap (λ (r : List ℕ). through (h .ps) r) whole
+      ∙ through-high (h .ps) hs (drop (at + highCount (drop at ss)) ss) (h .passing) (highCount-high (drop at ss))) in
       let k : joined B (h .qs) [] ≡ (B .0 ++ [], B .1) = ap (λ (b : List Device). joined B b []) e ∙ last-out B [] in
       record {
         ps = h .ps;
@@ -388,36 +393,48 @@ module _ (ss : List ℕ) (fin : List Device × (List ℕ × ℕ)) where
       }
 
   -- ---- a whole turn
-  abbrev NextTurn : ℕ → ℕ → ℕ → ℕ → ℕ → Sent → Bool → List ℕ → Type 0
-  NextTurn n f i at w p g rest = cursor n f i at w p g ≡ nextTurn n f at w p rest
+  -- an invariant at a cursor under which p is under way
+  abbrev InvariantUnder : List Device → List ℕ → Sent → Cursor → Type 0
+  InvariantUnder ys ws p c = Invariant ys ws (c .front) (c .at) (c .written) p
 
-  index-turnByState : (n f i at w : ℕ) (p : Sent) (g : Bool) (rest : List ℕ) → cursor n f i at w p g ≡ turnByState n f at w rest → ltb f n ≡ true → g ≡ true → i ≡ f
-  index-turnByState n f i at w p g [] e l v = absurd (no-way (sym (ap (λ (c : Cursor). c .going) e) ∙ v))
-  index-turnByState n f i at w p g (s ∷ xs) e l v = go (ltb s 2) refl
+  index-turnByState : (p : Sent) (c : Cursor) (rest : List ℕ) → under p c ≡ turnByState (c .count) (c .front) (c .at) (c .written) rest → ltb (c .front) (c .count) ≡ true
+      → c .going ≡ true → c .index ≡ c .front
+  index-turnByState p c [] e l v = absurd (no-way (sym (ap (λ (x : Cursor). x .going) e) ∙ v))
+  index-turnByState p c (s ∷ xs) e l v = go (ltb s 2) refl
     where
-      go : (t : Bool) → ltb s 2 ≡ t → i ≡ f
+      first : Cursor
+      first = cursor (c .count) 0 0 (c .at) (c .written) Nothing true
+
+      front : Cursor
+      front = cursor (c .count) (c .front) (indexOf (c .count) (c .front)) (c .at) (c .written) Nothing true
+
+      go : (t : Bool) → ltb s 2 ≡ t → c .index ≡ c .front
       go true h =
-          let q : cursor n f i at w p g ≡ cursor n 0 0 at w Nothing true = e ∙ ap (λ (t : Bool). cond t (cursor n 0 0 at w Nothing true) (cursor n f (indexOf n f) at w Nothing true)) h in
-          ap (λ (c : Cursor). c .index) q ∙ sym (ap (λ (c : Cursor). c .front) q)
+          let q : under p c ≡ first = e ∙ ap (λ (t : Bool). cond t first front) h in
+          ap (λ (x : Cursor). x .index) q ∙ sym (ap (λ (x : Cursor). x .front) q)
       go false h =
-          let q : cursor n f i at w p g ≡ cursor n f (indexOf n f) at w Nothing true = e ∙ ap (λ (t : Bool). cond t (cursor n 0 0 at w Nothing true) (cursor n f (indexOf n f) at w Nothing true)) h in
-          ap (λ (c : Cursor). c .index) q ∙ ap (λ (t : Bool). cond t f 0) l
+          let q : under p c ≡ front = e ∙ ap (λ (t : Bool). cond t first front) h in
+          ap (λ (x : Cursor). x .index) q ∙ ap (λ (t : Bool). cond t (c .front) 0) l
 
-  index-is : (n f i at w : ℕ) (p : Sent) (g : Bool) (rest : List ℕ) → NextTurn n f i at w p g rest → ltb f n ≡ true → g ≡ true → i ≡ f
-  index-is n f i at w Nothing g rest e l v = index-turnByState n f i at w Nothing g rest e l v
-  index-is n f i at w (One b) g rest e l v = index-turnByState n f i at w (One b) g rest e l v
-  index-is n f i at w (Header c m) g rest e l v = ap (λ (c : Cursor). c .index) e ∙ ap (λ (t : Bool). cond t f 0) l
+  index-is : (p : Sent) (c : Cursor) (rest : List ℕ) → IsNext p c rest → ltb (c .front) (c .count) ≡ true → c .going ≡ true → c .index ≡ c .front
+  index-is Nothing c rest e l v = index-turnByState Nothing c rest e l v
+  index-is (One b) c rest e l v = index-turnByState (One b) c rest e l v
+  index-is (Header k m) c rest e l v = ap (λ (x : Cursor). x .index) e ∙ ap (λ (t : Bool). cond t (c .front) 0) l
 
-  device-holds : (ys : List Device) (ws : List ℕ) (n f i at w : ℕ) (p : Sent) (g : Bool) → (h : Invariant ys ws f at w p) → NextTurn n f i at w p g (drop at ss) → i ≡ f → (qs : List Device)
-      → h .qs ≡ qs → 0 < length qs
-      → InvariantAt (set ys i (deviceTurn (getD ys i blank) (cursor n f i at w p g) ss .device)) ws (deviceTurn (getD ys i blank) (cursor n f i at w p g) ss .cursor)
+  device-holds : (ys : List Device) (ws : List ℕ) (c : Cursor) → (h : InvariantAt ys ws c) → IsNext (c .pending) c (drop (c .at) ss) → c .index ≡ c .front
+      → (qs : List Device) → h .qs ≡ qs → 0 < length qs
+      → InvariantAt (set ys (c .index) (deviceTurn (getD ys (c .index) blank) c ss .device)) ws (deviceTurn (getD ys (c .index) blank) c ss .cursor)
   unfolding InvariantTaken
-  device-holds ys ws n f i at w p g h e j [] q l = absurd (omega (arith, l))
-  device-holds ys ws n f i at w p g h e j (d ∷ qs) q l =
+  device-holds ys ws c h e j [] q l = absurd (omega (arith, l))
+  device-holds ys ws c h e j (d ∷ qs) q l =
+      let f : ℕ = c .front in
+      let at : ℕ = c .at in
+      let p : Sent = c .pending in
       let sp : ys ≡ h .ps ++ d ∷ qs = h .split ∙ ap (λ (b : List Device). h .ps ++ b) q in
-      let dd : getD ys i blank ≡ d = ap (λ (k : ℕ). getD ys k blank) j ∙ ap (λ (b : List Device). getD b f blank) sp ∙ getD-at (h .ps) d qs blank f (h .count) in
+      let dd : getD ys (c .index) blank ≡ d =
+      ap (λ (k : ℕ). getD ys k blank) j ∙ ap (λ (b : List Device). getD b f blank) sp ∙ getD-at (h .ps) d qs blank f (h .count) in
       let t : Taken = deviceTaken d p (drop at ss) at in
-      let served : Invariant (set (h .ps ++ d ∷ qs) f (t .device)) ws (frontAfter f (t .sent)) (t .at) w (t .sent) =
+      let served : Invariant (set (h .ps ++ d ∷ qs) f (t .device)) ws (frontAfter f (t .sent)) (t .at) (c .written) (t .sent) =
       serves
       (record {
         ps = h .ps;
@@ -427,47 +444,55 @@ module _ (ss : List ℕ) (fin : List Device × (List ℕ × ℕ)) where
         ws = ws;
         f = f;
         at = at;
-        w = w;
+        w = c .written;
         count = h .count;
         passing = h .passing;
         neat = subst AllNeat q (h .neat);
         devices = ap (λ (b : List Device). joined (through (h .ps) (drop at ss)) b (underWay p) .0) (sym q) ∙ h .devices;
-        out = ap (λ (b : List Device). wrote ws w (joined (through (h .ps) (drop at ss)) b (underWay p) .1)) (sym q) ∙ h .out;
+        out = ap (λ (b : List Device). wrote ws (c .written) (joined (through (h .ps) (drop at ss)) b (underWay p) .1)) (sym q) ∙ h .out;
       })
-      p refl (h .small) (λ s xs r k u. low-front n f i at w p g s xs (e ∙ ap (λ (y : List ℕ). nextTurn n f at w p y) r) k u) in
-      let next-holds : InvariantAt (set (h .ps ++ d ∷ qs) f (t .device)) ws (deviceTurn d (cursor n f i at w p g) ss .cursor) =
-      nextTurn-holds n (set (h .ps ++ d ∷ qs) f (t .device)) ws (frontAfter f (t .sent)) (t .at) w (t .sent) (drop (t .at) ss) served in
-      subst (λ (x : Device). InvariantAt (set ys i (deviceTurn x (cursor n f i at w p g) ss .device)) ws (deviceTurn x (cursor n f i at w p g) ss .cursor)) (sym dd)
-      (subst (λ (k : ℕ). InvariantAt (set ys k (deviceTurn d (cursor n f i at w p g) ss .device)) ws (deviceTurn d (cursor n f i at w p g) ss .cursor)) (sym j)
-      (subst (λ (b : List Device). InvariantAt (set b f (deviceTurn d (cursor n f i at w p g) ss .device)) ws (deviceTurn d (cursor n f i at w p g) ss .cursor)) (sym sp) next-holds))
+      p refl (h .small) (λ s xs r k u. low-front p c s xs (e ∙ ap (λ (y : List ℕ). nextTurn (c .count) f at (c .written) p y) r) k u) in
+      let next-holds : InvariantAt (set (h .ps ++ d ∷ qs) f (t .device)) ws (deviceTurn d c ss .cursor) =
+      nextTurn-holds (c .count) (set (h .ps ++ d ∷ qs) f (t .device)) ws (frontAfter f (t .sent)) (t .at) (c .written) (t .sent) (drop (t .at) ss) served in
+      subst (λ (x : Device). InvariantAt (set ys (c .index) (deviceTurn x c ss .device)) ws (deviceTurn x c ss .cursor)) (sym dd)
+      (subst (λ (k : ℕ). InvariantAt (set ys k (deviceTurn d c ss .device)) ws (deviceTurn d c ss .cursor)) (sym j)
+      (subst (λ (b : List Device). InvariantAt (set b f (deviceTurn d c ss .device)) ws (deviceTurn d c ss .cursor)) (sym sp) next-holds))
 
-  leave-holds : (ys : List Device) (ws : List ℕ) (n f i at w : ℕ) (p : Sent) (g : Bool) → (h : Invariant ys ws f at w p) → h .qs ≡ []
-      → InvariantAt ys (leaveOut (cursor n f i at w p g) ss ws) (leaveCursor p (cursor n f i at w p g) ss (length ws))
+  leave-holds : (ys : List Device) (ws : List ℕ) (p : Sent) (c : Cursor) → (h : InvariantUnder ys ws p c) → h .qs ≡ []
+      → InvariantAt ys (leaveOut (under p c) ss ws) (leaveCursor p (under p c) ss (length ws))
   unfolding one-none
-  leave-holds ys ws n f i at w Nothing g h e = nextTurn-holds n ys _ f (at + highCount (drop at ss)) _ Nothing (drop (at + highCount (drop at ss)) ss) (all-pass ys ws f at w h e)
-  leave-holds ys ws n f i at w (One b) g h e =
-      nextTurn-holds n ys _ f (at + highCount (drop at ss)) _ Nothing (drop (at + highCount (drop at ss)) ss) (all-pass ys ws f at w (one-none ys ws f at w b h) (one-qs ys ws f at w b h e))
+  leave-holds ys ws Nothing c h e =
+      let many : ℕ = highCount (drop (c .at) ss) in
+      nextTurn-holds (c .count) ys _ (c .front) (c .at + many) _ Nothing (drop (c .at + many) ss) (all-pass ys ws (c .front) (c .at) (c .written) h e)
+  leave-holds ys ws (One b) c h e =
+      let many : ℕ = highCount (drop (c .at) ss) in
+      nextTurn-holds (c .count) ys _ (c .front) (c .at + many) _ Nothing (drop (c .at + many) ss)
+      (all-pass ys ws (c .front) (c .at) (c .written) (one-none ys ws (c .front) (c .at) (c .written) b h) (one-qs ys ws (c .front) (c .at) (c .written) b h e))
     where
       one-qs : (ys : List Device) (ws : List ℕ) (f at w b : ℕ) (h : Invariant ys ws f at w (One b)) → h .qs ≡ [] → one-none ys ws f at w b h .qs ≡ []
       one-qs ys ws f at w b h e = e
-  leave-holds ys ws n f i at w (Header c m) g h e = nextTurn-holds n ys _ f at _ Nothing (drop at ss) (leaves ys ws f at w c m h e)
+  leave-holds ys ws (Header k m) c h e =
+      nextTurn-holds (c .count) ys _ (c .front) (c .at) _ Nothing (drop (c .at) ss) (leaves ys ws (c .front) (c .at) (c .written) k m h e)
 
-  turn-holds : (ys : List Device) (ws : List ℕ) (n f i at w : ℕ) (p : Sent) (g : Bool) → length ys ≡ n → Invariant ys ws f at w p → NextTurn n f i at w p g (drop at ss) → g ≡ true
-      → InvariantAt (set ys i (turnWithin (getD ys i blank) (cursor n f i at w p g) ss (length ws) .device)) (cond (ltb f n) ws (leaveOut (cursor n f i at w p g) ss ws))
-      (turnWithin (getD ys i blank) (cursor n f i at w p g) ss (length ws) .cursor)
-  turn-holds ys ws n f i at w p g l h e v = go (ltb f n) refl
+  turn-holds : (ys : List Device) (ws : List ℕ) (c : Cursor) → length ys ≡ c .count → InvariantAt ys ws c → IsNext (c .pending) c (drop (c .at) ss) → c .going ≡ true
+      → InvariantAt (set ys (c .index) (turnWithin (getD ys (c .index) blank) c ss (length ws) .device)) (cond (ltb (c .front) (c .count)) ws (leaveOut c ss ws))
+      (turnWithin (getD ys (c .index) blank) c ss (length ws) .cursor)
+  turn-holds ys ws c l h e v = go (ltb (c .front) (c .count)) refl
     where
-      long : length (h .ps) + length (h .qs) ≡ n
+      long : length (h .ps) + length (h .qs) ≡ c .count
       long = sym (length-append (h .ps) (h .qs)) ∙ sym (ap length (h .split)) ∙ l
 
-      go : (t : Bool) → ltb f n ≡ t
-          → InvariantAt (set ys i (cond t (deviceTurn (getD ys i blank) (cursor n f i at w p g) ss) (leaveTurn (getD ys i blank) (cursor n f i at w p g) ss (length ws)) .device))
-          (cond t ws (leaveOut (cursor n f i at w p g) ss ws))
-          (cond t (deviceTurn (getD ys i blank) (cursor n f i at w p g) ss) (leaveTurn (getD ys i blank) (cursor n f i at w p g) ss (length ws)) .cursor)
-      go true q = device-holds ys ws n f i at w p g h e (index-is n f i at w p g (drop at ss) e q v) (h .qs) refl (omega (arith, long, h .count, ltb-true f n q))
+      d : Device
+      d = getD ys (c .index) blank
+
+      go : (t : Bool) → ltb (c .front) (c .count) ≡ t
+          → InvariantAt (set ys (c .index) (cond t (deviceTurn d c ss) (leaveTurn d c ss (length ws)) .device)) (cond t ws (leaveOut c ss ws))
+          (cond t (deviceTurn d c ss) (leaveTurn d c ss (length ws)) .cursor)
+      go true q =
+          device-holds ys ws c h e (index-is (c .pending) c (drop (c .at) ss) e q v) (h .qs) refl (omega (arith, long, h .count, ltb-true (c .front) (c .count) q))
       go false q =
-          subst (λ (b : List Device). InvariantAt b (leaveOut (cursor n f i at w p g) ss ws) (leaveCursor p (cursor n f i at w p g) ss (length ws))) (sym (set-getD ys i blank))
-          (leave-holds ys ws n f i at w p g h (no-more (h .qs) (omega (arith, long, h .count, ltb-false f n q))))
+          subst (λ (b : List Device). InvariantAt b (leaveOut c ss ws) (leaveCursor (c .pending) c ss (length ws))) (sym (set-getD ys (c .index) blank))
+          (leave-holds ys ws (c .pending) c h (no-more (h .qs) (omega (arith, long, h .count, ltb-false (c .front) (c .count) q))))
 
   -- ---- the end
   abbrev Ended : List Device → List ℕ → ℕ → Type 0
@@ -483,17 +508,21 @@ module _ (ss : List ℕ) (fin : List Device × (List ℕ × ℕ)) where
         ap (λ (k : ℕ). (ws, k)) (full-or-not (length ws) w 0 (λ (k : ℕ). w ≡ k) (λ g. omega arith) (λ g. absurd (omega (arith, g, l)))) ∙ sym (ap (λ (b : Whole). wrote ws w (b .1)) m) ∙ h .out,
       )
 
-  ends-turnByState : (ys : List Device) (ws : List ℕ) (n f i at w : ℕ) (p : Sent) (g : Bool) (rest : List ℕ) → Invariant ys ws f at w Nothing → drop at ss ≡ rest
-      → cursor n f i at w p g ≡ turnByState n f at w rest → g ≡ false → w ≤ length ws → Ended ys ws w
-  ends-turnByState ys ws n f i at w p g [] h r e v l = ends-empty ys ws f at w h r l
-  ends-turnByState ys ws n f i at w p g (s ∷ xs) h r e v l =
+  ends-turnByState : (ys : List Device) (ws : List ℕ) (p : Sent) (c : Cursor) (rest : List ℕ) → InvariantUnder ys ws Nothing c → drop (c .at) ss ≡ rest
+      → under p c ≡ turnByState (c .count) (c .front) (c .at) (c .written) rest → c .going ≡ false → c .written ≤ length ws → Ended ys ws (c .written)
+  ends-turnByState ys ws p c [] h r e v l = ends-empty ys ws (c .front) (c .at) (c .written) h r l
+  ends-turnByState ys ws p c (s ∷ xs) h r e v l =
       absurd
-      (no-way (sym v ∙ ap (λ (c : Cursor). c .going) e ∙ by-test (ltb s 2) (cursor n 0 0 at w Nothing true) (cursor n f (indexOf n f) at w Nothing true) (λ (c : Cursor). c .going ≡ true) refl refl))
+      (no-way (sym v ∙ ap (λ (x : Cursor). x .going) e
+      ∙ cond-both (λ (x : Cursor). x .going ≡ true) (ltb s 2) (cursor (c .count) 0 0 (c .at) (c .written) Nothing true)
+      (cursor (c .count) (c .front) (indexOf (c .count) (c .front)) (c .at) (c .written) Nothing true) (λ _. refl) (λ _. refl)))
 
-  end-holds : (ys : List Device) (ws : List ℕ) (n f i at w : ℕ) (p : Sent) (g : Bool) → Invariant ys ws f at w p → NextTurn n f i at w p g (drop at ss) → g ≡ false → w ≤ length ws → Ended ys ws w
-  end-holds ys ws n f i at w Nothing g h e v l = ends-turnByState ys ws n f i at w Nothing g (drop at ss) h refl e v l
-  end-holds ys ws n f i at w (One b) g h e v l = ends-turnByState ys ws n f i at w (One b) g (drop at ss) (one-none ys ws f at w b h) refl e v l
-  end-holds ys ws n f i at w (Header c m) g h e v l = absurd (no-way (sym v ∙ ap (λ (c : Cursor). c .going) e))
+  end-holds : (ys : List Device) (ws : List ℕ) (p : Sent) (c : Cursor) → InvariantUnder ys ws p c → IsNext p c (drop (c .at) ss) → c .going ≡ false
+      → c .written ≤ length ws → Ended ys ws (c .written)
+  end-holds ys ws Nothing c h e v l = ends-turnByState ys ws Nothing c (drop (c .at) ss) h refl e v l
+  end-holds ys ws (One b) c h e v l =
+      ends-turnByState ys ws (One b) c (drop (c .at) ss) (one-none ys ws (c .front) (c .at) (c .written) b h) refl e v l
+  end-holds ys ws (Header k m) c h e v l = absurd (no-way (sym v ∙ ap (λ (x : Cursor). x .going) e))
 
   -- ---- turn after turn
   abbrev Same : Running → Type 0
@@ -502,17 +531,19 @@ module _ (ss : List ℕ) (fin : List Device × (List ℕ × ℕ)) where
   finish : (t n room : ℕ) (r : Running) → Good n ss room r → InvariantAt (r .devices) (r .out) (r .cursor) → r .cursor .going ≡ false → Same (turns t ss r)
   finish t n room r good h e =
       subst Same (sym (turns-stop t ss r e))
-      (end-holds (r .devices) (r .out) (r .cursor .count) (r .cursor .front) (r .cursor .index) (r .cursor .at) (r .cursor .written) (r .cursor .pending) (r .cursor .going) h (good .next) e (subst (λ (m : ℕ). r .cursor .written ≤ m) (sym (good .out)) (good .written)))
+      (end-holds (r .devices) (r .out) (r .cursor .pending) (r .cursor) h (good .next) e
+      (subst (λ (m : ℕ). r .cursor .written ≤ m) (sym (good .out)) (good .written)))
 
   turns-same : (n room : ℕ) (r : Running) → Good n ss room r → InvariantAt (r .devices) (r .out) (r .cursor) → r .cursor .going ≡ true
       → InvariantAt (turning ss r .devices) (turning ss r .out) (turning ss r .cursor)
   turns-same n room r good h e =
       let d : Device = getD (r .devices) (r .cursor .index) blank in
       let w : r .cursor .written ≤ length (r .out) = subst (λ (m : ℕ). r .cursor .written ≤ m) (sym (good .out)) (good .written) in
+      let u : Turned = turnWithin d (r .cursor) ss (length (r .out)) in
       subst (λ (t : Turned). InvariantAt (set (r .devices) (r .cursor .index) (t .device)) (turnedOut (r .cursor) ss (r .out)) (t .cursor))
       (sym (turned-is d (r .cursor) ss (length (r .out)) (good .at) w))
-      (subst (λ (os : List ℕ). InvariantAt (set (r .devices) (r .cursor .index) (turnWithin d (r .cursor) ss (length (r .out)) .device)) os (turnWithin d (r .cursor) ss (length (r .out)) .cursor)) (sym (turned-out-is (r .cursor) ss (r .out) (good .at) w))
-      (turn-holds (r .devices) (r .out) (r .cursor .count) (r .cursor .front) (r .cursor .index) (r .cursor .at) (r .cursor .written) (r .cursor .pending) (r .cursor .going) (good .devices ∙ sym (good .count)) h (good .next) e))
+      (subst (λ (os : List ℕ). InvariantAt (set (r .devices) (r .cursor .index) (u .device)) os (u .cursor)) (sym (turned-out-is (r .cursor) ss (r .out) (good .at) w))
+      (turn-holds (r .devices) (r .out) (r .cursor) (good .devices ∙ sym (good .count)) h (good .next) e))
 
   by-going : (t n room : ℕ) (r : Running) → 0 < n → n < 1024 → Good n ss room r → InvariantAt (r .devices) (r .out) (r .cursor) → (g : Bool) → r .cursor .going ≡ g
       → (r .cursor .going ≡ true → Same (turns t ss r)) → Same (turns t ss r)
@@ -541,14 +572,7 @@ fits-neat d h p =
 
 pub all-neat : (ds : List Device) → allFit ds ≡ true → AllNeat ds
 all-neat [] h = tt
-all-neat (d ∷ ds) h = (fits-neat d (both d ds h .0), all-neat ds (both d ds h .1))
-  where
-    both : (d : Device) (ds : List Device) → (fits d && allFit ds) ≡ true → (fits d ≡ true) × (allFit ds ≡ true)
-    both d ds e = go (fits d) (allFit ds) e
-      where
-        go : (a b : Bool) → (a && b) ≡ true → (a ≡ true) × (b ≡ true)
-        go true b e = (refl, e)
-        go false b e = absurd (true≢false (sym e))
+all-neat (d ∷ ds) h = let both = and-both (fits d) (allFit ds) h in (fits-neat d (both .0), all-neat ds (both .1))
 
 -- a run by its front: the devices, what is written, and where it ends are the plain chain's
 pub front-run-same : (ds : List Device) (ss os : List ℕ) → 0 < length ds → length ds < 1024 → AllNeat ds

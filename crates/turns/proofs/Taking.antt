@@ -31,13 +31,10 @@ use Rattle.intake.specs.declared.taken.Taken.{Taken}
 use Rattle.intake.proofs.Clauses.{drop-on, high-end}
 use Rattle.intake.proofs.Phases.{high-low-at}
 use Rattle.calls.specs.Chain.{through}
+use Rattle.tables.proofs.Booleans.{cond-both}
 use Rattle.turns.specs.Front.{isPassing, passes, phaseOnly, phaseStep, phaseRun, phaseTaken, frontTaken, sliceStart, deviceTaken, afterHeader, lowTaken}
 use Rattle.turns.specs.declared.front.PhaseRun.{PhaseRun}
 use Rattle.turns.proofs.Phases.{step-low, step-phaseOnly, heard-small, roamStep-small, headed-quiet, phaseRun-quiet, phaseRun-low}
-
-pub by-test : {A : Type 0} (t : Bool) (x y : A) (P : A → Type 0) → P x → P y → P (cond t x y)
-by-test true x y P a b = a
-by-test false x y P a b = b
 
 -- ---- high states go through passing devices
 
@@ -173,7 +170,8 @@ passes-at r Passing e = absurd (true≢false e)
 passes-at r Lost e = refl
 
 raised-lt : (n flag : ℕ) → raised n flag < 1024
-raised-lt n flag = by-test (eqb flag 0) (n % 1024) ((n + 1) % 1024) (λ (x : ℕ). x < 1024) (mod-lt n (omega arith)) (mod-lt (n + 1) (omega arith))
+raised-lt n flag =
+    cond-both (λ (x : ℕ). x < 1024) (eqb flag 0) (n % 1024) ((n + 1) % 1024) (λ _. mod-lt n (omega arith)) (λ _. mod-lt (n + 1) (omega arith))
 
 fine-high : (r : Registers) (p : Phase) (s : ℕ) → isPassing p ≡ false → Fine (stepHigh r p s)
 fine-high r (Hunting w) s e = on (headed (Hunting w) (s % 2)) (headed-quiet (Hunting w) (s % 2) e)
@@ -181,8 +179,8 @@ fine-high r (Opening a) s e = on (headed (Opening a) (s % 2)) (headed-quiet (Ope
 fine-high r (Counting c a) s e = on (headed (Counting c a) (s % 2)) (headed-quiet (Counting c a) (s % 2) e)
 fine-high r (Slice c n t) s e =
     let q : Registers = took r (t / fieldWidth (partOf (r .part)) c) (s % 2) (fieldLimit (partOf (r .part)) c) in
-    by-test (ltb (t + 1) (sliceLength r c)) (moved q (Slice c n (t + 1))) (sending (stored q c) Passing (Header c (raised n (fault q c)))) Fine (on (Slice c n (t + 1)) refl)
-    (ends (raised-lt n (fault q c)))
+    cond-both Fine (ltb (t + 1) (sliceLength r c)) (moved q (Slice c n (t + 1))) (sending (stored q c) Passing (Header c (raised n (fault q c))))
+    (λ _. on (Slice c n (t + 1)) refl) (λ _. ends (raised-lt n (fault q c)))
 fine-high r Passing s e = absurd (true≢false e)
 fine-high r Lost s e = on Lost refl
 
@@ -192,8 +190,9 @@ fine-low d s e =
 
 pub fine-step : (d : Device) (s : ℕ) → passes d ≡ false → Fine (step d s)
 fine-step d s e =
-    by-test (ltb s 2) (moved (d .registers) (heard (phaseOf (d .place)) s)) (stepHigh (d .registers) (phaseOf (d .place)) s) Fine (on (heard (phaseOf (d .place)) s) refl)
-    (fine-high (d .registers) (phaseOf (d .place)) s e)
+    let p : Phase = phaseOf (d .place) in
+    cond-both Fine (ltb s 2) (moved (d .registers) (heard p s)) (stepHigh (d .registers) p s) (λ _. on (heard p s) refl)
+    (λ _. fine-high (d .registers) p s e)
 
 pub data Ending : Taken → Type 0 where
   quiet : {d : Device} {k : ℕ} → passes d ≡ false → Ending (stopped d k Nothing)
@@ -208,8 +207,9 @@ pub endings : (d : Device) (ss : List ℕ) (k : ℕ) → passes d ≡ false → 
 unfolding highTaken
 endings d [] k e = quiet e
 endings d (s ∷ ss) k e =
-    by-test (ltb s 2) (stopped d k Nothing) (unlessSent (step d s .sent) (highTaken (step d s .device) ss (k + 1)) (stopped (step d s .device) (k + 1) (step d s .sent))) Ending
-    (quiet e) (fine-ending (step d s) ss (k + 1) (fine-step d s e) (λ d′ e′. endings d′ ss (k + 1) e′))
+    let st : Stepped = step d s in
+    cond-both Ending (ltb s 2) (stopped d k Nothing) (unlessSent (st .sent) (highTaken (st .device) ss (k + 1)) (stopped (st .device) (k + 1) (st .sent)))
+    (λ _. quiet e) (λ _. fine-ending st ss (k + 1) (fine-step d s e) (λ d′ e′. endings d′ ss (k + 1) e′))
 
 -- any device at a low state, passing or not
 pub ending-low : (d : Device) (s : ℕ) (ss : List ℕ) (k : ℕ) → ltb s 2 ≡ true → Ending (phaseTaken d (phaseRun (phaseOf (d .place)) (s ∷ ss) k))

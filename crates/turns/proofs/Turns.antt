@@ -18,12 +18,13 @@ use Rattle.intake.specs.Intake.{stopped, unlessSent, highTaken}
 use Rattle.intake.proofs.Phases.{high-cons}
 use Rattle.intake.specs.declared.taken.Taken.{Taken}
 use Rattle.calls.specs.Chain.{blank}
-use Rattle.turns.specs.declared.cursor.Cursor.{Cursor}
+use Rattle.cursor.specs.declared.cursor.Cursor.{Cursor}
 use Rattle.turns.specs.declared.front.PhaseRun.{PhaseRun}
-use Rattle.turns.specs.Front.{passes, phaseRun, phaseTaken, frontTaken, sliceStart, deviceTaken, putEnd, highCount, indexOf, cursor, turnByState, nextTurn, frontAfter, leaving, leaveCursor, leaveOut, deviceTurn, within, turned, turnedOut, Running, turnAt, turning, turns, started, beginRun, enough, Turned, turnTaken, cursorTo, cursorAfter, leaveAfter, leaveRoom, halted}
+use Rattle.cursor.specs.Cursor.{indexOf, cursor, turnByState, nextTurn, beginRun, halted}
+use Rattle.turns.specs.Front.{passes, phaseRun, phaseTaken, frontTaken, sliceStart, deviceTaken, putEnd, highCount, frontAfter, leaving, leaveCursor, leaveOut, deviceTurn, within, turned, turnedOut, Running, turnAt, turning, turns, started, enough, Turned, turnTaken, cursorTo, cursorAfter, leaveAfter, leaveRoom}
 use Rattle.turns.proofs.LeavingStates.{highCount-within, length-put}
 use Rattle.turns.proofs.Phases.{phaseRun-low, phaseRun-along}
-use Rattle.turns.proofs.Taking.{by-test}
+use Rattle.tables.proofs.Booleans.{cond-both}
 
 pub no-way : false ≡ true → ⊥
 no-way e = true≢false (sym e)
@@ -41,7 +42,8 @@ measure len n c = 2048 * (len - c .at) + 1024 * owed (c .pending) + (n - c .fron
 turnByState-has : (n f at w : ℕ) (rest : List ℕ) (P : Cursor → Type 0) → P (cursor n f 0 at w Nothing false) → P (cursor n 0 0 at w Nothing true) → P (cursor n f (indexOf n f) at w Nothing true)
     → P (turnByState n f at w rest)
 turnByState-has n f at w [] P a b c = a
-turnByState-has n f at w (s ∷ ss) P a b c = by-test (ltb s 2) (cursor n 0 0 at w Nothing true) (cursor n f (indexOf n f) at w Nothing true) P b c
+turnByState-has n f at w (s ∷ ss) P a b c =
+    cond-both P (ltb s 2) (cursor n 0 0 at w Nothing true) (cursor n f (indexOf n f) at w Nothing true) (λ _. b) (λ _. c)
 
 loose : (len n f at w : ℕ) (p : Sent) (rest : List ℕ) → measure len n (nextTurn n f at w p rest) ≤ 2048 * (len - at) + 1024 * owed p + n
 loose len n f at w Nothing rest = turnByState-has n f at w rest (λ (c : Cursor). measure len n c ≤ 2048 * (len - at) + 0 + n) (omega arith) (omega arith) (omega arith)
@@ -56,20 +58,20 @@ index-within n f h = go (ltb f n) refl
     go false e = h
 
 -- what every cursor of a next turn has
-record Kept (n k w : ℕ) (c : Cursor) : Type 0 where
+record InRange (n k w : ℕ) (c : Cursor) : Type 0 where
   pub count : c .count ≡ n
   pub index : c .index < n
   pub at : c .at ≡ k
   pub written : c .written ≡ w
 
-nextTurn-kept : (n f at w : ℕ) (p : Sent) (rest : List ℕ) → 0 < n → Kept n at w (nextTurn n f at w p rest)
-nextTurn-kept n f at w Nothing rest h =
-    turnByState-has n f at w rest (Kept n at w) (record { count = refl; index = h; at = refl; written = refl }) (record { count = refl; index = h; at = refl; written = refl })
+nextTurn-range : (n f at w : ℕ) (p : Sent) (rest : List ℕ) → 0 < n → InRange n at w (nextTurn n f at w p rest)
+nextTurn-range n f at w Nothing rest h =
+    turnByState-has n f at w rest (InRange n at w) (record { count = refl; index = h; at = refl; written = refl }) (record { count = refl; index = h; at = refl; written = refl })
     (record { count = refl; index = index-within n f h; at = refl; written = refl })
-nextTurn-kept n f at w (One b) rest h =
-    turnByState-has n f at w rest (Kept n at w) (record { count = refl; index = h; at = refl; written = refl }) (record { count = refl; index = h; at = refl; written = refl })
+nextTurn-range n f at w (One b) rest h =
+    turnByState-has n f at w rest (InRange n at w) (record { count = refl; index = h; at = refl; written = refl }) (record { count = refl; index = h; at = refl; written = refl })
     (record { count = refl; index = index-within n f h; at = refl; written = refl })
-nextTurn-kept n f at w (Header c k) rest h = record { count = refl; index = index-within n f h; at = refl; written = refl }
+nextTurn-range n f at w (Header c k) rest h = record { count = refl; index = index-within n f h; at = refl; written = refl }
 
 -- the cursor of a next turn is that of its own numbers
 abbrev pub again : Cursor → List ℕ → Cursor
@@ -110,17 +112,21 @@ high-far : (d : Device) (ss : List ℕ) (k : ℕ) → Far ss k (highTaken d ss k
 unfolding highTaken
 high-far d [] k = record { owes = omega arith; ends = omega arith }
 high-far d (s ∷ ss) k =
-    let next : Far ss (k + 1) (highTaken (step d s .device) ss (k + 1)) = high-far (step d s .device) ss (k + 1) in
-    by-test (ltb s 2) (stopped d k Nothing) (unlessSent (step d s .sent) (highTaken (step d s .device) ss (k + 1)) (stopped (step d s .device) (k + 1) (step d s .sent))) (Far (s ∷ ss) k)
-    (record { owes = omega arith; ends = omega arith })
-    (by-sent (step d s .sent) (highTaken (step d s .device) ss (k + 1)) (step d s .device) (k + 1) (Far (s ∷ ss) k)
+    let sent : Sent = step d s .sent in
+    let rest : Taken = highTaken (step d s .device) ss (k + 1) in
+    let next : Far ss (k + 1) rest = high-far (step d s .device) ss (k + 1) in
+    cond-both (Far (s ∷ ss) k) (ltb s 2) (stopped d k Nothing) (unlessSent sent rest (stopped (step d s .device) (k + 1) sent))
+    (λ _. record { owes = omega arith; ends = omega arith })
+    (λ _. by-sent sent rest (step d s .device) (k + 1) (Far (s ∷ ss) k)
     (record { owes = omega (arith, next .owes); ends = omega (arith, next .ends) }) (λ x. record { owes = omega (arith, owed-one x); ends = omega arith }))
 
 -- a high state is taken
 high-on : (d : Device) (s : ℕ) (ss : List ℕ) (k : ℕ) → ltb s 2 ≡ false → k + 1 ≤ highTaken d (s ∷ ss) k .at
 high-on d s ss k e =
+    let rest : Taken = highTaken (step d s .device) ss (k + 1) in
     subst (λ (t : Taken). k + 1 ≤ t .at) (sym (high-cons d s ss k e))
-    (by-sent (step d s .sent) (highTaken (step d s .device) ss (k + 1)) (step d s .device) (k + 1) (λ (t : Taken). k + 1 ≤ t .at) (omega (arith, high-far (step d s .device) ss (k + 1) .owes)) (λ x. omega arith))
+    (by-sent (step d s .sent) rest (step d s .device) (k + 1) (λ (t : Taken). k + 1 ≤ t .at)
+    (omega (arith, high-far (step d s .device) ss (k + 1) .owes)) (λ x. omega arith))
 
 -- and a low one
 low-on : (p : Phase) (s : ℕ) (ss : List ℕ) (k : ℕ) → ltb s 2 ≡ true → k + 1 ≤ phaseRun p (s ∷ ss) k .at
@@ -132,8 +138,11 @@ phaseRun-far d ss k = let a = phaseRun-along (phaseOf (d .place)) ss k in record
 front-far : (d : Device) (ss : List ℕ) (k : ℕ) → Far ss k (frontTaken d ss k)
 front-far d [] k = record { owes = omega arith; ends = omega arith }
 front-far d (s ∷ ss) k =
-    by-test (ltb s 2) (phaseTaken d (phaseRun (phaseOf (d .place)) (s ∷ ss) k)) (cond (passes d) (stopped d k (One 0)) (highTaken d (s ∷ ss) k)) (Far (s ∷ ss) k) (phaseRun-far d (s ∷ ss) k)
-    (by-test (passes d) (stopped d k (One 0)) (highTaken d (s ∷ ss) k) (Far (s ∷ ss) k) (record { owes = omega arith; ends = omega arith }) (high-far d (s ∷ ss) k))
+    let taken : Taken = highTaken d (s ∷ ss) k in
+    cond-both (Far (s ∷ ss) k) (ltb s 2) (phaseTaken d (phaseRun (phaseOf (d .place)) (s ∷ ss) k)) (cond (passes d) (stopped d k (One 0)) taken)
+    (λ _. phaseRun-far d (s ∷ ss) k)
+    (λ _. cond-both (Far (s ∷ ss) k) (passes d) (stopped d k (One 0)) taken (λ _. record { owes = omega arith; ends = omega arith })
+    (λ _. high-far d (s ∷ ss) k))
 
 device-far : (d : Device) (p : Sent) (ss : List ℕ) (k : ℕ) → Far ss k (deviceTaken d p ss k)
 device-far d Nothing ss k = front-far d ss k
@@ -156,8 +165,9 @@ pub record Good (n : ℕ) (ss : List ℕ) (room : ℕ) (r : Running) : Type 0 wh
 out-length : (c : Cursor) (ss os : List ℕ) → length (turnedOut c ss os) ≡ length os
 unfolding turnedOut
 out-length c ss os =
-    by-test (ltb (c .front) (c .count)) os (leaveRoom c ss os) (λ (xs : List ℕ). length xs ≡ length os) refl
-    (by-test (within c ss (length os)) (leaveOut c ss os) os (λ (xs : List ℕ). length xs ≡ length os) (length-put os (c .written) (leaving (c .pending) (drop (c .at) ss))) refl)
+    cond-both (λ (xs : List ℕ). length xs ≡ length os) (ltb (c .front) (c .count)) os (leaveRoom c ss os) (λ _. refl)
+    (λ _. cond-both (λ (xs : List ℕ). length xs ≡ length os) (within c ss (length os)) (leaveOut c ss os) os
+    (λ _. length-put os (c .written) (leaving (c .pending) (drop (c .at) ss))) (λ _. refl))
 
 putEnd-within : (room w k : ℕ) → putEnd room w k ≤ room
 putEnd-within room w k = go (leb (w + k) room) refl
@@ -176,7 +186,7 @@ record Fit (n : ℕ) (ss : List ℕ) (room : ℕ) (c : Cursor) : Type 0 where
 
 nextTurn-fit : (n f at w room : ℕ) (p : Sent) (ss : List ℕ) → 0 < n → at ≤ length ss → w ≤ room → Fit n ss room (nextTurn n f at w p (drop at ss))
 nextTurn-fit n f at w room p ss h a b =
-    let k : Kept n at w (nextTurn n f at w p (drop at ss)) = nextTurn-kept n f at w p (drop at ss) h in
+    let k : InRange n at w (nextTurn n f at w p (drop at ss)) = nextTurn-range n f at w p (drop at ss) h in
     record {
       count = k .count;
       index = k .index;
@@ -200,9 +210,9 @@ turnWithin d c ss room = cond (ltb (c .front) (c .count)) (deviceTurn d c ss) (l
 within-fit : (d : Device) (c : Cursor) (ss : List ℕ) (room : ℕ) → 0 < c .count → c .at ≤ length ss → c .written ≤ room → Fit (c .count) ss room (turnWithin d c ss room .cursor)
 within-fit d c ss room h a b =
     let t : Taken = deviceTaken d (c .pending) (drop (c .at) ss) (c .at) in
-    by-test (ltb (c .front) (c .count)) (deviceTurn d c ss) (leaveTurn d c ss room) (λ (u : Turned). Fit (c .count) ss room (u .cursor))
-    (nextTurn-fit (c .count) (frontAfter (c .front) (t .sent)) (t .at) (c .written) room (t .sent) ss h (device-at d (c .pending) ss (c .at) a) b)
-    (leave-fit (c .pending) c ss room h a b)
+    cond-both (λ (u : Turned). Fit (c .count) ss room (u .cursor)) (ltb (c .front) (c .count)) (deviceTurn d c ss) (leaveTurn d c ss room)
+    (λ _. nextTurn-fit (c .count) (frontAfter (c .front) (t .sent)) (t .at) (c .written) room (t .sent) ss h (device-at d (c .pending) ss (c .at) a) b)
+    (λ _. leave-fit (c .pending) c ss room h a b)
 
 -- a cursor within the states and the room
 within-is : (c : Cursor) (ss : List ℕ) (room : ℕ) → c .at ≤ length ss → c .written ≤ room → within c ss room ≡ true
@@ -231,9 +241,10 @@ pub turned-cursor : (d : Device) (c : Cursor) (ss : List ℕ) (room : ℕ) → c
 unfolding turned
 turned-cursor d c ss room = go (ltb (c .front) (c .count))
   where
-    go : (t : Bool)
-        → cond t
-        (cursorTo c (cond t (deviceTaken d (c .pending) (drop (c .at) ss) (c .at)) (stopped d (c .at) Nothing) .at) (cond t (deviceTaken d (c .pending) (drop (c .at) ss) (c .at)) (stopped d (c .at) Nothing) .sent) ss) (leaveAfter c ss room)
+    taken : Bool → Taken
+    taken t = cond t (deviceTaken d (c .pending) (drop (c .at) ss) (c .at)) (stopped d (c .at) Nothing)
+
+    go : (t : Bool) → cond t (cursorTo c (taken t .at) (taken t .sent) ss) (leaveAfter c ss room)
         ≡ cond t (deviceTurn d c ss) (record { device = d; cursor = leaveAfter c ss room }) .cursor
     go true = refl
     go false = refl
@@ -244,10 +255,13 @@ turned-fit d c ss room h a b =
 
 pub good-next : (n : ℕ) (ss : List ℕ) (room : ℕ) (r : Running) → 0 < n → Good n ss room r → Good n ss room (turning ss r)
 good-next n ss room r h g =
-    let f : Fit n ss room (turnAt (r .devices) (r .cursor) ss (r .out) .cursor) =
-    subst (λ (m : ℕ). Fit m ss room (turnAt (r .devices) (r .cursor) ss (r .out) .cursor)) (g .count)
-    (subst (λ (m : ℕ). Fit (r .cursor .count) ss m (turnAt (r .devices) (r .cursor) ss (r .out) .cursor)) (g .out)
-    (turned-fit (getD (r .devices) (r .cursor .index) blank) (r .cursor) ss (length (r .out)) (subst (λ (m : ℕ). 0 < m) (sym (g .count)) h) (g .at) (subst (λ (m : ℕ). r .cursor .written ≤ m) (sym (g .out)) (g .written)))) in
+    let c : Cursor = turnAt (r .devices) (r .cursor) ss (r .out) .cursor in
+    let some : 0 < r .cursor .count = subst (λ (m : ℕ). 0 < m) (sym (g .count)) h in
+    let w : r .cursor .written ≤ length (r .out) = subst (λ (m : ℕ). r .cursor .written ≤ m) (sym (g .out)) (g .written) in
+    let f : Fit n ss room c =
+    subst (λ (m : ℕ). Fit m ss room c) (g .count)
+    (subst (λ (m : ℕ). Fit (r .cursor .count) ss m c) (g .out)
+    (turned-fit (getD (r .devices) (r .cursor .index) blank) (r .cursor) ss (length (r .out)) some (g .at) w)) in
     record {
       devices = length-set (r .devices) (r .cursor .index) _ ∙ g .devices;
       out = out-length (r .cursor) ss (r .out) ∙ g .out;
@@ -271,13 +285,21 @@ Live (One b) [] = ⊥
 Live (One b) (s ∷ ss) = Unit {0}
 Live (Header c n) rest = Unit {0}
 
-lives : (n f i at w : ℕ) (p : Sent) (g : Bool) (rest : List ℕ) → cursor n f i at w p g ≡ nextTurn n f at w p rest → g ≡ true → Live p rest
+-- a cursor under which p is under way
+abbrev pub under : Sent → Cursor → Cursor
+under p c = cursor (c .count) (c .front) (c .index) (c .at) (c .written) p (c .going)
+
+-- it is that of its own next turn, the states ahead being `rest`
+abbrev pub IsNext : Sent → Cursor → List ℕ → Type 0
+IsNext p c rest = under p c ≡ nextTurn (c .count) (c .front) (c .at) (c .written) p rest
+
+lives : (p : Sent) (c : Cursor) (rest : List ℕ) → IsNext p c rest → c .going ≡ true → Live p rest
 unfolding Live
-lives n f i at w Nothing g [] e h = no-way (sym (ap (λ (c : Cursor). c .going) e) ∙ h)
-lives n f i at w Nothing g (s ∷ ss) e h = tt
-lives n f i at w (One b) g [] e h = no-way (sym (ap (λ (c : Cursor). c .going) e) ∙ h)
-lives n f i at w (One b) g (s ∷ ss) e h = tt
-lives n f i at w (Header c k) g rest e h = tt
+lives Nothing c [] e h = no-way (sym (ap (λ (x : Cursor). x .going) e) ∙ h)
+lives Nothing c (s ∷ ss) e h = tt
+lives (One b) c [] e h = no-way (sym (ap (λ (x : Cursor). x .going) e) ∙ h)
+lives (One b) c (s ∷ ss) e h = tt
+lives (Header k n) c rest e h = tt
 
 module _ (d : Device) (n f at w : ℕ) (ss : List ℕ) (far : at ≤ length ss) (few : n < 1024) where
   Nearer : ℕ → Taken → Type 0
@@ -294,8 +316,10 @@ module _ (d : Device) (n f at w : ℕ) (ss : List ℕ) (far : at ≤ length ss) 
   moves-on : (s : ℕ) (rest : List ℕ) → drop at ss ≡ s ∷ rest → ltb s 2 ≡ false → f < n → Nearer 0 (stopped d at (One 0))
   unfolding Nearer
   moves-on s rest e h l =
-      subst (λ (r : List ℕ). measure (length ss) n (turnByState n (f + 1) at w r) < 2048 * (length ss - at) + 1024 * 0 + (n - f)) (sym e)
-      (subst (λ (t : Bool). measure (length ss) n (cond t (cursor n 0 0 at w Nothing true) (cursor n (f + 1) (indexOf n (f + 1)) at w Nothing true)) < 2048 * (length ss - at) + 1024 * 0 + (n - f)) (sym h) (omega (arith, l)))
+      let before : ℕ = 2048 * (length ss - at) + 1024 * 0 + (n - f) in
+      subst (λ (r : List ℕ). measure (length ss) n (turnByState n (f + 1) at w r) < before) (sym e)
+      (subst (λ (t : Bool). measure (length ss) n (cond t (cursor n 0 0 at w Nothing true) (cursor n (f + 1) (indexOf n (f + 1)) at w Nothing true)) < before)
+      (sym h) (omega (arith, l)))
 
   some-left : (s : ℕ) (rest : List ℕ) → drop at ss ≡ s ∷ rest → at + 1 + length rest ≡ length ss
   some-left s rest e = omega (arith, far, sym (length-drop at ss) ∙ ap length e)
@@ -324,62 +348,74 @@ high-turns : (s : ℕ) (rest : List ℕ) → ltb s 2 ≡ false → 1 ≤ highCou
 unfolding highCount
 high-turns s rest h = subst (λ (t : Bool). 1 ≤ cond t 0 (highCount rest + 1)) (sym h) (omega arith)
 
-low-turnByState : (n f i at w : ℕ) (p : Sent) (g : Bool) (s : ℕ) (xs : List ℕ) → cursor n f i at w p g ≡ turnByState n f at w (s ∷ xs) → ltb s 2 ≡ true → f ≡ 0
-low-turnByState n f i at w p g s xs e h = ap (λ (c : Cursor). c .front) (e ∙ ap (λ (t : Bool). cond t (cursor n 0 0 at w Nothing true) (cursor n f (indexOf n f) at w Nothing true)) h)
+-- at a low state the front is the first device
+low-turnByState : (p : Sent) (c : Cursor) (s : ℕ) (xs : List ℕ) → under p c ≡ turnByState (c .count) (c .front) (c .at) (c .written) (s ∷ xs) → ltb s 2 ≡ true → c .front ≡ 0
+low-turnByState p c s xs e h =
+    ap (λ (x : Cursor). x .front)
+    (e ∙ ap (λ (t : Bool). cond t (cursor (c .count) 0 0 (c .at) (c .written) Nothing true)
+    (cursor (c .count) (c .front) (indexOf (c .count) (c .front)) (c .at) (c .written) Nothing true)) h)
 
 -- where all devices pass, a state that comes next is high
-leave-high : (n f i at w : ℕ) (g : Bool) (s : ℕ) (rest : List ℕ) → cursor n f i at w Nothing g ≡ turnByState n f at w (s ∷ rest) → 0 < n → n ≤ f → ltb s 2 ≡ false
-leave-high n f i at w g s rest e h l = go (ltb s 2) refl
+leave-high : (c : Cursor) (s : ℕ) (rest : List ℕ) → IsNext Nothing c (s ∷ rest) → 0 < c .count → c .count ≤ c .front → ltb s 2 ≡ false
+leave-high c s rest e h l = go (ltb s 2) refl
   where
     go : (t : Bool) → ltb s 2 ≡ t → t ≡ false
     go false q = refl
-    go true q =
-        let z : f ≡ 0 = ap (λ (c : Cursor). c .front) (e ∙ ap (λ (t : Bool). cond t (cursor n 0 0 at w Nothing true) (cursor n f (indexOf n f) at w Nothing true)) q) in
-        absurd (omega (arith, z, h, l))
+    go true q = absurd (omega (arith, low-turnByState Nothing c s rest e q, h, l))
 
-leave-nearer : (n f i at w : ℕ) (p : Sent) (g : Bool) (ss rest : List ℕ) (room : ℕ) → at ≤ length ss → 0 < n → n < 1024 → drop at ss ≡ rest → cursor n f i at w p g ≡ nextTurn n f at w p rest
-    → g ≡ true → n ≤ f
-    → measure (length ss) n (leaveCursor p (cursor n f i at w p g) ss room) < 2048 * (length ss - at) + 1024 * owed p + (n - f)
-leave-nearer n f i at w Nothing g ss [] room far h few e q v l = absurd (no-way (sym (ap (λ (c : Cursor). c .going) q) ∙ v))
-leave-nearer n f i at w Nothing g ss (s ∷ rest) room far h few e q v l =
-    let one : 1 ≤ highCount (drop at ss) = subst (λ (r : List ℕ). 1 ≤ highCount r) (sym e) (high-turns s rest (leave-high n f i at w g s rest q h l)) in
-    omega (arith, few, one, highCount-within ss at far, loose (length ss) n f (at + highCount (drop at ss)) (putEnd room w (highCount (drop at ss))) Nothing (drop (at + highCount (drop at ss)) ss))
-leave-nearer n f i at w (One b) g ss [] room far h few e q v l = absurd (no-way (sym (ap (λ (c : Cursor). c .going) q) ∙ v))
-leave-nearer n f i at w (One b) g ss (s ∷ rest) room far h few e q v l =
-    absurd (no-one (cursor n f i at w (One b) g) b refl (subst (λ (c : Cursor). c .pending ≡ Nothing) (sym q) (turnByState-has n f at w (s ∷ rest) (λ (c : Cursor). c .pending ≡ Nothing) refl refl refl)))
+leave-nearer : (p : Sent) (c : Cursor) (ss rest : List ℕ) (room : ℕ) → c .at ≤ length ss → 0 < c .count → c .count < 1024 → drop (c .at) ss ≡ rest
+    → IsNext p c rest → c .going ≡ true → c .count ≤ c .front
+    → measure (length ss) (c .count) (leaveCursor p (under p c) ss room) < measure (length ss) (c .count) (under p c)
+leave-nearer Nothing c ss [] room far h few e q v l = absurd (no-way (sym (ap (λ (x : Cursor). x .going) q) ∙ v))
+leave-nearer Nothing c ss (s ∷ rest) room far h few e q v l =
+    let many : ℕ = highCount (drop (c .at) ss) in
+    let one : 1 ≤ many = subst (λ (r : List ℕ). 1 ≤ highCount r) (sym e) (high-turns s rest (leave-high c s rest q h l)) in
+    omega (
+      arith,
+      few,
+      one,
+      highCount-within ss (c .at) far,
+      loose (length ss) (c .count) (c .front) (c .at + many) (putEnd room (c .written) many) Nothing (drop (c .at + many) ss),
+    )
+leave-nearer (One b) c ss [] room far h few e q v l = absurd (no-way (sym (ap (λ (x : Cursor). x .going) q) ∙ v))
+leave-nearer (One b) c ss (s ∷ rest) room far h few e q v l =
+    absurd (no-one (under (One b) c) b refl (subst (λ (x : Cursor). x .pending ≡ Nothing) (sym q)
+    (turnByState-has (c .count) (c .front) (c .at) (c .written) (s ∷ rest) (λ (x : Cursor). x .pending ≡ Nothing) refl refl refl)))
   where
-    no-one : (c : Cursor) (b : ℕ) → c .pending ≡ One b → c .pending ≡ Nothing → ⊥
-    no-one c b x y = let z : _≡_ {A = ℕ} 0 1 = cc in omega (arith, z)
-leave-nearer n f i at w (Header c k) g ss rest room far h few e q v l =
-    omega (arith, few, loose (length ss) n f at (putEnd room w 24) Nothing (drop at ss))
+    no-one : (x : Cursor) (b : ℕ) → x .pending ≡ One b → x .pending ≡ Nothing → ⊥
+    no-one x b y z = let w : _≡_ {A = ℕ} 0 1 = cc in omega (arith, w)
+leave-nearer (Header k n) c ss rest room far h few e q v l =
+    omega (arith, few, loose (length ss) (c .count) (c .front) (c .at) (putEnd room (c .written) 24) Nothing (drop (c .at) ss))
 
 -- a low state next, and no header under way: the front is the first device
-pub low-front : (n f i at w : ℕ) (p : Sent) (g : Bool) (s : ℕ) (xs : List ℕ) → cursor n f i at w p g ≡ nextTurn n f at w p (s ∷ xs) → owed p ≡ 0 → ltb s 2 ≡ true → f ≡ 0
-low-front n f i at w Nothing g s xs e k h = low-turnByState n f i at w Nothing g s xs e h
-low-front n f i at w (One b) g s xs e k h = low-turnByState n f i at w (One b) g s xs e h
-low-front n f i at w (Header c m) g s xs e k h = absurd (omega (arith, k))
+pub low-front : (p : Sent) (c : Cursor) (s : ℕ) (xs : List ℕ) → IsNext p c (s ∷ xs) → owed p ≡ 0 → ltb s 2 ≡ true → c .front ≡ 0
+low-front Nothing c s xs e k h = low-turnByState Nothing c s xs e h
+low-front (One b) c s xs e k h = low-turnByState (One b) c s xs e h
+low-front (Header n m) c s xs e k h = absurd (omega (arith, k))
 
-turned-nearer : (d : Device) (n f i at w : ℕ) (p : Sent) (g : Bool) (ss : List ℕ) (room : ℕ) → at ≤ length ss → 0 < n → n < 1024 → cursor n f i at w p g ≡ nextTurn n f at w p (drop at ss) → g ≡ true
-    → measure (length ss) n (turnWithin d (cursor n f i at w p g) ss room .cursor) < measure (length ss) n (cursor n f i at w p g)
+turned-nearer : (d : Device) (c : Cursor) (ss : List ℕ) (room : ℕ) → c .at ≤ length ss → 0 < c .count → c .count < 1024
+    → IsNext (c .pending) c (drop (c .at) ss) → c .going ≡ true
+    → measure (length ss) (c .count) (turnWithin d c ss room .cursor) < measure (length ss) (c .count) c
 unfolding Nearer
-turned-nearer d n f i at w p g ss room far h few q v = go (ltb f n) refl
+turned-nearer d c ss room far h few q v = go (ltb (c .front) (c .count)) refl
   where
-    go : (t : Bool) → ltb f n ≡ t
-        → measure (length ss) n (cond t (deviceTurn d (cursor n f i at w p g) ss) (leaveTurn d (cursor n f i at w p g) ss room) .cursor) < measure (length ss) n (cursor n f i at w p g)
+    go : (t : Bool) → ltb (c .front) (c .count) ≡ t
+        → measure (length ss) (c .count) (cond t (deviceTurn d c ss) (leaveTurn d c ss room) .cursor) < measure (length ss) (c .count) c
     go true e =
-        device-nearer d n f at w ss far few p (drop at ss) refl (lives n f i at w p g (drop at ss) q v) (ltb-true f n e)
-    go false e = leave-nearer n f i at w p g ss (drop at ss) room far h few refl q v (ltb-false f n e)
+        device-nearer d (c .count) (c .front) (c .at) (c .written) ss far few (c .pending) (drop (c .at) ss) refl
+        (lives (c .pending) c (drop (c .at) ss) q v) (ltb-true (c .front) (c .count) e)
+    go false e = leave-nearer (c .pending) c ss (drop (c .at) ss) room far h few refl q v (ltb-false (c .front) (c .count) e)
 
 pub nearer-next : (n : ℕ) (ss : List ℕ) (room : ℕ) (r : Running) → 0 < n → n < 1024 → Good n ss room r → r .cursor .going ≡ true
     → measure (length ss) n (turning ss r .cursor) < measure (length ss) n (r .cursor)
 nearer-next n ss room r h few good v =
     let c : Cursor = r .cursor in
-    let w : r .cursor .written ≤ length (r .out) = subst (λ (m : ℕ). r .cursor .written ≤ m) (sym (good .out)) (good .written) in
-    subst (λ (t : Turned). measure (length ss) n (t .cursor) < measure (length ss) n (r .cursor))
-    (sym (turned-is (getD (r .devices) (r .cursor .index) blank) (r .cursor) ss (length (r .out)) (good .at) w))
-    (subst (λ (m : ℕ). measure (length ss) m (turnWithin (getD (r .devices) (r .cursor .index) blank) (r .cursor) ss (length (r .out)) .cursor) < measure (length ss) m (r .cursor)) (good .count)
-    (turned-nearer (getD (r .devices) (r .cursor .index) blank) (r .cursor .count) (r .cursor .front) (r .cursor .index) (r .cursor .at) (r .cursor .written) (r .cursor .pending) (r .cursor .going) ss (length (r .out)) (good .at)
-    (subst (λ (m : ℕ). 0 < m) (sym (good .count)) h) (subst (λ (m : ℕ). m < 1024) (sym (good .count)) few) (good .next) v))
+    let d : Device = getD (r .devices) (c .index) blank in
+    let w : c .written ≤ length (r .out) = subst (λ (m : ℕ). r .cursor .written ≤ m) (sym (good .out)) (good .written) in
+    subst (λ (t : Turned). measure (length ss) n (t .cursor) < measure (length ss) n (r .cursor)) (sym (turned-is d c ss (length (r .out)) (good .at) w))
+    (subst (λ (m : ℕ). measure (length ss) m (turnWithin d (r .cursor) ss (length (r .out)) .cursor) < measure (length ss) m (r .cursor)) (good .count)
+    (turned-nearer d c ss (length (r .out)) (good .at) (subst (λ (m : ℕ). 0 < m) (sym (good .count)) h)
+    (subst (λ (m : ℕ). m < 1024) (sym (good .count)) few) (good .next) v))
 
 pub turns-on : (t : ℕ) (ss : List ℕ) (r : Running) → r .cursor .going ≡ true → turns (suc t) ss r ≡ turns t ss (turning ss r)
 unfolding turns

@@ -10,10 +10,12 @@ use Rattle.bits.specs.Bits.{over}
 use Rattle.device.specs.declared.device.Device.{Device}
 use Rattle.calls.specs.Chain.{through}
 use Rattle.calls.specs.Calls.{runRefusal, runAfter, runRoom}
-use Rattle.turns.specs.declared.entry.Ran.{Ran}
-use Rattle.turns.specs.Front.{Running, nowAt, turning, turns, beginRun, halted, started, enough, frontRun}
-use Rattle.turns.specs.Answer.{ran, runAnswer}
-use Rattle.turns.specs.Entry.{entryUnder, runUnder, runEnd}
+use Rattle.cursor.specs.declared.entry.Ran.{Ran}
+use Rattle.cursor.specs.Cursor.{beginRun, halted}
+use Rattle.turns.specs.Front.{Running, nowAt, turning, turns, started, enough, frontRun}
+use Rattle.cursor.specs.Answer.{ran, runAnswer}
+use Rattle.cursor.specs.Entry.{entryUnder}
+use Rattle.turns.specs.Ending.{runUnder, runEnd}
 use Rattle.turns.proofs.LeavingStates.{put-over, put-end-all}
 use Rattle.turns.proofs.Turns.{no-way, Good, measure, good-start, good-next, nearer-next, turns-on, turns-stop, near-start}
 use Rattle.turns.proofs.Same.{all-neat, front-run-same}

@@ -18,7 +18,8 @@ use Rattle.device.specs.declared.device.Device.{Device}
 use Rattle.intake.specs.Intake.{stopped, highTaken}
 use Rattle.intake.specs.declared.taken.Taken.{Taken}
 use Rattle.calls.specs.Chain.{blank}
-use Rattle.turns.specs.declared.cursor.Cursor.{Cursor}
+use Rattle.cursor.specs.declared.cursor.Cursor.{Cursor}
+use Rattle.cursor.specs.Cursor.{nextTurn, halted, beginRun}
 use Rattle.turns.specs.declared.front.PhaseRun.{PhaseRun}
 
 -- ---- one device
@@ -91,39 +92,11 @@ lowTaken d (Header c n) ss i = stopped d i Nothing
 lowTaken d Nothing ss i = phaseTaken d (phaseRun (phaseOf (d .place)) ss i)
 lowTaken d (One s) ss i = phaseTaken d (phaseRun (phaseOf (d .place)) ss i)
 
--- ---- the cursor
-
--- the device of the next turn; where all pass, the first one, which then stays as it is
-abbrev pub indexOf : ℕ → ℕ → ℕ
-indexOf count front = cond (ltb front count) front 0
-
--- a cursor by its numbers
-abbrev pub cursor : ℕ → ℕ → ℕ → ℕ → ℕ → Sent → Bool → Cursor
-cursor count front index at written pending going =
-    record { count = count; front = front; index = index; at = at; written = written; pending = pending; going = going }
-
--- no header is under way: the next state says whose turn it is, and a low one is the first device's
-abbrev pub turnByState : ℕ → ℕ → ℕ → ℕ → List ℕ → Cursor
-turnByState count front at written [] = cursor count front 0 at written Nothing false
-turnByState count front at written (s ∷ ss) =
-    cond (ltb s 2) (cursor count 0 0 at written Nothing true)
-    (cursor count front (indexOf count front) at written Nothing true)
-
--- by the header under way, or by the next state
-abbrev pub nextTurn : ℕ → ℕ → ℕ → ℕ → Sent → List ℕ → Cursor
-nextTurn count front at written (Header c n) ss = cursor count front (indexOf count front) at written (Header c n) true
-nextTurn count front at written Nothing ss = turnByState count front at written ss
-nextTurn count front at written (One s) ss = turnByState count front at written ss
-
 -- a device that sent, or passes, is no longer the front
 abbrev pub frontAfter : ℕ → Sent → ℕ
 frontAfter front Nothing = front
 frontAfter front (One s) = front + 1
 frontAfter front (Header c n) = front + 1
-
--- a cursor at its end
-abbrev pub halted : Cursor
-halted = cursor 0 0 0 0 0 Nothing false
 
 -- ---- what is returned
 
@@ -213,10 +186,6 @@ unfoldable pub turnedOut : Cursor → List ℕ → List ℕ → List ℕ
 turnedOut c ss os = cond (ltb (c .front) (c .count)) os (leaveRoom c ss os)
 
 -- ---- turn after turn
-
--- where an accepted run begins
-abbrev pub beginRun : ℕ → List ℕ → Cursor
-beginRun count ss = turnByState count 0 0 0 ss
 
 -- a run in progress: records, cursor, room
 pub record Running : Type 0 where

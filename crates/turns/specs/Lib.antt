@@ -1,4 +1,3 @@
--- What the covered functions under a run of a lent chain answer: what the run answers, its turns, and where it begins.
-pub mod Answer
+-- What the covered functions under a run of a lent chain answer: its turns, and how it ends.
 pub mod Front
-pub mod Entry
+pub mod Ending

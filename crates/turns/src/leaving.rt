@@ -4,8 +4,9 @@ ghost use Prim.Native.Nat.{_<_, _≤_, _+_, _/_, _%_};
 ghost use lib.ListN.{length, drop, take};
 ghost use Rattle.parts.specs.Wire.{header, statesOf};
 ghost use Rattle.phases.specs.declared.phase.Sent.the-variants.{Nothing};
-ghost use Rattle.turns.specs.Front.{putAll, putEnd, highCount, nextTurn, passedTo, leaveCursor, leaveOut};
-use crate::cursor::Cursor;
+ghost use Rattle.cursor.specs.Cursor.{nextTurn};
+ghost use Rattle.turns.specs.Front.{putAll, putEnd, highCount, passedTo, leaveCursor, leaveOut};
+use cursor::Cursor;
 use parts::Command;
 use phases::Sent;
 
@@ -35,7 +36,7 @@ fn leave_header(
     let h = header_states(command, count);
     let from = cursor.written;
     let w = append(returned, from, &h);
-    crate::cursor::next_turn(
+    cursor::next_turn(
         cursor.count,
         cursor.front,
         cursor.at,
@@ -54,7 +55,7 @@ fn leave_states(cursor: Cursor, states: &[u8], returned: &mut [u8]) -> Cursor
     let from = cursor.written;
     let end = intake::highs_end(states, at);
     let w = append(returned, from, &states[at..end]);
-    crate::cursor::next_turn(cursor.count, cursor.front, end, w, Sent::Nothing, states)
+    cursor::next_turn(cursor.count, cursor.front, end, w, Sent::Nothing, states)
 }
 
 // States are written from a place on, as many as there is room for.

@@ -2,8 +2,9 @@
 // so that a record is moved once in and once out.
 ghost use mathlib.Core.Path.{_≡_};
 ghost use lib.ListN.{length};
-ghost use Rattle.turns.specs.Front.{turnTaken, cursorAfter, turnedOut};
-use crate::cursor::Cursor;
+ghost use Prim.Native.Nat.{_<_, _+_, _^_};
+ghost use Rattle.turns.specs.Front.{frontAfter, turnTaken, cursorAfter, turnedOut};
+use cursor::Cursor;
 use device::Device;
 use intake::Taken;
 use phases::Sent;
@@ -35,14 +36,25 @@ pub fn turn_after(
     ensures { λ r. ⌜ (r ≡ cursorAfter cursor at sent (now (states .entry)) (length (now (returned .entry)))) × (now (returned .exit) ≡ turnedOut cursor (now (states .entry)) (now (returned .entry))) ⌝ }
 {
     if cursor.front < cursor.count {
-        let front = crate::cursor::front_after(cursor.front, sent);
-        return crate::cursor::next_turn(cursor.count, front, at, cursor.written, sent, states);
+        let front = front_after(cursor.front, sent);
+        return cursor::next_turn(cursor.count, front, at, cursor.written, sent, states);
     }
     if cursor.at > states.len() {
-        return crate::cursor::halt();
+        return cursor::halt();
     }
     if cursor.written > returned.len() {
-        return crate::cursor::halt();
+        return cursor::halt();
     }
     crate::leaving::leave(cursor, states, returned)
+}
+
+// A device that sent, or passes, is no longer the front.
+fn front_after(front: usize, sent: Sent) -> usize
+    requires { ⌜ front + 1 < 2 ^ 64 ⌝ }
+    ensures { λ r. ⌜ r ≡ frontAfter front sent ⌝ }
+{
+    match sent {
+        Sent::Nothing => front,
+        _ => front + 1,
+    }
 }

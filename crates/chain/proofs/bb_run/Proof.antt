@@ -16,22 +16,23 @@ use Rattle.device.specs.declared.device.Device.{Device}
 use Rattle.device.proofs.device.Device.Laws.{mir as dev}
 use Rattle.calls.specs.Chain.{blank}
 use Rattle.calls.specs.Calls.{runRefusal}
-use Rattle.turns.specs.declared.cursor.Cursor.{Cursor}
-use Rattle.turns.specs.declared.entry.Entry.{Entry}
-use Rattle.turns.specs.declared.entry.Ran.{Ran}
+use Rattle.cursor.specs.declared.cursor.Cursor.{Cursor}
+use Rattle.cursor.specs.declared.entry.Entry.{Entry}
+use Rattle.cursor.specs.declared.entry.Ran.{Ran}
 use Rattle.calls.specs.declared.judging.Judged.{Judged}
 use Rattle.phases.specs.declared.phase.Sent.{Sent}
 use Rattle.intake.specs.declared.taken.Taken.{Taken}
 use Rattle.turns.specs.Front.{Running, nowAt, turnTaken, cursorAfter, turned, turnedOut, turning, enough}
 use Rattle.calls.specs.Judging.{runRows}
-use Rattle.turns.specs.Answer.{ran}
-use Rattle.turns.specs.Entry.{entryUnder, runEnd}
-use Rattle.turns.proofs.cursor.Cursor as C
-use Rattle.turns.proofs.cursor.Cursor.Laws as C′
-use Rattle.turns.proofs.entry.Entry as B
-use Rattle.turns.proofs.entry.Entry.Laws as B′
-use Rattle.turns.proofs.entry.Ran as R
-use Rattle.turns.proofs.entry.Ran.Laws as R′
+use Rattle.cursor.specs.Answer.{ran}
+use Rattle.cursor.specs.Entry.{entryUnder}
+use Rattle.turns.specs.Ending.{runEnd}
+use Rattle.cursor.proofs.cursor.Cursor as C
+use Rattle.cursor.proofs.cursor.Cursor.Laws as C′
+use Rattle.cursor.proofs.entry.Entry as B
+use Rattle.cursor.proofs.entry.Entry.Laws as B′
+use Rattle.cursor.proofs.entry.Ran as R
+use Rattle.cursor.proofs.entry.Ran.Laws as R′
 use Rattle.calls.proofs.judging.Judged as J
 use Rattle.calls.proofs.judging.Judged.Laws as J′
 use Rattle.intake.proofs.taken.Taken as S
@@ -49,10 +50,10 @@ use Rattle.calls.proofs.judge as judge
 use Rattle.calls.proofs.judge.Symbol as judge-def
 use Rattle.calls.proofs.judge.Symbol.{name as #judge}
 use Rattle.calls.proofs.judge.Met as judge-thm
-use Rattle.turns.proofs.enter as opening
-use Rattle.turns.proofs.enter.Symbol as opening-def
-use Rattle.turns.proofs.enter.Symbol.{name as #opening}
-use Rattle.turns.proofs.enter.Met as opening-thm
+use Rattle.cursor.proofs.enter as opening
+use Rattle.cursor.proofs.enter.Symbol as opening-def
+use Rattle.cursor.proofs.enter.Symbol.{name as #opening}
+use Rattle.cursor.proofs.enter.Met as opening-thm
 use Rattle.turns.proofs.take_turn as take
 use Rattle.turns.proofs.take_turn.Symbol as take-def
 use Rattle.turns.proofs.take_turn.Symbol.{name as #take}
@@ -61,10 +62,10 @@ use Rattle.turns.proofs.turn_after as after
 use Rattle.turns.proofs.turn_after.Symbol as after-def
 use Rattle.turns.proofs.turn_after.Symbol.{name as #after}
 use Rattle.turns.proofs.turn_after.Met as after-thm
-use Rattle.turns.proofs.answer as answer
-use Rattle.turns.proofs.answer.Symbol as answer-def
-use Rattle.turns.proofs.answer.Symbol.{name as #answer}
-use Rattle.turns.proofs.answer.Met as answer-thm
+use Rattle.cursor.proofs.answer as answer
+use Rattle.cursor.proofs.answer.Symbol as answer-def
+use Rattle.cursor.proofs.answer.Symbol.{name as #answer}
+use Rattle.cursor.proofs.answer.Met as answer-thm
 use Rattle.chain.proofs.bb_run.Key.{name as #bb-run}
 use Rattle.chain.proofs.bb_run as bb-run
 use Rattle.chain.proofs.bb_run.Statement as stated

@@ -12,10 +12,10 @@ use denote.Builtin.{ArrayOf}
 use denote.Struct.Laws as LL
 use Rattle.device.specs.declared.device.Device.{Device}
 use Rattle.calls.specs.Calls.{runAfter, runRoom}
-use Rattle.turns.specs.declared.entry.Ran.{Ran}
-use Rattle.turns.specs.Answer.{runAnswer}
-use Rattle.turns.proofs.entry.Ran as R
-use Rattle.turns.proofs.entry.Ran.Laws as R′
+use Rattle.cursor.specs.declared.entry.Ran.{Ran}
+use Rattle.cursor.specs.Answer.{runAnswer}
+use Rattle.cursor.proofs.entry.Ran as R
+use Rattle.cursor.proofs.entry.Ran.Laws as R′
 use Rattle.calls.proofs.Dev.{D, vals, tells, made, lawful}
 use Rattle.calls.proofs.Lent.{ref, sl, lends, returned, apart, whole-again, calls-val, free-all, closes}
 use Rattle.chain.proofs.bb_run as callee

@@ -27,7 +27,10 @@ returns : tie.Need-returns Inv-loop μ-loop
 returns c =
     let t = c .before .before .before .before in
     let l = t .loop in
-    sym (l .inv ∙ phaseRun-stop (l .p) (t .before .before .args .states .now) (l .i) (l .i) (c .before .before .before .loop-test .taken) (sym (c .before .is-phase-only .ensures) ∙ not-true _ (c .if1 .taken)))
+    sym
+    (l .inv
+    ∙ phaseRun-stop (l .p) (t .before .before .args .states .now) (l .i) (l .i) (c .before .before .before .loop-test .taken)
+    (sym (c .before .is-phase-only .ensures) ∙ not-true _ (c .if1 .taken)))
 
 step-phase-requires : tie.Need-step-phase-requires Inv-loop μ-loop
 step-phase-requires c κs = search needs

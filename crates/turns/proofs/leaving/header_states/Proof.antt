@@ -46,7 +46,34 @@ high-bit-requires-12 : tie.Need-high-bit-requires-12
 high-bit-requires-12 c κs = search needs
 
 returns : tie.Need-returns
-returns c = rw (c .high-bit12 .ensures, c .before .high-bit11 .ensures, c .before .before .high-bit10 .ensures, c .before .before .before .high-bit9 .ensures, c .before .before .before .before .high-bit8 .ensures, c .before .before .before .before .before .high-bit7 .ensures, c .before .before .before .before .before .before .high-bit6 .ensures, c .before .before .before .before .before .before .before .high-bit5 .ensures, c .before .before .before .before .before .before .before .before .high-bit4 .ensures, c .before .before .before .before .before .before .before .before .before .high-bit3 .ensures, c .before .before .before .before .before .before .before .before .before .before .high-bit2 .ensures, c .before .before .before .before .before .before .before .before .before .before .before .high-bit .ensures, c .before .before .before .before .before .before .before .before .before .before .before .before .number-of .ensures) (header-is _ _)
+returns c =
+    let c11 = c .before in
+    let c10 = c11 .before in
+    let c9 = c10 .before in
+    let c8 = c9 .before in
+    let c7 = c8 .before in
+    let c6 = c7 .before in
+    let c5 = c6 .before in
+    let c4 = c5 .before in
+    let c3 = c4 .before in
+    let c2 = c3 .before in
+    let c1 = c2 .before in
+    rw (
+      c .high-bit12 .ensures,
+      c11 .high-bit11 .ensures,
+      c10 .high-bit10 .ensures,
+      c9 .high-bit9 .ensures,
+      c8 .high-bit8 .ensures,
+      c7 .high-bit7 .ensures,
+      c6 .high-bit6 .ensures,
+      c5 .high-bit5 .ensures,
+      c4 .high-bit4 .ensures,
+      c3 .high-bit3 .ensures,
+      c2 .high-bit2 .ensures,
+      c1 .high-bit .ensures,
+      c1 .before .number-of .ensures,
+    )
+    (header-is _ _)
 
 pub header-states-spec : {M : Type 1} → statement M
 header-states-spec =

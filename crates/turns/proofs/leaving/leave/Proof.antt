@@ -3,7 +3,7 @@ use mathlib.Core.List.{List}
 use Prim.Native.Nat.{ℕ}
 use lib.ListN.{length, drop}
 use Rattle.turns.specs.Front.{putAll}
-use Rattle.turns.proofs.Cases.{lineCursor-none, leaving-none}
+use Rattle.turns.proofs.Cases.{leaveCursor-none, leaving-none}
 use borrow.Author.Needs.{needs}
 use Rattle.turns.proofs.leaving.leave.Statement.{statement}
 use Rattle.turns.proofs.leaving.leave.Tie as tie
@@ -34,7 +34,7 @@ returns-2 c =
     let l = c .before .before .leave-states .ensures in
     let m = c .before .before .before .before in
     let a = m .before .before .before .args in (
-      l .0 ∙ lineCursor-none (a .cursor .pending) (a .cursor) (a .states .now) (length (a .returned .now)) (m .match .keys2),
+      l .0 ∙ leaveCursor-none (a .cursor .pending) (a .cursor) (a .states .now) (length (a .returned .now)) (m .match .keys2),
       l .1 ∙ ap (λ (xs : List ℕ). putAll (a .returned .now) (a .cursor .written) xs) (leaving-none (a .cursor .pending) (drop (a .cursor .at) (a .states .now)) (m .match .keys2)),
     )
 

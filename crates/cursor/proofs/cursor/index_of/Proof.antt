@@ -1,6 +1,6 @@
 use borrow.Author.Tests.{lt-ltb, le-ltb}
-use Rattle.turns.proofs.cursor.index_of.Statement.{statement}
-use Rattle.turns.proofs.cursor.index_of.Tie as tie
+use Rattle.cursor.proofs.cursor.index_of.Statement.{statement}
+use Rattle.cursor.proofs.cursor.index_of.Tie as tie
 
 returns : tie.Need-returns
 returns c = rw (lt-ltb _ _ (c .if1 .taken))

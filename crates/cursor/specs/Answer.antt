@@ -6,7 +6,7 @@ use lib.Dec.{eqb}
 use lib.ListN.{length}
 use Rattle.device.specs.declared.device.Device.{Device}
 use Rattle.calls.specs.Calls.{runRefusal, returned}
-use Rattle.turns.specs.declared.entry.Ran.{Ran}
+use Rattle.cursor.specs.declared.entry.Ran.{Ran}
 
 -- how many states were returned, or the refusal
 abbrev pub ran : ℕ → ℕ → Ran

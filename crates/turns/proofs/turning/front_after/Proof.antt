@@ -1,7 +1,7 @@
 use Rattle.turns.proofs.Cases.{frontAfter-sent}
 use borrow.Author.Needs.{needs}
-use Rattle.turns.proofs.cursor.front_after.Statement.{statement}
-use Rattle.turns.proofs.cursor.front_after.Tie as tie
+use Rattle.turns.proofs.turning.front_after.Statement.{statement}
+use Rattle.turns.proofs.turning.front_after.Tie as tie
 
 enum-told : tie.Need-enum-told
 enum-told c = search needs

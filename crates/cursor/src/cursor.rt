@@ -1,8 +1,7 @@
 // Where a run stands, and whose turn is next.
 ghost use mathlib.Core.Path.{_≡_};
 ghost use lib.ListN.{drop};
-ghost use Prim.Native.Nat.{_<_, _+_, _^_};
-ghost use Rattle.turns.specs.Front.{indexOf, turnByState, nextTurn, frontAfter, halted};
+ghost use Rattle.cursor.specs.Cursor.{indexOf, turnByState, nextTurn, halted};
 use phases::Sent;
 
 pub struct Cursor {
@@ -104,15 +103,4 @@ fn index_of(count: usize, front: usize) -> usize
     ensures { λ r. ⌜ r ≡ indexOf count front ⌝ }
 {
     if front < count { front } else { 0 }
-}
-
-// A device that sent, or passes, is no longer the front.
-pub fn front_after(front: usize, sent: Sent) -> usize
-    requires { ⌜ front + 1 < 2 ^ 64 ⌝ }
-    ensures { λ r. ⌜ r ≡ frontAfter front sent ⌝ }
-{
-    match sent {
-        Sent::Nothing => front,
-        _ => front + 1,
-    }
 }

@@ -2,8 +2,8 @@
 ghost use mathlib.Core.Path.{_≡_};
 ghost use Rattle.tables.specs.Refusals.{first};
 ghost use Rattle.calls.specs.Judging.{runRows};
-ghost use Rattle.turns.specs.Answer.{ran};
-ghost use Rattle.turns.specs.Entry.{entryUnder};
+ghost use Rattle.cursor.specs.Answer.{ran};
+ghost use Rattle.cursor.specs.Entry.{entryUnder};
 use crate::cursor::Cursor;
 use calls::Judged;
 

@@ -1,9 +1,9 @@
 use mathlib.Core.Path.{_∙_}
 use lib.ListN.{drop}
-use Rattle.turns.proofs.Cases.{nextTurn-none}
+use Rattle.cursor.proofs.Cases.{nextTurn-none}
 use borrow.Author.Needs.{needs}
-use Rattle.turns.proofs.cursor.next_turn.Statement.{statement}
-use Rattle.turns.proofs.cursor.next_turn.Tie as tie
+use Rattle.cursor.proofs.cursor.next_turn.Statement.{statement}
+use Rattle.cursor.proofs.cursor.next_turn.Tie as tie
 
 enum-told : tie.Need-enum-told
 enum-told c = search needs

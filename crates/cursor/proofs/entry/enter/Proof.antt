@@ -1,6 +1,6 @@
 use borrow.Author.Needs.{needs}
-use Rattle.turns.proofs.entry.enter.Statement.{statement}
-use Rattle.turns.proofs.entry.enter.Tie as tie
+use Rattle.cursor.proofs.entry.enter.Statement.{statement}
+use Rattle.cursor.proofs.entry.enter.Tie as tie
 
 run-refusal-requires : tie.Need-run-refusal-requires
 run-refusal-requires c κs = search needs

@@ -1,9 +1,10 @@
 use borrow.Author.Tests.{lt-ltb, le-ltb}
-use Rattle.intake.proofs.Clauses.{drop-on}
 use lib.ListN.{drop-of-length-le}
+use lib.Seq.{drop-cons}
+use Prim.Native.Nat.{ℕ}
 use borrow.Author.Needs.{needs}
-use Rattle.turns.proofs.cursor.turn_by_state.Statement.{statement}
-use Rattle.turns.proofs.cursor.turn_by_state.Tie as tie
+use Rattle.cursor.proofs.cursor.turn_by_state.Statement.{statement}
+use Rattle.cursor.proofs.cursor.turn_by_state.Tie as tie
 
 shared-slice-read-if2 : tie.Need-shared-slice-read-if2
 shared-slice-read-if2 c = search needs
@@ -12,10 +13,10 @@ index-of-requires : tie.Need-index-of-requires
 index-of-requires c κs = search needs
 
 returns : tie.Need-returns
-returns c = rw (drop-on _ _ (c .before .before .if1 .taken), lt-ltb _ _ (c .if2 .taken))
+returns c = rw (drop-cons {A = ℕ} _ _ 0 (c .before .before .if1 .taken), lt-ltb _ _ (c .if2 .taken))
 
 returns-2 : tie.Need-returns-2
-returns-2 c = rw (drop-on _ _ (c .before .before .before .if1 .taken), le-ltb _ _ (c .before .if2 .left), c .index-of .ensures)
+returns-2 c = rw (drop-cons {A = ℕ} _ _ 0 (c .before .before .before .if1 .taken), le-ltb _ _ (c .before .if2 .left), c .index-of .ensures)
 
 returns-3 : tie.Need-returns-3
 returns-3 c = rw (drop-of-length-le _ (c .if1 .left))

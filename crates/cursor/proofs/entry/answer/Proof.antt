@@ -1,6 +1,6 @@
 use borrow.Author.Tests.{eq-eqb, ne-eqb}
-use Rattle.turns.proofs.entry.answer.Statement.{statement}
-use Rattle.turns.proofs.entry.answer.Tie as tie
+use Rattle.cursor.proofs.entry.answer.Statement.{statement}
+use Rattle.cursor.proofs.entry.answer.Tie as tie
 
 returns : tie.Need-returns
 returns c = rw (ne-eqb _ _ (c .if1 .taken))

@@ -1,7 +1,7 @@
 use borrow.Author.Tests.{eq-eqb, ne-eqb}
 use borrow.Author.Needs.{needs}
-use Rattle.turns.proofs.entry.enter_under.Statement.{statement}
-use Rattle.turns.proofs.entry.enter_under.Tie as tie
+use Rattle.cursor.proofs.entry.enter_under.Statement.{statement}
+use Rattle.cursor.proofs.entry.enter_under.Tie as tie
 
 turn-by-state-requires : tie.Need-turn-by-state-requires
 turn-by-state-requires c κs = search needs

@@ -1,0 +1,2 @@
+-- The cases that a match leaves.
+pub mod Cases

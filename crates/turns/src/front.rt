@@ -96,13 +96,7 @@ fn run_phase(phase: Phase, states: &[u8], at: usize) -> PhaseRun
 fn is_phase_only(phase: Phase, state: u8) -> bool
     ensures { λ r. ⌜ r ≡ phaseOnly phase state ⌝ }
 {
-    if state < 2 {
-        return true;
-    }
-    if phases::in_header(phase) {
-        return true;
-    }
-    is_lost(phase)
+    state < 2 || (phases::in_header(phase) || is_lost(phase))
 }
 
 fn step_phase(phase: Phase, state: u8) -> Phase

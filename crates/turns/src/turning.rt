@@ -39,10 +39,7 @@ pub fn turn_after(
         let front = front_after(cursor.front, sent);
         return cursor::next_turn(cursor.count, front, at, cursor.written, sent, states);
     }
-    if cursor.at > states.len() {
-        return cursor::halt();
-    }
-    if cursor.written > returned.len() {
+    if cursor.at > states.len() || cursor.written > returned.len() {
         return cursor::halt();
     }
     crate::leaving::leave(cursor, states, returned)

@@ -1,6 +1,8 @@
-use borrow.Author.Tests.{lt-ltb, le-ltb, le-leb, lt-leb}
+use borrow.Author.Tests.{lt-ltb, le-ltb, le-leb, lt-leb, ltb-true, ltb-false}
+use Rattle.tables.proofs.Tests.{by-way}
 use Rattle.turns.specs.Front.{turnedOut}
 use borrow.Author.Needs.{needs}
+use lib.ListN.{length}
 use Rattle.turns.proofs.turning.turn_after.Statement.{statement}
 use Rattle.turns.proofs.turning.turn_after.Tie as tie
 
@@ -20,21 +22,16 @@ halt-requires c κs = search needs
 returns-2 : tie.Need-returns-2
 unfolding turnedOut
 returns-2 c =
+    let x = c .before .before .before .before .before .before .before .args in
     let f = le-ltb _ _ (c .before .before .before .if1 .left) in
-    let a = lt-leb _ _ (c .before .if2 .taken) in
-    (rw (c .halt .ensures, f, a), rw (f, a))
-
-halt-requires-2 : tie.Need-halt-requires-2
-halt-requires-2 c κs = search needs
-
-returns-3 : tie.Need-returns-3
-unfolding turnedOut
-returns-3 c =
-    let s = c .before .before .before in
-    let f = le-ltb _ _ (s .before .before .if1 .left) in
-    let a = le-leb _ _ (s .if2 .left) in
-    let w = lt-leb _ _ (c .before .if3 .taken) in
-    (rw (c .halt2 .ensures, f, a, w), rw (f, a, w))
+    by-way (c .before .if2 .came)
+    (λ w.
+    let a = lt-leb _ _ (w .taken) in
+    (rw (c .halt .ensures, f, a), rw (f, a)))
+    (λ w.
+    let a = le-leb _ _ (w .0 .left) in
+    let b = lt-leb _ _ (ltb-true (length (x .returned .now)) (x .cursor .written) (w .2 .taken)) in
+    (rw (c .halt .ensures, f, a, b), rw (f, a, b)))
 
 leave-requires : tie.Need-leave-requires
 leave-requires c κs = search needs
@@ -42,16 +39,18 @@ leave-requires c κs = search needs
 same-length : tie.Need-same-length
 same-length c = search needs
 
-returns-4 : tie.Need-returns-4
+returns-3 : tie.Need-returns-3
 unfolding turnedOut
-returns-4 c =
+returns-3 c =
     let l = c .before .before .leave .ensures in
     let r = c .before .before .before .before in
     let s = r .before .before in
     let f = le-ltb _ _ (s .before .before .if1 .left) in
     let a = le-leb _ _ (s .if2 .left) in
-    let w = le-leb _ _ (r .if3 .left) in
+    let x = s .before .before .before .before .before .before .args in
+    let w = le-leb _ _ (ltb-false (length (x .returned .now)) (x .cursor .written) (r .if3 .left)) in
     (rw (l .0, f, a, w), rw (l .1, f, a, w))
 
 pub turn-after-spec : {M : Type 1} → statement M
-turn-after-spec = tie.close (tie.spec front-after-requires next-turn-requires returns halt-requires returns-2 halt-requires-2 returns-3 leave-requires same-length returns-4)
+turn-after-spec =
+    tie.close (tie.spec front-after-requires next-turn-requires returns halt-requires returns-2 leave-requires same-length returns-3)

@@ -77,7 +77,7 @@ digit-isOne zero h = refl
 digit-isOne (suc zero) h = refl
 digit-isOne (suc (suc n)) h = absurd (omega arith)
 
-digit-lt : (b : Bool) → digit b < 2
+pub digit-lt : (b : Bool) → digit b < 2
 digit-lt false = omega arith
 digit-lt true = omega arith
 

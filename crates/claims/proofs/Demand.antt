@@ -191,7 +191,8 @@ counted p records earlier former during s gap tail last j b l e f =
     let c : Command = getD restoreOrder j Individual in
     let rs : List (List Bool) = returnsOf (tailsOf tail) (registersAll ds) in
     let flags : Command → ℕ = λ k. faults k (registersAll ds) in
-    let b′ : RestorePremises p records earlier former s tail = record { accepted = b .accepted; writable = b .writable; devices = b .devices; part = b .part; runs = runs-front ds former during (b .runs) } in
+    let b′ : RestorePremises p records earlier former s tail =
+    record { accepted = b .accepted; writable = b .writable; devices = b .devices; part = b .part; runs = runs-front ds former during (b .runs) } in
     let x = returned-all b′ gap [] j (e ∙ sym (append-nil (restorePart s gap tail j))) in
     let n : flatten (take (suc j) (map (framePart s gap tail) restoreOrder)) ≡ restorePart s gap tail j ++ framePart s gap tail c =
     flatten-take-suc (map (framePart s gap tail) restoreOrder) j (rw length-map l) ∙ rw (getD-map (framePart s gap tail) restoreOrder j Individual [] l) in

@@ -1,7 +1,7 @@
 -- After a restore and a boundary a comparison says same: the chain then holds the set, and nothing refuses the comparison. The records are of
 -- the set's part, since no call of a restore, nor what settles after it, changes it.
-use mathlib.Core.Path.{_≡_, ap, ap₂, sym, subst, _∙_}
-use mathlib.Core.Bool.{Bool, true, not, _&&_}
+use mathlib.Core.Path.{_≡_, ap, sym, subst, _∙_}
+use mathlib.Core.Bool.{true, not}
 use mathlib.Core.List.{List, [], _∷_, _++_}
 use Prim.Native.Nat.{_≤_}
 use native.Mathlib.Omega.{arith}
@@ -12,6 +12,7 @@ use Rattle.tables.specs.Lists.{allBelow, every}
 use Rattle.parts.specs.Parts.{known, partOf, limit, subframes}
 use Rattle.parts.specs.declared.command.Command.{Command}
 use Rattle.parts.specs.declared.command.Command.the-variants.{Individual, Global}
+use Rattle.tables.proofs.Booleans.{both-and}
 use Rattle.tables.proofs.Rows.{none}
 use Rattle.frames.specs.declared.told.Tail.{Tail}
 use Rattle.device.specs.Judgement.{fits}
@@ -30,9 +31,6 @@ use Rattle.claims.proofs.Compared.{holds-same}
 
 -- ---- nothing refuses the comparison
 
-both : {a b : Bool} → a ≡ true → b ≡ true → (a && b) ≡ true
-both e f = ap₂ _&&_ e f
-
 accepts : (s : Set) (tail : Command → Tail) (ds : List Device) → Writable s tail → Whole (s .part) ds → s .devices ≡ length ds → compareRefusal s ds ≡ 0
 unfolding compareRefusal
 accepts s tail ds w h l =
@@ -43,14 +41,14 @@ accepts s tail ds w h l =
     let individual : allBelow (s .individual) (limit (partOf (s .part))) ≡ true = not-false _ (accepted-writable w Individual .value) in
     let parts : every (hasPart (s .part)) ds ≡ true = every-all (λ d. d .registers .part ≡ s .part) (hasPart (s .part)) (λ d e. eq-eqb (d .registers .part) (s .part) e) ds (h .onePart) in
     none (compareTable s ds) (
-      ap not (both (h .knownPart) (every-all (λ d. d .registers .part ≡ s .part) (λ d. known (d .registers .part)) (λ d e. ap known e ∙ h .knownPart) ds (h .onePart))),
+      ap not (both-and _ _ (h .knownPart) (every-all (λ d. d .registers .part ≡ s .part) (λ d. known (d .registers .part)) (λ d e. ap known e ∙ h .knownPart) ds (h .onePart))),
       (
-        ap not (both (both (le-leb 1 (s .devices) some) (le-leb (s .devices) 1023 few)) (both (le-leb 1 (length ds) (h .someDevice)) (le-leb (length ds) 1023 (h .fewDevices)))),
+        ap not (both-and _ _ (both-and _ _ (le-leb 1 (s .devices) some) (le-leb (s .devices) 1023 few)) (both-and _ _ (le-leb 1 (length ds) (h .someDevice)) (le-leb (length ds) 1023 (h .fewDevices)))),
         (
-          ap not (both (both (eq-eqb _ _ (proper .calibrationLength)) (eq-eqb _ _ (proper .individualLength)))
-              (both (eq-eqb (length ds) (s .devices) (sym l)) parts)),
+          ap not (both-and _ _ (both-and _ _ (eq-eqb _ _ (proper .calibrationLength)) (eq-eqb _ _ (proper .individualLength)))
+              (both-and _ _ (eq-eqb (length ds) (s .devices) (sym l)) parts)),
           (
-            ap not (both global individual),
+            ap not (both-and _ _ global individual),
             (ap not (every-all Sound fits (λ d o. o .fit) ds (h .sound)), tt),
           ),
         ),

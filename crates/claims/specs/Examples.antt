@@ -14,6 +14,7 @@ use Rattle.parts.specs.declared.command.Command.{Command}
 use Rattle.parts.specs.declared.command.Command.the-variants.{Individual, Calibration, Global, Configuration}
 use Rattle.serial.specs.States.{dataBits}
 use Rattle.frame_writer.specs.Writing.{written, writtenOut}
+use Rattle.frames.specs.Frames.{toldOf, tailOf, noTail}
 use Rattle.frames.specs.Reading.{readRefusal}
 use Rattle.frames.specs.declared.told.Told.{Told}
 use Rattle.frames.specs.declared.told.Tail.{Tail}
@@ -28,15 +29,7 @@ use Rattle.schedule.specs.declared.answer.Lead.the-variants.{By}
 
 -- what a frame is told by, at configuration 0
 abbrev told : ℕ → ℕ → Command → Told
-told part devices command = record { part = part; devices = devices; command = command; configuration = 0 }
-
--- a tail: a number in so many bits
-abbrev tail : ℕ → ℕ → Tail
-tail number long = record { number = number; length = long }
-
--- no tail
-abbrev none : Tail
-none = tail 0 0
+told part devices command = toldOf part devices command 0
 
 -- a list again and again
 abbrev times : ℕ → List ℕ → List ℕ
@@ -113,16 +106,16 @@ Each ((letter says es) ∷ rest) = All-say es × Each rest
 -- a to k
 abbrev pub examples : List Lettered
 examples =
-    (a says sends (told 6974 1 Configuration) none 0x00 [] [] (0xE8 ∷ 0xFC ∷ 0x00 ∷ 0x00 ∷ 0x00 ∷ 0x00 ∷ []) ∷ [])
-    ∷ (b says sends (told 6974 2 Configuration) none 0x01 [] [] (0xE8 ∷ 0xFC ∷ 0x00 ∷ 0x01 ∷ 0x01 ∷ 0x01 ∷ 0x01 ∷ 0x01 ∷ 0x01 ∷ []) ∷ [])
-    ∷ (c says sends (told 6974 1 Calibration) none 0 (0xA9 ∷ 0x10 ∷ 0x01 ∷ []) [] (0xE8 ∷ 0x54 ∷ 0x00 ∷ 0xA9 ∷ 0x10 ∷ 0x01 ∷ []) ∷ [])
-    ∷ (d says sends (told 6974 1 Global) none 96 [] [] (0xE8 ∷ 0xA8 ∷ 0x00 ∷ 0x60 ∷ 0x60 ∷ 0x60 ∷ []) ∷ [])
-    ∷ (e says sends (told 6974 1 Individual) none 0 [] (replicate 24 2560) (0xE8 ∷ 0x00 ∷ 0x00 ∷ times 12 (0xA0 ∷ 0x0A ∷ 0x00 ∷ [])) ∷ [])
-    ∷ (f says sends (told 6975 1 Individual) none 0 [] (replicate 24 1)
+    (a says sends (told 6974 1 Configuration) noTail 0x00 [] [] (0xE8 ∷ 0xFC ∷ 0x00 ∷ 0x00 ∷ 0x00 ∷ 0x00 ∷ []) ∷ [])
+    ∷ (b says sends (told 6974 2 Configuration) noTail 0x01 [] [] (0xE8 ∷ 0xFC ∷ 0x00 ∷ 0x01 ∷ 0x01 ∷ 0x01 ∷ 0x01 ∷ 0x01 ∷ 0x01 ∷ []) ∷ [])
+    ∷ (c says sends (told 6974 1 Calibration) noTail 0 (0xA9 ∷ 0x10 ∷ 0x01 ∷ []) [] (0xE8 ∷ 0x54 ∷ 0x00 ∷ 0xA9 ∷ 0x10 ∷ 0x01 ∷ []) ∷ [])
+    ∷ (d says sends (told 6974 1 Global) noTail 96 [] [] (0xE8 ∷ 0xA8 ∷ 0x00 ∷ 0x60 ∷ 0x60 ∷ 0x60 ∷ []) ∷ [])
+    ∷ (e says sends (told 6974 1 Individual) noTail 0 [] (replicate 24 2560) (0xE8 ∷ 0x00 ∷ 0x00 ∷ times 12 (0xA0 ∷ 0x0A ∷ 0x00 ∷ [])) ∷ [])
+    ∷ (f says sends (told 6975 1 Individual) noTail 0 [] (replicate 24 1)
     (0xE8 ∷ 0x00 ∷ 0x00 ∷ times 6 (0x00 ∷ 0x04 ∷ 0x00 ∷ 0x10 ∷ 0x00 ∷ 0x40 ∷ 0x01 ∷ [])) ∷ [])
     ∷ (g says returns threeDevices threeStates (0xE8 ∷ 0x54 ∷ 0x02 ∷ 0xA5 ∷ []) ∷ [])
-    ∷ (h says sends (told 6974 1 Configuration) (tail 0b101 3) 0x00 [] [] (0xE8 ∷ 0xFC ∷ 0x00 ∷ 0x00 ∷ 0x00 ∷ 0x00 ∷ 0xA0 ∷ [])
-    ∷ refuses (told 6974 1 Configuration) (tail 0b101 3) (0xE8 ∷ 0xFC ∷ 0x00 ∷ 0x00 ∷ 0x00 ∷ 0x00 ∷ 0xA1 ∷ []) 11 ∷ [])
+    ∷ (h says sends (told 6974 1 Configuration) (tailOf 0b101 3) 0x00 [] [] (0xE8 ∷ 0xFC ∷ 0x00 ∷ 0x00 ∷ 0x00 ∷ 0x00 ∷ 0xA0 ∷ [])
+    ∷ refuses (told 6974 1 Configuration) (tailOf 0b101 3) (0xE8 ∷ 0xFC ∷ 0x00 ∷ 0x00 ∷ 0x00 ∷ 0x00 ∷ 0xA1 ∷ []) 11 ∷ [])
     ∷ (i says subframe 6974 96 0 false
     ∷ subframe 6974 96 1 true ∷ subframe 6974 96 2 true ∷ subframe 6974 96 3 true
     ∷ subframe 6974 96 4 false

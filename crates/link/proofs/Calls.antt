@@ -10,7 +10,7 @@ use lib.Dec.{eqb, ltb, leb}
 use lib.ListN.{length, length-map, getD, set, length-set, length-replicate, take}
 use borrow.Author.Tests.{leb-true, le-leb, eq-eqb, eqb-true, eqb-false, ne-eqb, not-false}
 use Rattle.bits.specs.Bits.{digit, over}
-use Rattle.bits.proofs.Laws.{take-over}
+use Rattle.bits.proofs.Laws.{take-over, digit-lt}
 use Rattle.tables.specs.Lists.{allBelow, every}
 use Rattle.parts.specs.Parts.{known, isCount}
 use Rattle.tables.specs.Refusals.{first, content}
@@ -23,7 +23,7 @@ use Rattle.phases.specs.declared.phase.Phase.{Phase}
 use Rattle.phases.specs.declared.phase.Phase.the-variants.{Hunting, Opening, Counting, Slice, Passing, Lost}
 use Rattle.registers.specs.declared.registers.Registers.{Registers}
 use Rattle.device.specs.declared.device.Device.{Device}
-use Rattle.tables.proofs.Booleans.{and-both, cond-both}
+use Rattle.tables.proofs.Booleans.{and-both, and-true, cond-both}
 use Rattle.device.proofs.Kept.{kept-bounded, kept-faulted, kept-fresh}
 use Rattle.calls.specs.Chain.{hasPart, allKnown, sameParts, allFit, blank}
 use Rattle.calls.specs.Calls.{freshTable, freshRefusal, freshDevices, runRefusal, runDevices, returned, boundaryRefusal, boundaryDevices, faultRefusal, faultDevices}
@@ -75,19 +75,15 @@ whole-fit ds h = every-all Sound fits (λ d o. o .fit) ds h
 whole-count : (p : ℕ) (ds : List Device) → Whole p ds → isCount (length ds) ≡ true
 whole-count p ds w = rw (le-leb 1 (length ds) (w .someDevice), le-leb (length ds) 1023 (w .fewDevices))
 
-and-right : (a b : Bool) → b ≡ true → (a && b) ≡ a
-and-right true b e = e
-and-right false b e = refl
-
 -- its calls are refused for what they say, never for the records
 pub own-refusal : (p : ℕ) (ds : List Device) (c : Call) → Whole p ds → refusalOf ds c ≡ first (ownTable (length ds) c)
 unfolding refusalOf freshRefusal runRefusal boundaryRefusal faultRefusal
 own-refusal p ds (fresh q) w = refl
 own-refusal p ds (run ss out) w =
-    rw (whole-known p ds w, whole-count p ds w, same-all p ds (w .onePart), and-right (allBelow ss 4) (allFit ds) (whole-fit ds (w .sound)))
+    rw (whole-known p ds w, whole-count p ds w, same-all p ds (w .onePart), whole-fit ds (w .sound), and-true (allBelow ss 4))
 own-refusal p ds boundary w = rw (whole-known p ds w, whole-count p ds w, same-all p ds (w .onePart), whole-fit ds (w .sound))
 own-refusal p ds (fault device kind flag) w =
-    rw (whole-known p ds w, whole-count p ds w, same-all p ds (w .onePart), and-right (ltb kind 2) (allFit ds) (whole-fit ds (w .sound)))
+    rw (whole-known p ds w, whole-count p ds w, same-all p ds (w .onePart), whole-fit ds (w .sound), and-true (ltb kind 2))
 
 -- ---- a boundary of the records is a boundary of the model
 
@@ -113,10 +109,6 @@ boundary-same (d ∷ ds) = rw (activated-phase (d .registers) (phaseOf (d .place
 
 bounded-sound : (d : Device) → Sound d → Sound (bounded d)
 bounded-sound d o = record { fit = kept-bounded d (o .fit); arrays = bounded-arrays d (o .arrays) }
-
-digit-lt : (b : Bool) → digit b < 2
-digit-lt true = omega arith
-digit-lt false = omega arith
 
 faulted-part : (d : Device) (kind flag : ℕ) → (faulted d kind flag) .registers .part ≡ d .registers .part
 faulted-part d kind flag = cond-both (λ (r : Registers). r .part ≡ d .registers .part) (eqb kind 0) _ _ (λ _. refl) (λ _. refl)

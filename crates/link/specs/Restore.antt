@@ -11,7 +11,7 @@ use Rattle.parts.specs.Wire.{stateCode, lows}
 use Rattle.parts.specs.declared.command.Command.{Command}
 use Rattle.parts.specs.declared.command.Command.the-variants.{Individual, Calibration, Global, Configuration}
 use Rattle.serial.specs.States.{frameStates}
-use Rattle.frames.specs.Frames.{slicesBits, tailBits, frameOf, frameLength}
+use Rattle.frames.specs.Frames.{toldOf, slicesBits, tailBits, frameOf, frameLength}
 use Rattle.frame_writer.specs.Writing.{settings, writeRefusal}
 use Rattle.frames.specs.declared.told.Told.{Told}
 use Rattle.frames.specs.declared.told.Tail.{Tail}
@@ -22,7 +22,7 @@ use Rattle.model.specs.Restore.{statesUntil}
 
 -- what the writer is told of a set's frame
 abbrev pub told : Set → Command → Told
-told s c = record { part = s .part; devices = s .devices; command = c; configuration = s .configuration }
+told s c = toldOf (s .part) (s .devices) c (s .configuration)
 
 -- the byte that it is given: the global one for a global frame, else the configuration
 abbrev pub setByte : Set → Command → ℕ

@@ -34,35 +34,37 @@ module _ (part devices configuration : ℕ) (input : List ℕ) where
   abbrev pub linesFrom : ℕ → ℕ → List ℕ
   linesFrom place from = linesOf part devices configuration (drop place laterCommands) (drop from input)
 
-  -- the line of one frame, for which the reader answers `answer`, and those of the next
-  pub lines-step : (place from : ℕ) (c : Command) (answer : Read) (n : ℕ) → place < 3 → c ≡ getD laterCommands place Individual
-      → n ≡ frameSize (toldOf part devices c configuration) → answer ≡ answerOf (toldOf part devices c configuration) (drop from input)
+  -- the frame at a place is the command's, has n bits, and the reader gives an answer for it
+  pub record FrameAt (place from : ℕ) (c : Command) (answer : Read) (n : ℕ) : Type 0 where
+    pub early : place < 3
+    pub command : c ≡ getD laterCommands place Individual
+    pub size : n ≡ frameSize (toldOf part devices c configuration)
+    pub read : answer ≡ answerOf (toldOf part devices c configuration) (drop from input)
+
+  -- its line, and those of the next
+  lines-step : {place from : ℕ} {c : Command} {answer : Read} {n : ℕ} → FrameAt place from c answer n
       → linesFrom place from ≡ frameLine c n answer ++ cond (isRefused answer) [] (linesFrom (place + 1) (from + bytesFor n))
   unfolding linesOf
-  lines-step place from c answer n h e f g =
+  lines-step {place} {from} {c} {answer} {n} f =
       let t = toldOf part devices c configuration in
       let r = answerOf t (drop from input) in
       ap (λ (cs : List Command). linesOf part devices configuration cs (drop from input))
-      (drop-cons laterCommands place Individual h ∙ ap₂ (λ (k : Command) (m : ℕ). k ∷ drop m laterCommands) (sym e) (sym (add-one place)))
+      (drop-cons laterCommands place Individual (f .early) ∙ ap₂ (λ (k : Command) (m : ℕ). k ∷ drop m laterCommands) (sym (f .command)) (sym (add-one place)))
       ∙ ap (λ (l : List ℕ). lineOf t r ++ cond (isRefused r) [] (linesOf part devices configuration (drop (place + 1) laterCommands) l))
       (drop-drop (bytesFor (frameSize t)) from input)
-      ∙ ap₂ (λ (a : Read) (m : ℕ). frameLine c m a ++ cond (isRefused a) [] (linesFrom (place + 1) (from + bytesFor m))) (sym g) (sym f)
+      ∙ ap₂ (λ (a : Read) (m : ℕ). frameLine c m a ++ cond (isRefused a) [] (linesFrom (place + 1) (from + bytesFor m))) (sym (f .read)) (sym (f .size))
 
   -- the same, refused and accepted
-  pub lines-refused : (place from : ℕ) (c : Command) (answer : Read) (n : ℕ) → place < 3 → c ≡ getD laterCommands place Individual
-      → n ≡ frameSize (toldOf part devices c configuration) → answer ≡ answerOf (toldOf part devices c configuration) (drop from input)
-      → isRefused answer ≡ true → linesFrom place from ≡ frameLine c n answer
-  lines-refused place from c answer n h e f g r =
-      lines-step place from c answer n h e f g
-      ∙ ap (λ (b : Bool). frameLine c n answer ++ cond b [] (linesFrom (place + 1) (from + bytesFor n))) r
+  pub lines-refused : {place from : ℕ} {c : Command} {answer : Read} {n : ℕ} → FrameAt place from c answer n → isRefused answer ≡ true
+      → linesFrom place from ≡ frameLine c n answer
+  lines-refused {place} {from} {c} {answer} {n} f r =
+      lines-step f ∙ ap (λ (b : Bool). frameLine c n answer ++ cond b [] (linesFrom (place + 1) (from + bytesFor n))) r
       ∙ append-nil (frameLine c n answer)
 
-  pub lines-accepted : (place from : ℕ) (c : Command) (answer : Read) (n : ℕ) → place < 3 → c ≡ getD laterCommands place Individual
-      → n ≡ frameSize (toldOf part devices c configuration) → answer ≡ answerOf (toldOf part devices c configuration) (drop from input)
-      → isRefused answer ≡ false → linesFrom place from ≡ frameLine c n answer ++ linesFrom (place + 1) (from + bytesFor n)
-  lines-accepted place from c answer n h e f g r =
-      lines-step place from c answer n h e f g
-      ∙ ap (λ (b : Bool). frameLine c n answer ++ cond b [] (linesFrom (place + 1) (from + bytesFor n))) r
+  pub lines-accepted : {place from : ℕ} {c : Command} {answer : Read} {n : ℕ} → FrameAt place from c answer n → isRefused answer ≡ false
+      → linesFrom place from ≡ frameLine c n answer ++ linesFrom (place + 1) (from + bytesFor n)
+  lines-accepted {place} {from} {c} {answer} {n} f r =
+      lines-step f ∙ ap (λ (b : Bool). frameLine c n answer ++ cond b [] (linesFrom (place + 1) (from + bytesFor n))) r
 
   -- behind the last frame
   pub lines-over : (place from : ℕ) → place ≡ 3 → from < length input → linesFrom place from ≡ trailingLine

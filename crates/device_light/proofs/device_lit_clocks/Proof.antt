@@ -17,7 +17,8 @@ unfolding deviceClocksAnswer
 returns c =
     let j = c .before .judge in
     let a = c .before .before .args in
-    refused Refused (shownRun (a .device .registers) (a .output) (a .subframe) (a .phase)) (first-record (a .device) (a .output) (a .subframe) 0 (a .phase) (j .ensures) (c .if1 .taken)) (c .if1 .taken)
+    refused Refused (shownRun (a .device .registers) (a .output) (a .subframe) (a .phase))
+    (first-record (a .device) (a .output) (a .subframe) 0 (a .phase) (j .ensures) (c .if1 .taken)) (c .if1 .taken)
 
 active-value-requires : tie.Need-active-value-requires
 active-value-requires c κs = search needs

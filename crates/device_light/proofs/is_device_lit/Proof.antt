@@ -17,7 +17,8 @@ unfolding deviceAnswer
 returns c =
     let j = c .before .judge in
     let a = c .before .before .args in
-    refused Refused (Is (isShown (a .device .registers) (a .output) (a .subframe) (a .clock) (a .phase))) (first-record (a .device) (a .output) (a .subframe) (a .clock) (a .phase) (j .ensures) (c .if1 .taken)) (c .if1 .taken)
+    refused Refused (Is (isShown (a .device .registers) (a .output) (a .subframe) (a .clock) (a .phase)))
+    (first-record (a .device) (a .output) (a .subframe) (a .clock) (a .phase) (j .ensures) (c .if1 .taken)) (c .if1 .taken)
 
 active-value-requires : tie.Need-active-value-requires
 active-value-requires c κs = search needs

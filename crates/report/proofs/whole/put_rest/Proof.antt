@@ -60,8 +60,9 @@ returns c =
     let e = r .read-front .ensures ∙ ap (answerOf told) (b .back .ensures) in
     put.ahead-last
     (put.ahead-same
-    (laws.lines-refused (a .part) (a .devices) (a .configuration) (a .input .now) (l .place) (l .from) (k .command-at .result) (r .read-front .result) (n .frame-size .result)
-    (k .before .loop-test .taken) (k .command-at .ensures) (n .frame-size .ensures .0) e (sym (c .before .is-refused .ensures) ∙ c .if1 .taken))
+    (laws.lines-refused (a .part) (a .devices) (a .configuration) (a .input .now) {from = l .from}
+    (record { early = k .before .loop-test .taken; command = k .command-at .ensures; size = n .frame-size .ensures .0; read = e })
+    (sym (c .before .is-refused .ensures) ∙ c .if1 .taken))
     (l .inv .4))
     (f .put-frame .ensures)
 
@@ -94,8 +95,9 @@ loop-again c =
       omega arith,
       put.ahead-append (omega arith)
           (put.ahead-same
-          (laws.lines-accepted (a .part) (a .devices) (a .configuration) (a .input .now) (l .place) (l .from) (k .command-at .result) (r .read-front .result) (n .frame-size .result)
-          (k .before .loop-test .taken) (k .command-at .ensures) (n .frame-size .ensures .0) e (sym (c .before .is-refused .ensures) ∙ c .if1 .left))
+          (laws.lines-accepted (a .part) (a .devices) (a .configuration) (a .input .now) {from = l .from}
+          (record { early = k .before .loop-test .taken; command = k .command-at .ensures; size = n .frame-size .ensures .0; read = e })
+          (sym (c .before .is-refused .ensures) ∙ c .if1 .left))
           (l .inv .4))
           (f .put-frame .ensures),
     )

@@ -1,13 +1,11 @@
-// Chains of the numbers of docs/RULES.md, and rules of a device that none of them shows, run through the library. A line for each says the
-// case, what it should be, what came out, and `ok`, or `WRONG` where the two differ.
+// Chains of the numbers of docs/RULES.md, run through the library. A line for each says the case, what it should be, what came out, and
+// `ok`, or `WRONG` where the two differ.
 mod lists; // a list copied
 mod order_cases; // the order of unequal individual values
 mod return_cases; // g, and 1023 devices: run, packed and read
-mod step_cases; // one device, stepped by value
 
 fn main() {
     return_cases::run();
     return_cases::run_joined();
     order_cases::run();
-    step_cases::run();
 }

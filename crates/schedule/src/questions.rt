@@ -31,7 +31,7 @@ pub fn lead_of(part: u16, configuration: u8, global: u8, from: u32, w: u32) -> L
     if refusal != 0 {
         return Lead::Refused(refusal);
     }
-    Lead::By(window_lead(part, configuration, global, from, w))
+    Lead::By(window_lead(part, configuration, global, from as u64, w as u64))
 }
 
 // Is an output lit at a clock of a subframe, where its value in the phase asked for is `value`?

@@ -1,10 +1,9 @@
-use mathlib.Core.Path.{refl, sym, ap, _∙_}
-use borrow.Author.Tests.{leb-false}
+use mathlib.Core.Path.{ap}
 use Rattle.parts.specs.Parts.{partOf}
-use Rattle.tables.proofs.Rows.{clear, refused, accepted}
+use Rattle.tables.proofs.Rows.{refused, accepted}
 use Rattle.schedule.specs.declared.answer.Asked.the-variants.{Is, Refused}
 use Rattle.schedule.specs.Light.{isOn}
-use Rattle.schedule.specs.Answers.{onRows, onAnswer}
+use Rattle.schedule.specs.Answers.{onAnswer}
 use borrow.Author.Needs.{needs}
 use Rattle.schedule.proofs.questions.is_on.Statement.{statement}
 use Rattle.schedule.proofs.questions.is_on.Tie as tie
@@ -18,8 +17,7 @@ returns c = let a = c .before .before .args in
     refused Refused (Is (isOn (partOf (a .part)) (a .configuration) (a .global) (a .subframe))) (c .before .judge-subframe .ensures) (c .if1 .taken)
 
 is-subframe-on-requires : tie.Need-is-subframe-on-requires
-is-subframe-on-requires c κs = let a = c .before .before .args in
-    leb-false _ _ (clear (onRows (a .part) (a .configuration) (a .subframe)) refl (sym (c .before .judge-subframe .ensures) ∙ c .if1 .left) .1 .0)
+is-subframe-on-requires c κs = search needs
 
 returns-2 : tie.Need-returns-2
 unfolding onAnswer

@@ -21,7 +21,7 @@ on-first-requires : tie.Need-on-first-requires
 on-first-requires c κs = let a = c .before .before .args in
     let w = subframes-within (a .part) (a .configuration) in
     let l = level-lt (a .part) (a .configuration) (a .global) in
-    omega (arith, c .before .before .pre, c .before .subframes-of .ensures, c .level-of .ensures)
+    omega (arith, c .before .subframes-of .ensures, c .level-of .ensures)
 
 add-on-first : tie.Need-add-on-first
 add-on-first c = search needs
@@ -30,7 +30,7 @@ on-first-requires-2 : tie.Need-on-first-requires-2
 on-first-requires-2 c κs = let a = c .before .before .before .args in
     let w = subframes-within (a .part) (a .configuration) in
     let l = level-lt (a .part) (a .configuration) (a .global) in
-    omega (arith, c .before .before .before .pre, c .before .before .subframes-of .ensures, c .before .level-of .ensures)
+    omega (arith, c .before .before .subframes-of .ensures, c .before .level-of .ensures)
 
 returns : tie.Need-returns
 returns c = let a = c .before .before .before .before .args in

@@ -1,7 +1,7 @@
 -- Each claim of specs/Claims, under its name, from the theorem that proves it. Assumes nothing.
 use Rattle.frame_laws.proofs.RoundTrip.{written-read, read-written}
 use Rattle.schedule.proofs.Claims as light
-use Rattle.schedule.proofs.Lit.{count-lit}
+use Rattle.schedule.proofs.Lit.{lit-count}
 use Rattle.device_light.proofs.Claims as device-light
 use Rattle.claims.specs.Claims as claim
 use Rattle.claims.proofs.Tables.{accepted-exactly}
@@ -71,7 +71,7 @@ litClocks = record {
 }
 
 pub litCount : claim.LitCount
-litCount = count-lit
+litCount = lit-count
 
 pub examplesHold : claim.ExamplesHold
 examplesHold = examples-hold

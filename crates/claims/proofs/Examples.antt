@@ -14,7 +14,7 @@ use Rattle.frame_writer.specs.Writing.{writeRefusal, written, writtenOut}
 use Rattle.frames.specs.Reading.{heldFields, readRefusal}
 use Rattle.machine.specs.Machine.{run, chain}
 use Rattle.device.specs.Run.{stepRecord}
-use Rattle.schedule.specs.Light.{count, inRun, litFrom, litTo}
+use Rattle.schedule.specs.Light.{howManyFrom, inRun, litFrom, litTo}
 use Rattle.schedule.specs.Answers.{onAnswer, leadAnswer}
 use Rattle.schedule.specs.declared.answer.Asked.the-variants.{Is}
 use Rattle.schedule.proofs.Claims.{lights, dark}
@@ -36,7 +36,7 @@ lit-to part value even to h configuration global output s clock phase a e q =
     ∙ ap (λ (b : Bool). Is (leb (litFrom (partOf part) value even) clock && b)) (before-next clock to)
 
 pub examples-hold : Each examples
-unfolding bits number fields split padded bytesOf over commandCount header frame clocked frameBits frameOf writeRefusal written writtenOut heldFields readRefusal threeStates chain run stepRecord count onAnswer leadAnswer
+unfolding bits number fields split padded bytesOf over commandCount header frame clocked frameBits frameOf writeRefusal written writtenOut heldFields readRefusal threeStates chain run stepRecord howManyFrom onAnswer leadAnswer
 examples-hold = (
   ((refl, refl, refl), tt),
   (

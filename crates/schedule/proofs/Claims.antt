@@ -12,7 +12,7 @@ use Rattle.parts.specs.Parts.{partOf, subframes}
 use Rattle.tables.proofs.Rows.{clear, none, accepted}
 use Rattle.schedule.specs.declared.answer.Asked.the-variants as asked
 use Rattle.schedule.specs.declared.answer.Clocks.the-variants as clocks
-use Rattle.schedule.specs.Light.{count, total, level, isOn, leadOf, isEven, isLit, inRun, litFrom, litTo, litCount, litFirst, litEnd}
+use Rattle.schedule.specs.Light.{howManyFrom, total, level, isOn, leadOf, isEven, isLit, inRun, litFrom, litTo, litCount, litFirst, litEnd}
 use Rattle.schedule.specs.Answers.{litRows, litAnswer, litClocksAnswer}
 use Rattle.schedule.proofs.Subframes.{level-lt, count-frame, count-quotients, lead-below}
 use Rattle.schedule.proofs.Lit.{lit-run, lit-first-end, run-empty, total-lit, lit-on, position-zero}
@@ -20,14 +20,14 @@ use Rattle.schedule.proofs.Lit.{lit-run, lit-first-end, run-empty, tota
 -- a frame has exactly g + 1 ON subframes
 pub frame-on :
     (part configuration global : ℕ)
-    → count (isOn (partOf part) configuration global) 0 (subframes (partOf part) configuration) ≡ level (partOf part) configuration global + 1
+    → howManyFrom (isOn (partOf part) configuration global) 0 (subframes (partOf part) configuration) ≡ level (partOf part) configuration global + 1
 frame-on part configuration global =
     count-frame (subframes (partOf part) configuration) (level (partOf part) configuration global) (level-lt part configuration global)
 
 -- the ON count of a window is a difference of two quotients
 pub window-on :
     (part configuration global from w : ℕ)
-    → count (isOn (partOf part) configuration global) from w
+    → howManyFrom (isOn (partOf part) configuration global) from w
     ≡ (from + w) * (level (partOf part) configuration global + 1) / subframes (partOf part) configuration
     - from * (level (partOf part) configuration global + 1) / subframes (partOf part) configuration
 window-on part configuration global from w =
@@ -115,7 +115,7 @@ lit-clocks-accepted part configuration value output subframe clock phase a =
 -- in a frame, over its subframes and their clocks, g + 1 times as many clocks are lit as in an ON subframe
 pub frame-lit :
     (part configuration global value output : ℕ)
-    → total (λ s. count (isLit (partOf part) configuration global value output s) 0 (partOf part .clocks)) (subframes (partOf part) configuration)
+    → total (λ s. howManyFrom (isLit (partOf part) configuration global value output s) 0 (partOf part .clocks)) (subframes (partOf part) configuration)
     ≡ (level (partOf part) configuration global + 1) * litCount (partOf part) value
 frame-lit part configuration global value output =
     total-lit (partOf part) configuration global value output (subframes (partOf part) configuration)

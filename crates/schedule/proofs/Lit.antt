@@ -12,7 +12,7 @@ use Rattle.bits.specs.Bits.{digit}
 use Rattle.parts.specs.Parts.{Part, partOf, subframes, multiplex}
 use Rattle.parts.proofs.Laws.{each-row}
 use Rattle.schedule.specs.Answers.{positionOver}
-use Rattle.schedule.specs.Light.{count, total, nameNumber, litAt, litBy, isEven, inRun, litFrom, litTo, litCount, isOn, isLit, litFirst, litEnd}
+use Rattle.schedule.specs.Light.{howManyFrom, total, nameNumber, litAt, litBy, isEven, inRun, litFrom, litTo, litCount, isOn, isLit, litFirst, litEnd}
 use Rattle.tables.proofs.Booleans.{or-none, and-false, or-second}
 
 ltb-min : (c m n : ℕ) → ltb c (min m n) ≡ ltb c n && ltb c m
@@ -69,17 +69,17 @@ lit-first-end p configuration global v output s c = at (isOn p configuration glo
 
 -- ---- how many
 
-count-same : (f g : ℕ → Bool) → ((c : ℕ) → f c ≡ g c) → (from n : ℕ) → count f from n ≡ count g from n
-unfolding count
-count-same f g e from zero = refl
-count-same f g e from (suc n) = ap₂ (λ (k : ℕ) (t : Bool). k + digit t) (count-same f g e from n) (e (from + n))
+howManyFrom-same : (f g : ℕ → Bool) → ((c : ℕ) → f c ≡ g c) → (from n : ℕ) → howManyFrom f from n ≡ howManyFrom g from n
+unfolding howManyFrom
+howManyFrom-same f g e from zero = refl
+howManyFrom-same f g e from (suc n) = ap₂ (λ (k : ℕ) (t : Bool). k + digit t) (howManyFrom-same f g e from n) (e (from + n))
 
 -- a run that begins after 0 has as many of the first n clocks as lie in it
-pub count-run : (from to n : ℕ) → count (inRun from to) 0 n ≡ min to n - from
-unfolding count
-count-run from to zero = omega arith
-count-run from to (suc n) = at (count-run from to n) (leb from (0 + n)) refl (ltb (0 + n) to) refl where
-  at : count (inRun from to) 0 n ≡ min to n - from → (s : Bool) → leb from (0 + n) ≡ s → (t : Bool) → ltb (0 + n) to ≡ t → count (inRun from to) 0 n + digit (s && t) ≡ min to (suc n) - from
+pub howManyFrom-run : (from to n : ℕ) → howManyFrom (inRun from to) 0 n ≡ min to n - from
+unfolding howManyFrom
+howManyFrom-run from to zero = omega arith
+howManyFrom-run from to (suc n) = at (howManyFrom-run from to n) (leb from (0 + n)) refl (ltb (0 + n) to) refl where
+  at : howManyFrom (inRun from to) 0 n ≡ min to n - from → (s : Bool) → leb from (0 + n) ≡ s → (t : Bool) → ltb (0 + n) to ≡ t → howManyFrom (inRun from to) 0 n + digit (s && t) ≡ min to (suc n) - from
   at h false e t f = omega (arith, leb-false from (0 + n) e)
   at h true e false f = omega (arith, leb-true from (0 + n) e, ltb-false (0 + n) to f)
   at h true e true f = omega (arith, leb-true from (0 + n) e, ltb-true (0 + n) to f)
@@ -88,10 +88,10 @@ mirror : (e n v : ℕ) → n - e - max e (n - v) ≡ min v (n - e) - e
 mirror e n v = omega arith
 
 -- an output is lit for as many clocks of a subframe, even or odd
-pub count-lit : (p : Part) (v output : ℕ) → count (litAt p v output) 0 (p .clocks) ≡ litCount p v
-count-lit p v output =
-    count-same (litAt p v output) (inRun (litFrom p v (isEven output)) (litTo p v (isEven output))) (lit-run p v output) 0 (p .clocks)
-    ∙ count-run (litFrom p v (isEven output)) (litTo p v (isEven output)) (p .clocks)
+pub lit-count : (p : Part) (v output : ℕ) → howManyFrom (litAt p v output) 0 (p .clocks) ≡ litCount p v
+lit-count p v output =
+    howManyFrom-same (litAt p v output) (inRun (litFrom p v (isEven output)) (litTo p v (isEven output))) (lit-run p v output) 0 (p .clocks)
+    ∙ howManyFrom-run (litFrom p v (isEven output)) (litTo p v (isEven output)) (p .clocks)
     ∙ at (isEven output) where
       at : (t : Bool) → min (cond t (min v (p .clocks - p .edge)) (p .clocks - p .edge)) (p .clocks) - cond t (p .edge) (max (p .edge) (p .clocks - v)) ≡ litCount p v
       at true =
@@ -109,24 +109,24 @@ lit-on p configuration global v output s c e = ap (λ (t : Bool). t && litAt p v
 pub lit-off : (p : Part) (configuration global v output s c : ℕ) → isOn p configuration global s ≡ false → isLit p configuration global v output s c ≡ false
 lit-off p configuration global v output s c e = ap (λ (t : Bool). t && litAt p v output c) e
 
-count-none : (from n : ℕ) → count (λ c. false) from n ≡ 0
-unfolding count
-count-none from zero = refl
-count-none from (suc n) = add-zero _ ∙ count-none from n
+howManyFrom-none : (from n : ℕ) → howManyFrom (λ c. false) from n ≡ 0
+unfolding howManyFrom
+howManyFrom-none from zero = refl
+howManyFrom-none from (suc n) = add-zero _ ∙ howManyFrom-none from n
 
 -- the lit clocks of the first n subframes
 pub total-lit :
     (p : Part) (configuration global v output n : ℕ)
-    → total (λ s. count (isLit p configuration global v output s) 0 (p .clocks)) n ≡ count (isOn p configuration global) 0 n * litCount p v
-unfolding count total
+    → total (λ s. howManyFrom (isLit p configuration global v output s) 0 (p .clocks)) n ≡ howManyFrom (isOn p configuration global) 0 n * litCount p v
+unfolding howManyFrom total
 total-lit p configuration global v output zero = sym (zero-mul (litCount p v))
 total-lit p configuration global v output (suc n) =
     ap₂ (λ (j k : ℕ). j + k) (total-lit p configuration global v output n)
     (at (isOn p configuration global n) ∙ ap (λ (k : ℕ). digit (isOn p configuration global k) * litCount p v) (sym (zero-add n)))
-    ∙ sym (add-mul (count (isOn p configuration global) 0 n) (digit (isOn p configuration global (0 + n))) (litCount p v)) where
-      at : (t : Bool) → count (λ c. t && litAt p v output c) 0 (p .clocks) ≡ digit t * litCount p v
-      at true = count-lit p v output ∙ sym (one-mul (litCount p v))
-      at false = count-none 0 (p .clocks) ∙ sym (zero-mul (litCount p v))
+    ∙ sym (add-mul (howManyFrom (isOn p configuration global) 0 n) (digit (isOn p configuration global (0 + n))) (litCount p v)) where
+      at : (t : Bool) → howManyFrom (λ c. t && litAt p v output c) 0 (p .clocks) ≡ digit t * litCount p v
+      at true = lit-count p v output ∙ sym (one-mul (litCount p v))
+      at false = howManyFrom-none 0 (p .clocks) ∙ sym (zero-mul (litCount p v))
 
 -- ---- by the tests of the code
 

@@ -16,7 +16,7 @@ use Rattle.bits.specs.Bits.{digit}
 use Rattle.parts.specs.Parts.{Part, max6974, max6975, partOf, subframes, multiplex, glb4}
 use Rattle.parts.proofs.Laws.{each-row}
 use Rattle.tables.proofs.Table.{everyPlace, everyPlace-at}
-use Rattle.schedule.specs.Light.{count, onFirst, on, onCount, lead, level}
+use Rattle.schedule.specs.Light.{howManyFrom, onFirst, on, onCount, lead, level}
 use Rattle.schedule.proofs.Signed.{sub-equal, sub-below}
 
 div-mono : {m n : ℕ} (k : ℕ) → 0 < k → m ≤ n → m / k ≤ n / k
@@ -33,10 +33,10 @@ digit-le : (t : Bool) → digit t ≤ 1
 digit-le true = omega arith
 digit-le false = omega arith
 
-count-le : (f : ℕ → Bool) (from n : ℕ) → count f from n ≤ n
-unfolding count
-count-le f from zero = omega arith
-count-le f from (suc n) = omega (arith, count-le f from n, digit-le (f (from + n)))
+howManyFrom-le : (f : ℕ → Bool) (from n : ℕ) → howManyFrom f from n ≤ n
+unfolding howManyFrom
+howManyFrom-le f from zero = omega arith
+howManyFrom-le f from (suc n) = omega (arith, howManyFrom-le f from n, digit-le (f (from + n)))
 
 module _ (S g : ℕ) (h : g < S) where
   next : (s : ℕ) → (s + 1) * (g + 1) ≡ s * (g + 1) + (g + 1)
@@ -50,14 +50,14 @@ module _ (S g : ℕ) (h : g < S) where
 
   -- the quotient counts the ON subframes
   pub first-count : (from w : ℕ) → onFirst S g from + onCount S g from w ≡ onFirst S g (from + w)
-  unfolding count
+  unfolding howManyFrom
   first-count from zero = add-zero _ ∙ ap (onFirst S g) (sym (add-zero from))
   first-count from (suc w) =
       omega (arith, first-count from w, digit-rise (onFirst S g (from + w)) (onFirst S g (from + w + 1)) (first-le (from + w)) (first-rise (from + w)), ap (onFirst S g) (add-one (from + w) ∙ sym (add-suc from w)))
 
   -- the ON subframes of a window are not more than it has
   pub first-window : (from w : ℕ) → (onFirst S g from ≤ onFirst S g (from + w)) × (onFirst S g (from + w) ≤ onFirst S g from + w)
-  first-window from w = omega (arith, first-count from w, count-le (on S g) from w)
+  first-window from w = omega (arith, first-count from w, howManyFrom-le (on S g) from w)
 
   -- the ON count of a window is a difference of two quotients
   pub count-quotients : (from w : ℕ) → onCount S g from w ≡ onFirst S g (from + w) - onFirst S g from

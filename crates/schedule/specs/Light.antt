@@ -10,9 +10,9 @@ use Rattle.bits.specs.Bits.{digit}
 use Rattle.parts.specs.Parts.{Part, subframes}
 
 -- how many of the n numbers from `from` on pass a test
-unfoldable pub count : (ℕ → Bool) → ℕ → ℕ → ℕ
-count f from zero = 0
-count f from (suc n) = count f from n + digit (f (from + n))
+unfoldable pub howManyFrom : (ℕ → Bool) → ℕ → ℕ → ℕ
+howManyFrom f from zero = 0
+howManyFrom f from (suc n) = howManyFrom f from n + digit (f (from + n))
 
 -- the sum of f over the n numbers from 0 on
 unfoldable pub total : (ℕ → ℕ) → ℕ → ℕ
@@ -31,7 +31,7 @@ on S g s = ltb (onFirst S g s) (onFirst S g (s + 1))
 
 -- the ON subframes of a window of w subframes
 abbrev pub onCount : ℕ → ℕ → ℕ → ℕ → ℕ
-onCount S g from w = count (on S g) from w
+onCount S g from w = howManyFrom (on S g) from w
 
 -- the lead of a window: S times its ON count less w(g + 1)
 abbrev pub lead : ℕ → ℕ → ℕ → ℕ → ℤ

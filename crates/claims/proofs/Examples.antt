@@ -14,9 +14,10 @@ use Rattle.frame_writer.specs.Writing.{writeRefusal, written, writtenOut}
 use Rattle.frames.specs.Reading.{heldFields, readRefusal}
 use Rattle.machine.specs.Machine.{run, chain}
 use Rattle.device.specs.Run.{stepRecord}
-use Rattle.schedule.specs.Light.{howManyFrom, inRun, litFrom, litTo}
-use Rattle.schedule.specs.Answers.{onAnswer, leadAnswer}
-use Rattle.schedule.specs.declared.answer.Asked.the-variants.{Is}
+use Rattle.subframes.specs.Subframes.{howManyFrom}
+use Rattle.subframes.specs.Answers.{onAnswer, leadAnswer}
+use Rattle.subframes.specs.declared.answer.Asked.the-variants.{Is}
+use Rattle.schedule.specs.Light.{inRun, litFrom, litTo}
 use Rattle.schedule.proofs.Claims.{lights, dark}
 use Rattle.claims.specs.Examples.{Lights, Each, examples, threeStates}
 

@@ -47,11 +47,13 @@ use Rattle.link.specs.Called.{called}
 use Rattle.link.specs.Restore.{Writable, framePart, restorePart, restoreStates, restoreThen, gapAfter, tailsOf, arrival}
 use Rattle.turns.specs.Answer.{ran, runAnswer}
 use Rattle.turns.specs.declared.entry.Ran.{Ran}
-use Rattle.schedule.specs.Light.{howManyFrom, level, isOn, leadOf, isLit, litAt, inRun, litCount}
-use Rattle.schedule.specs.Answers.{onRows, leadRows, litRows, litRun, onAnswer, leadAnswer, litAnswer, litClocksAnswer}
+use Rattle.subframes.specs.Subframes.{howManyFrom, level, isOn, leadOf}
+use Rattle.subframes.specs.Answers.{onRows, leadRows, onAnswer, leadAnswer}
+use Rattle.schedule.specs.Light.{isLit, litAt, inRun, litCount}
+use Rattle.schedule.specs.Answers.{litRows, litRun, litAnswer, litClocksAnswer}
 use Rattle.device_light.specs.OfDevice.{isShown, shownRun, deviceRows, deviceAnswer, deviceClocksAnswer}
-use Rattle.schedule.specs.declared.answer.Asked.the-variants as A
-use Rattle.schedule.specs.declared.answer.Lead.the-variants as D
+use Rattle.subframes.specs.declared.answer.Asked.the-variants as A
+use Rattle.subframes.specs.declared.answer.Lead.the-variants as D
 use Rattle.schedule.specs.declared.answer.Clocks.the-variants as K
 use Rattle.compare.specs.Compare.{same, compared, difference, compareTable, compareRefusal, comparison}
 use Rattle.compare.specs.Differences.{FirstDifference}

@@ -11,8 +11,9 @@ use borrow.Author.Tests.{eqb-true, eqb-false, eq-eqb, ne-eqb, ltb-true, ltb-fals
 use Rattle.bits.specs.Bits.{digit}
 use Rattle.parts.specs.Parts.{Part, partOf, subframes, multiplex}
 use Rattle.parts.proofs.Laws.{each-row}
+use Rattle.subframes.specs.Subframes.{howManyFrom, isOn}
 use Rattle.schedule.specs.Answers.{positionOver}
-use Rattle.schedule.specs.Light.{howManyFrom, total, nameNumber, litAt, litBy, isEven, inRun, litFrom, litTo, litCount, isOn, isLit, litFirst, litEnd}
+use Rattle.schedule.specs.Light.{total, nameNumber, litAt, litBy, isEven, inRun, litFrom, litTo, litCount, isLit, litFirst, litEnd}
 use Rattle.tables.proofs.Booleans.{or-none, and-false, or-second}
 
 ltb-min : (c m n : ℕ) → ltb c (min m n) ≡ ltb c n && ltb c m

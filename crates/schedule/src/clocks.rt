@@ -3,8 +3,8 @@ ghost use mathlib.Core.Path.{_≡_};
 ghost use Rattle.parts.specs.Parts.{partOf, limit};
 ghost use Prim.Native.Nat.{_<_};
 ghost use Rattle.schedule.specs.Light.{litAt, isEven, isLit};
-use crate::subframe::is_subframe_on;
 use parts::constants_of;
+use subframes::is_subframe_on;
 
 // In an OFF subframe at none.
 pub fn is_output_lit(

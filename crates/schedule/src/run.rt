@@ -6,8 +6,8 @@ ghost use Rattle.schedule.specs.Light.{isEven, litFrom, litTo};
 ghost use Rattle.schedule.specs.Answers.{litRun};
 use crate::answer::Clocks;
 use crate::clocks::is_output_even;
-use crate::subframe::is_subframe_on;
 use parts::constants_of;
+use subframes::is_subframe_on;
 
 // In an OFF subframe, and with a value within the edge zone, at none.
 pub fn lit_run(

@@ -2,7 +2,7 @@ use mathlib.Core.Path.{refl, sym, ap, _∙_}
 use borrow.Author.Tests.{leb-false}
 use Rattle.parts.specs.Parts.{partOf}
 use Rattle.tables.proofs.Rows.{clear, refused, accepted}
-use Rattle.schedule.specs.declared.answer.Asked.the-variants.{Is, Refused}
+use Rattle.subframes.specs.declared.answer.Asked.the-variants.{Is, Refused}
 use Rattle.schedule.specs.Light.{isLit}
 use Rattle.schedule.specs.Answers.{litRows, litAnswer}
 use borrow.Author.Needs.{needs}

@@ -1,10 +1,10 @@
 use mathlib.Core.Path.{ap}
 use Prim.Native.Nat.{ℕ, _%_}
 use native.Mathlib.Omega.{arith}
-use Rattle.schedule.proofs.Subframes.{subframes-within}
+use Rattle.subframes.proofs.Subframes.{subframes-within}
 use borrow.Author.Needs.{needs}
-use Rattle.schedule.proofs.subframe.level_of.Statement.{statement}
-use Rattle.schedule.proofs.subframe.level_of.Tie as tie
+use Rattle.subframes.proofs.subframe.level_of.Statement.{statement}
+use Rattle.subframes.proofs.subframe.level_of.Tie as tie
 
 subframes-of-requires : tie.Need-subframes-of-requires
 subframes-of-requires c κs = search needs

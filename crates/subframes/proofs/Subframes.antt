@@ -16,8 +16,8 @@ use Rattle.bits.specs.Bits.{digit}
 use Rattle.parts.specs.Parts.{Part, max6974, max6975, partOf, subframes, multiplex, glb4}
 use Rattle.parts.proofs.Laws.{each-row}
 use Rattle.tables.proofs.Table.{everyPlace, everyPlace-at}
-use Rattle.schedule.specs.Light.{howManyFrom, onFirst, on, onCount, lead, level}
-use Rattle.schedule.proofs.Signed.{sub-equal, sub-below}
+use Rattle.subframes.specs.Subframes.{howManyFrom, onFirst, on, onCount, lead, level}
+use Rattle.subframes.proofs.Signed.{sub-equal, sub-below}
 
 div-mono : {m n : ℕ} (k : ℕ) → 0 < k → m ≤ n → m / k ≤ n / k
 div-mono {m} {n} k h l = le-div-iff-mul-le {k = k} {x = m / k} {y = n} h .1 (omega (arith, div-mul-le-self m k))

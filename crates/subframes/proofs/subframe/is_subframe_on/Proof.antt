@@ -2,11 +2,11 @@ use mathlib.Core.Path.{ap₂, _∙_}
 use Prim.Native.Nat.{ℕ}
 use native.Mathlib.Omega.{arith}
 use lib.Dec.{ltb}
-use Rattle.schedule.specs.Light.{on}
-use Rattle.schedule.proofs.Subframes.{subframes-within, level-lt}
+use Rattle.subframes.specs.Subframes.{on}
+use Rattle.subframes.proofs.Subframes.{subframes-within, level-lt}
 use borrow.Author.Needs.{needs}
-use Rattle.schedule.proofs.subframe.is_subframe_on.Statement.{statement}
-use Rattle.schedule.proofs.subframe.is_subframe_on.Tie as tie
+use Rattle.subframes.proofs.subframe.is_subframe_on.Statement.{statement}
+use Rattle.subframes.proofs.subframe.is_subframe_on.Tie as tie
 
 subframes-of-requires : tie.Need-subframes-of-requires
 subframes-of-requires c κs = search needs

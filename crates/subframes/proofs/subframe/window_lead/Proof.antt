@@ -4,11 +4,11 @@ use native.Mathlib.Omega.{arith}
 use lib.IntN.{pos, _-ℤ_}
 use mir.Syntax.{w32}
 use mir.Facts.{toZ-ofZ}
-use Rattle.schedule.specs.Light.{onCount, lead}
-use Rattle.schedule.proofs.Subframes.{subframes-within, level-lt, first-window, count-quotients, product-lt}
+use Rattle.subframes.specs.Subframes.{onCount, lead}
+use Rattle.subframes.proofs.Subframes.{subframes-within, level-lt, first-window, count-quotients, product-lt}
 use borrow.Author.Needs.{needs}
-use Rattle.schedule.proofs.subframe.window_lead.Statement.{statement}
-use Rattle.schedule.proofs.subframe.window_lead.Tie as tie
+use Rattle.subframes.proofs.subframe.window_lead.Statement.{statement}
+use Rattle.subframes.proofs.subframe.window_lead.Tie as tie
 
 -- what the two quotients are good for
 record Within (c : tie.After-on-first2) : Type 0 where

@@ -4,10 +4,10 @@ use lib.IntN.{ℤ, pos, _-ℤ_}
 use mir.Syntax.{w32}
 use mir.Val.{SFits, toZ}
 use mir.ValLaws.{toZ-ofZ, toZ-pos}
-use Rattle.schedule.proofs.Signed.{mag-sub}
+use Rattle.subframes.proofs.Signed.{mag-sub}
 use borrow.Author.Needs.{needs}
-use Rattle.schedule.proofs.subframe.difference.Statement.{statement}
-use Rattle.schedule.proofs.subframe.difference.Tie as tie
+use Rattle.subframes.proofs.subframe.difference.Statement.{statement}
+use Rattle.subframes.proofs.subframe.difference.Tie as tie
 
 -- what the machine reads back from the bits are the numbers
 plain : (c : tie.Start) → toZ w32 (c .args .a) -ℤ toZ w32 (c .args .b) ≡ pos (c .args .a) -ℤ pos (c .args .b)

@@ -2,8 +2,8 @@ use Prim.Native.Nat.{_+_, _≤_}
 use native.Mathlib.Nat.{mul-le-mul}
 use native.Mathlib.Omega.{arith}
 use borrow.Author.Needs.{needs}
-use Rattle.schedule.proofs.subframe.on_first.Statement.{statement}
-use Rattle.schedule.proofs.subframe.on_first.Tie as tie
+use Rattle.subframes.proofs.subframe.on_first.Statement.{statement}
+use Rattle.subframes.proofs.subframe.on_first.Tie as tie
 
 add-result : tie.Need-add-result
 add-result c = search needs

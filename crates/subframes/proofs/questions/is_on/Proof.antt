@@ -1,12 +1,12 @@
 use mathlib.Core.Path.{ap}
 use Rattle.parts.specs.Parts.{partOf}
 use Rattle.tables.proofs.Rows.{refused, accepted}
-use Rattle.schedule.specs.declared.answer.Asked.the-variants.{Is, Refused}
-use Rattle.schedule.specs.Light.{isOn}
-use Rattle.schedule.specs.Answers.{onAnswer}
+use Rattle.subframes.specs.declared.answer.Asked.the-variants.{Is, Refused}
+use Rattle.subframes.specs.Subframes.{isOn}
+use Rattle.subframes.specs.Answers.{onAnswer}
 use borrow.Author.Needs.{needs}
-use Rattle.schedule.proofs.questions.is_on.Statement.{statement}
-use Rattle.schedule.proofs.questions.is_on.Tie as tie
+use Rattle.subframes.proofs.questions.is_on.Statement.{statement}
+use Rattle.subframes.proofs.questions.is_on.Tie as tie
 
 judge-subframe-requires : tie.Need-judge-subframe-requires
 judge-subframe-requires c κs = search needs

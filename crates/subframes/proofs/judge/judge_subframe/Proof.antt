@@ -4,8 +4,8 @@ use native.Mathlib.Omega.{arith}
 use borrow.Author.Tests.{not-true, not-false, le-leb, lt-leb}
 use Rattle.parts.specs.Parts.{partOf, subframes}
 use borrow.Author.Needs.{needs}
-use Rattle.schedule.proofs.judge.judge_subframe.Statement.{statement}
-use Rattle.schedule.proofs.judge.judge_subframe.Tie as tie
+use Rattle.subframes.proofs.judge.judge_subframe.Statement.{statement}
+use Rattle.subframes.proofs.judge.judge_subframe.Tie as tie
 
 is-known-requires : tie.Need-is-known-requires
 is-known-requires c κs = search needs

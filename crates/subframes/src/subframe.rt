@@ -3,7 +3,7 @@ ghost use mathlib.Core.Path.{_≡_};
 ghost use Prim.Native.Nat.{_+_, _≤_, _<_};
 ghost use lib.IntN.{pos, _-ℤ_};
 ghost use Rattle.parts.specs.Parts.{partOf, subframes};
-ghost use Rattle.schedule.specs.Light.{onFirst, level, isOn, leadOf};
+ghost use Rattle.subframes.specs.Subframes.{onFirst, level, isOn, leadOf};
 use parts::subframes_of;
 
 // Any number as subframe.

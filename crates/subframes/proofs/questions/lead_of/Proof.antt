@@ -4,12 +4,12 @@ use mir.Facts.{toZ-ofZ}
 use borrow.Author.Tests.{ltb-false}
 use Rattle.parts.specs.Parts.{partOf}
 use Rattle.tables.proofs.Rows.{clear, refused, accepted}
-use Rattle.schedule.specs.declared.answer.Lead.the-variants.{By, Refused}
-use Rattle.schedule.specs.Light.{leadOf}
-use Rattle.schedule.specs.Answers.{leadRows, leadAnswer}
+use Rattle.subframes.specs.declared.answer.Lead.the-variants.{By, Refused}
+use Rattle.subframes.specs.Subframes.{leadOf}
+use Rattle.subframes.specs.Answers.{leadRows, leadAnswer}
 use borrow.Author.Needs.{needs}
-use Rattle.schedule.proofs.questions.lead_of.Statement.{statement}
-use Rattle.schedule.proofs.questions.lead_of.Tie as tie
+use Rattle.subframes.proofs.questions.lead_of.Statement.{statement}
+use Rattle.subframes.proofs.questions.lead_of.Tie as tie
 
 judge-window-requires : tie.Need-judge-window-requires
 judge-window-requires c κs = search needs

@@ -2,7 +2,7 @@
 -- edge zone ends and stops at the value or the other edge zone; an odd one's is its mirror image. Both have the same number of clocks.
 -- A test of a run is two tests of its ends, by cases on each; the number of clocks of a run by induction on the clocks. Assumes nothing.
 use mathlib.Core.Path.{_≡_, refl, sym, ap, ap₂, _∙_}
-use mathlib.Core.Bool.{Bool, true, false, _&&_, _||_, cond}
+use mathlib.Core.Bool.{Bool, true, false, _&&_, _||_, cond, and-comm}
 use Prim.Native.Nat.{ℕ, zero, suc, _+_, _-_, _*_, _%_, _<_, _≤_, min, max}
 use native.Mathlib.Nat.{add-zero, zero-add, zero-mul, one-mul, add-mul}
 use native.Mathlib.Omega.{arith}
@@ -14,7 +14,7 @@ use Rattle.parts.proofs.Laws.{each-row}
 use Rattle.subframes.specs.Subframes.{howManyFrom, isOn}
 use Rattle.schedule.specs.Answers.{positionOver}
 use Rattle.schedule.specs.Light.{total, nameNumber, litAt, litBy, isEven, inRun, litFrom, litTo, litCount, isLit, litFirst, litEnd}
-use Rattle.tables.proofs.Booleans.{or-none, and-false, or-second}
+use Rattle.tables.proofs.Booleans.{or-none, and-false, and-assoc, or-second}
 
 ltb-min : (c m n : ℕ) → ltb c (min m n) ≡ ltb c n && ltb c m
 ltb-min c m n = at (ltb c n) refl (ltb c m) refl where
@@ -30,19 +30,24 @@ leb-max c m n = at (leb m c) refl (leb n c) refl where
   at true e false f = lt-leb (max m n) c (omega (arith, leb-false n c f))
   at true e true f = le-leb (max m n) c (omega (arith, leb-true m c e, leb-true n c f))
 
-and-turn : (a b c : Bool) → a && (b && c) ≡ (a && c) && b
-and-turn false b c = refl
-and-turn true false false = refl
-and-turn true false true = refl
-and-turn true true false = refl
-and-turn true true true = refl
-
 -- clock by clock, an output is lit in one run
 pub lit-run : (p : Part) (v output c : ℕ) → litAt p v output c ≡ inRun (litFrom p v (isEven output)) (litTo p v (isEven output)) c
 lit-run p v output c = at (isEven output) where
-  at : (t : Bool) → leb (p .edge) c && (ltb c (p .clocks - p .edge) && cond t (ltb c v) (leb (p .clocks - v) c)) ≡ inRun (cond t (p .edge) (max (p .edge) (p .clocks - v))) (cond t (min v (p .clocks - p .edge)) (p .clocks - p .edge)) c
-  at true = ap (λ (t : Bool). leb (p .edge) c && t) (sym (ltb-min c v (p .clocks - p .edge)))
-  at false = and-turn (leb (p .edge) c) (ltb c (p .clocks - p .edge)) (leb (p .clocks - v) c) ∙ ap (λ (t : Bool). t && ltb c (p .clocks - p .edge)) (sym (leb-max c (p .edge) (p .clocks - v)))
+  other-edge : ℕ
+  other-edge = p .clocks - p .edge
+
+  by-value : ℕ
+  by-value = p .clocks - v
+
+  at :
+      (t : Bool)
+      → leb (p .edge) c && (ltb c other-edge && cond t (ltb c v) (leb by-value c))
+      ≡ inRun (cond t (p .edge) (max (p .edge) by-value)) (cond t (min v other-edge) other-edge) c
+  at true = ap (λ (t : Bool). leb (p .edge) c && t) (sym (ltb-min c v other-edge))
+  at false =
+      ap (λ (t : Bool). leb (p .edge) c && t) (and-comm (ltb c other-edge) (leb by-value c))
+      ∙ sym (and-assoc (leb (p .edge) c) (leb by-value c) (ltb c other-edge))
+      ∙ ap (λ (t : Bool). t && ltb c other-edge) (sym (leb-max c (p .edge) by-value))
 
 -- a run that stops where it begins has no clock
 pub run-empty : (from to c : ℕ) → to ≤ from → inRun from to c ≡ false
@@ -80,7 +85,13 @@ pub howManyFrom-run : (from to n : ℕ) → howManyFrom (inRun from to) 0 n ≡ 
 unfolding howManyFrom
 howManyFrom-run from to zero = omega arith
 howManyFrom-run from to (suc n) = at (howManyFrom-run from to n) (leb from (0 + n)) refl (ltb (0 + n) to) refl where
-  at : howManyFrom (inRun from to) 0 n ≡ min to n - from → (s : Bool) → leb from (0 + n) ≡ s → (t : Bool) → ltb (0 + n) to ≡ t → howManyFrom (inRun from to) 0 n + digit (s && t) ≡ min to (suc n) - from
+  at :
+      howManyFrom (inRun from to) 0 n ≡ min to n - from
+      → (s : Bool)
+      → leb from (0 + n) ≡ s
+      → (t : Bool)
+      → ltb (0 + n) to ≡ t
+      → howManyFrom (inRun from to) 0 n + digit (s && t) ≡ min to (suc n) - from
   at h false e t f = omega (arith, leb-false from (0 + n) e)
   at h true e false f = omega (arith, leb-true from (0 + n) e, ltb-false (0 + n) to f)
   at h true e true f = omega (arith, leb-true from (0 + n) e, ltb-true (0 + n) to f)

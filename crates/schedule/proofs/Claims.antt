@@ -71,7 +71,8 @@ pub lit-clocks :
 unfolding litAnswer litClocksAnswer
 lit-clocks part configuration global value output subframe clock phase f e q a =
     let p = partOf part in
-    let g = run-given (first (litRows part configuration value output subframe 0 phase)) (litFirst p configuration global value output subframe) (litEnd p configuration global value output subframe) f e q in
+    let refusal : ℕ = first (litRows part configuration value output subframe 0 phase) in
+    let g = run-given refusal (litFirst p configuration global value output subframe) (litEnd p configuration global value output subframe) f e q in
     sym
     (accepted asked.Refused refl a
     (ap asked.Is

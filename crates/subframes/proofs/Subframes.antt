@@ -53,7 +53,8 @@ module _ (S g : ℕ) (h : g < S) where
   unfolding howManyFrom
   first-count from zero = add-zero _ ∙ ap (onFirst S g) (sym (add-zero from))
   first-count from (suc w) =
-      omega (arith, first-count from w, digit-rise (onFirst S g (from + w)) (onFirst S g (from + w + 1)) (first-le (from + w)) (first-rise (from + w)), ap (onFirst S g) (add-one (from + w) ∙ sym (add-suc from w)))
+      let s : ℕ = from + w in
+      omega (arith, first-count from w, digit-rise (onFirst S g s) (onFirst S g (s + 1)) (first-le s) (first-rise s), ap (onFirst S g) (add-one s ∙ sym (add-suc from w)))
 
   -- the ON subframes of a window are not more than it has
   pub first-window : (from w : ℕ) → (onFirst S g from ≤ onFirst S g (from + w)) × (onFirst S g (from + w) ≤ onFirst S g from + w)

@@ -14,7 +14,10 @@ use Rattle.subframes.proofs.subframe.window_lead.Tie as tie
 record Within (c : tie.After-on-first2) : Type 0 where
   level : c .before .before .level-of .result < 128
   ordered : c .on-first2 .result ≤ c .before .on-first .result
-  counted : c .before .on-first .result - c .on-first2 .result ≡ onCount (c .before .before .before .subframes-of .result) (c .before .before .level-of .result) (c .before .before .before .before .args .from) (c .before .before .before .before .args .w)
+  counted :
+      let a = c .before .before .before .before .args in
+      c .before .on-first .result - c .on-first2 .result
+      ≡ onCount (c .before .before .before .subframes-of .result) (c .before .before .level-of .result) (a .from) (a .w)
   on : c .before .before .before .subframes-of .result * (c .before .on-first .result - c .on-first2 .result) < 32768
   due : c .before .before .before .before .args .w * (c .before .before .level-of .result + 1) < 32768
 

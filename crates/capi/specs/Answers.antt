@@ -22,12 +22,12 @@ use Rattle.device.specs.declared.device.Device.{Device}
 use Rattle.device.specs.declared.device.Answer.{Answer as Judged}
 use Rattle.phases.specs.declared.phase.Sent.{Sent}
 use Rattle.phases.specs.declared.phase.Sent.the-variants as S
-use Rattle.schedule.specs.declared.answer.Asked.{Asked}
-use Rattle.schedule.specs.declared.answer.Asked.the-variants as Q
+use Rattle.subframes.specs.declared.answer.Asked.{Asked}
+use Rattle.subframes.specs.declared.answer.Asked.the-variants as Q
 use Rattle.schedule.specs.declared.answer.Clocks.{Clocks as LitClocks}
 use Rattle.schedule.specs.declared.answer.Clocks.the-variants as K
-use Rattle.schedule.specs.declared.answer.Lead.{Lead}
-use Rattle.schedule.specs.declared.answer.Lead.the-variants as W
+use Rattle.subframes.specs.declared.answer.Lead.{Lead}
+use Rattle.subframes.specs.declared.answer.Lead.the-variants as W
 use Rattle.capi.specs.declared.answer.Answer.{Answer}
 use Rattle.capi.specs.declared.answer.Clocks.{Clocks}
 use Rattle.capi.specs.declared.answer.Packed.{Packed as Packing}

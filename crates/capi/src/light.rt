@@ -1,6 +1,7 @@
 // The questions about light.
 ghost use mathlib.Core.Path.{_≡_};
-ghost use Rattle.schedule.specs.Answers.{onAnswer, leadAnswer, litAnswer, litClocksAnswer};
+ghost use Rattle.subframes.specs.Answers.{onAnswer, leadAnswer};
+ghost use Rattle.schedule.specs.Answers.{litAnswer, litClocksAnswer};
 ghost use Rattle.device_light.specs.OfDevice.{deviceAnswer, deviceClocksAnswer};
 ghost use Rattle.capi.specs.Answers.{ofAsked, ofLead, ofClocks};
 use crate::answer::Answer;
@@ -9,15 +10,15 @@ use crate::answer::Signed;
 use crate::answer::accept;
 use crate::answer::refuse;
 use device::Device;
-use schedule::Asked;
-use schedule::Lead;
+use subframes::Asked;
+use subframes::Lead;
 
 // Is a subframe ON?
 #[no_mangle]
 pub extern "C" fn bb_on(part: u16, configuration: u8, global: u8, subframe: u32) -> Answer
     ensures { λ r. ⌜ r ≡ ofAsked (onAnswer part configuration global subframe) ⌝ }
 {
-    of_asked(schedule::is_on(part, configuration, global, subframe))
+    of_asked(subframes::is_on(part, configuration, global, subframe))
 }
 
 // How far does a window of subframes lead?
@@ -25,7 +26,7 @@ pub extern "C" fn bb_on(part: u16, configuration: u8, global: u8, subframe: u32)
 pub extern "C" fn bb_lead(part: u16, configuration: u8, global: u8, from: u32, w: u32) -> Signed
     ensures { λ r. ⌜ r ≡ ofLead (leadAnswer part configuration global from w) ⌝ }
 {
-    of_lead(schedule::lead_of(part, configuration, global, from, w))
+    of_lead(subframes::lead_of(part, configuration, global, from, w))
 }
 
 // Is an output with a value lit at a clock of a subframe, in a phase?

@@ -1,7 +1,8 @@
 -- Each claim of specs/Claims, under its name, from the theorem that proves it. Assumes nothing.
 use Rattle.frame_laws.proofs.RoundTrip.{written-read, read-written}
+use Rattle.subframes.proofs.Claims as subframes
 use Rattle.schedule.proofs.Claims as light
-use Rattle.schedule.proofs.Lit.{count-lit}
+use Rattle.schedule.proofs.Lit.{lit-count}
 use Rattle.device_light.proofs.Claims as device-light
 use Rattle.claims.specs.Claims as claim
 use Rattle.claims.proofs.Tables.{accepted-exactly}
@@ -57,10 +58,10 @@ pub named : claim.Named
 named = compared.named
 
 pub frameOn : claim.FrameOn
-frameOn = light.frame-on
+frameOn = subframes.frame-on
 
 pub windowLead : claim.WindowLead
-windowLead = light.window-lead
+windowLead = subframes.window-lead
 
 pub litClocks : claim.LitClocks
 litClocks = record {
@@ -71,7 +72,7 @@ litClocks = record {
 }
 
 pub litCount : claim.LitCount
-litCount = count-lit
+litCount = lit-count
 
 pub examplesHold : claim.ExamplesHold
 examplesHold = examples-hold

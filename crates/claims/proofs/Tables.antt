@@ -31,10 +31,11 @@ use Rattle.model.specs.Set.{Set, Own, owned}
 use Rattle.link.proofs.Calls.{after-effect}
 use Rattle.cursor.specs.Answer.{ran}
 use Rattle.cursor.specs.declared.entry.Ran.{Ran}
-use Rattle.schedule.specs.Answers.{onRows, leadRows, litRows, onAnswer, leadAnswer, litAnswer, litClocksAnswer}
+use Rattle.subframes.specs.Answers.{onRows, leadRows, onAnswer, leadAnswer}
+use Rattle.schedule.specs.Answers.{litRows, litAnswer, litClocksAnswer}
 use Rattle.device_light.specs.OfDevice.{deviceRows, deviceAnswer, deviceClocksAnswer}
-use Rattle.schedule.specs.declared.answer.Asked.the-variants as A
-use Rattle.schedule.specs.declared.answer.Lead.the-variants as D
+use Rattle.subframes.specs.declared.answer.Asked.the-variants as A
+use Rattle.subframes.specs.declared.answer.Lead.the-variants as D
 use Rattle.schedule.specs.declared.answer.Clocks.the-variants as K
 use Rattle.compare.specs.Compare.{Pair, _against_, differsAt, groups, inGroups, compared, difference, compareTable, compareRefusal, comparison}
 use Rattle.compare.specs.declared.compared.Compared.{Compared}

@@ -47,11 +47,13 @@ use Rattle.link.specs.Called.{called}
 use Rattle.link.specs.Restore.{Writable, framePart, restorePart, restoreStates, restoreThen, gapAfter, tailsOf, arrival}
 use Rattle.cursor.specs.Answer.{ran, runAnswer}
 use Rattle.cursor.specs.declared.entry.Ran.{Ran}
-use Rattle.schedule.specs.Light.{count, level, isOn, leadOf, isLit, litAt, inRun, litCount}
-use Rattle.schedule.specs.Answers.{onRows, leadRows, litRows, litRun, onAnswer, leadAnswer, litAnswer, litClocksAnswer}
+use Rattle.subframes.specs.Subframes.{level, isOn, leadOf, howManyFrom}
+use Rattle.schedule.specs.Light.{isLit, litAt, inRun, litCount}
+use Rattle.subframes.specs.Answers.{onRows, leadRows, onAnswer, leadAnswer}
+use Rattle.schedule.specs.Answers.{litRows, litRun, litAnswer, litClocksAnswer}
 use Rattle.device_light.specs.OfDevice.{isShown, shownRun, deviceRows, deviceAnswer, deviceClocksAnswer}
-use Rattle.schedule.specs.declared.answer.Asked.the-variants as A
-use Rattle.schedule.specs.declared.answer.Lead.the-variants as D
+use Rattle.subframes.specs.declared.answer.Asked.the-variants as A
+use Rattle.subframes.specs.declared.answer.Lead.the-variants as D
 use Rattle.schedule.specs.declared.answer.Clocks.the-variants as K
 use Rattle.compare.specs.Compare.{same, compared, difference, compareTable, compareRefusal, comparison}
 use Rattle.compare.specs.Differences.{FirstDifference}
@@ -336,7 +338,7 @@ Named =
 abbrev pub FrameOn : Type 0
 FrameOn =
     (part configuration global : ℕ)
-    → count (isOn (partOf part) configuration global) 0 (subframes (partOf part) configuration) ≡ level (partOf part) configuration global + 1
+    → howManyFrom (isOn (partOf part) configuration global) 0 (subframes (partOf part) configuration) ≡ level (partOf part) configuration global + 1
 
 -- the lead of every window lies strictly between -S and S
 abbrev pub WindowLead : Type 0
@@ -365,7 +367,7 @@ pub record LitClocks : Type 0 where
 
 -- the lit clocks of an ON subframe are as many as the value has outside the edge zones, for an even output and for an odd one, of any row
 abbrev pub LitCount : Type 0
-LitCount = (p : Part) (value output : ℕ) → count (litAt p value output) 0 (p .clocks) ≡ litCount p value
+LitCount = (p : Part) (value output : ℕ) → howManyFrom (litAt p value output) 0 (p .clocks) ≡ litCount p value
 
 -- ---- the lettered examples
 

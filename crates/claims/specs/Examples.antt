@@ -22,10 +22,12 @@ use Rattle.frames.specs.declared.told.Written.the-variants as W
 use Rattle.device.specs.Step.{faulted, freshDevice}
 use Rattle.device.specs.declared.device.Device.{Device}
 use Rattle.calls.specs.Calls.{returned}
-use Rattle.schedule.specs.Light.{isEven, isOn}
-use Rattle.schedule.specs.Answers.{litRows, onAnswer, leadAnswer, litAnswer}
-use Rattle.schedule.specs.declared.answer.Asked.the-variants.{Is}
-use Rattle.schedule.specs.declared.answer.Lead.the-variants.{By}
+use Rattle.subframes.specs.Subframes.{isOn}
+use Rattle.subframes.specs.Answers.{onAnswer, leadAnswer}
+use Rattle.schedule.specs.Light.{isEven}
+use Rattle.schedule.specs.Answers.{litRows, litAnswer}
+use Rattle.subframes.specs.declared.answer.Asked.the-variants.{Is}
+use Rattle.subframes.specs.declared.answer.Lead.the-variants.{By}
 
 -- what a frame is told by, at configuration 0
 abbrev told : ℕ → ℕ → Command → Told

@@ -12,10 +12,10 @@ use Rattle.frames.specs.declared.told.Read.{Read}
 use Rattle.frames.specs.declared.told.Read.the-variants as Q
 use Rattle.frames.specs.declared.told.ReturnRead.{ReturnRead}
 use Rattle.frames.specs.declared.told.ReturnRead.the-variants as R
-use Rattle.schedule.specs.declared.answer.Asked.{Asked}
-use Rattle.schedule.specs.declared.answer.Asked.the-variants as A
-use Rattle.schedule.specs.declared.answer.Lead.{Lead}
-use Rattle.schedule.specs.declared.answer.Lead.the-variants as D
+use Rattle.subframes.specs.declared.answer.Asked.{Asked}
+use Rattle.subframes.specs.declared.answer.Asked.the-variants as A
+use Rattle.subframes.specs.declared.answer.Lead.{Lead}
+use Rattle.subframes.specs.declared.answer.Lead.the-variants as D
 use Rattle.schedule.specs.declared.answer.Clocks.{Clocks}
 use Rattle.schedule.specs.declared.answer.Clocks.the-variants as K
 use Rattle.arguments.specs.declared.judging.Asked.{Asked as Arguments}

@@ -9,7 +9,7 @@ use Rattle.tables.proofs.Booleans.{or-second, or-none}
 use Rattle.tables.proofs.Rows.{clear, none, accepted}
 use Rattle.device.specs.declared.device.Device.{Device}
 use Rattle.device.specs.Judgement.{fits}
-use Rattle.schedule.specs.declared.answer.Asked.the-variants as asked
+use Rattle.subframes.specs.declared.answer.Asked.the-variants as asked
 use Rattle.schedule.specs.declared.answer.Clocks.the-variants as clocks
 use Rattle.schedule.specs.Light.{inRun, litFirst, litEnd}
 use Rattle.schedule.specs.Answers.{positionOver}

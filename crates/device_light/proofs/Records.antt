@@ -17,7 +17,7 @@ use Rattle.registers.proofs.Fields.{limit-pos}
 use Rattle.widths.proofs.Below.{below-at, below-of}
 use Rattle.device.specs.declared.device.Device.{Device}
 use Rattle.device.specs.Judgement.{placeFits, fits, judgement}
-use Rattle.schedule.specs.declared.answer.Asked.the-variants as asked
+use Rattle.subframes.specs.declared.answer.Asked.the-variants as asked
 use Rattle.schedule.specs.declared.answer.Clocks.the-variants as clocks
 use Rattle.schedule.specs.Answers.{positionOver, litRows, litAnswer, litClocksAnswer}
 use Rattle.device_light.specs.OfDevice.{activeValue, isShown, shownRun, deviceRows, deviceAnswer, deviceClocksAnswer}

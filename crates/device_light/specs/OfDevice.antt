@@ -12,8 +12,8 @@ use Rattle.registers.specs.declared.registers.Registers.{Registers}
 use Rattle.device.specs.Judgement.{fits}
 use Rattle.schedule.specs.Light.{isLit}
 use Rattle.schedule.specs.Answers.{positionOver, litRun}
-use Rattle.schedule.specs.declared.answer.Asked.{Asked}
-use Rattle.schedule.specs.declared.answer.Asked.the-variants as asked
+use Rattle.subframes.specs.declared.answer.Asked.{Asked}
+use Rattle.subframes.specs.declared.answer.Asked.the-variants as asked
 use Rattle.schedule.specs.declared.answer.Clocks.{Clocks}
 use Rattle.schedule.specs.declared.answer.Clocks.the-variants as clocks
 

@@ -5,8 +5,8 @@ ghost use Rattle.device_light.specs.OfDevice.{activeValue, deviceAnswer,
 use device::Device;
 use device::judge;
 use registers::Registers;
-use schedule::Asked;
 use schedule::Clocks;
+use subframes::Asked;
 
 // Is an output of the device lit at a clock of a subframe, in a phase?
 pub fn is_device_lit(device: Device, output: u32, subframe: u32, clock: u32, phase: u32) -> Asked

@@ -1,45 +1,20 @@
 -- "Light" of docs/RULES.md for each part, configuration and global byte, as statements about what the questions answer. They follow from the
--- laws of Subframes and Lit, which hold for any S, level and row. Assumes nothing.
+-- laws of Lit, which hold for any row. Assumes nothing.
 use mathlib.Core.Path.{_≡_, refl, sym, ap, ap₂, _∙_}
 use mathlib.Core.Bool.{Bool, true, false, cond}
-use Prim.Native.Nat.{ℕ, _+_, _-_, _*_, _/_, _≤_}
+use Prim.Native.Nat.{ℕ, _+_, _*_, _≤_}
 use native.Mathlib.Omega.{arith}
 use lib.Dec.{eqb}
-use lib.IntN.{pos, negℤ}
-use lib.Signed.{_<ℤ_}
 use Rattle.tables.specs.Refusals.{first, answer}
-use Rattle.parts.specs.Parts.{partOf, subframes}
 use Rattle.tables.proofs.Rows.{clear, none, accepted}
-use Rattle.schedule.specs.declared.answer.Asked.the-variants as asked
+use Rattle.parts.specs.Parts.{partOf, subframes}
+use Rattle.subframes.specs.declared.answer.Asked.the-variants as asked
+use Rattle.subframes.specs.Subframes.{howManyFrom, level, isOn}
+use Rattle.subframes.proofs.Claims.{frame-on}
 use Rattle.schedule.specs.declared.answer.Clocks.the-variants as clocks
-use Rattle.schedule.specs.Light.{count, total, level, isOn, leadOf, isEven, isLit, inRun, litFrom, litTo, litCount, litFirst, litEnd}
+use Rattle.schedule.specs.Light.{total, isEven, isLit, inRun, litFrom, litTo, litCount, litFirst, litEnd}
 use Rattle.schedule.specs.Answers.{litRows, litAnswer, litClocksAnswer}
-use Rattle.schedule.proofs.Subframes.{level-lt, count-frame, count-quotients, lead-below}
 use Rattle.schedule.proofs.Lit.{lit-run, lit-first-end, run-empty, total-lit, lit-on, position-zero}
-
--- a frame has exactly g + 1 ON subframes
-pub frame-on :
-    (part configuration global : ℕ)
-    → count (isOn (partOf part) configuration global) 0 (subframes (partOf part) configuration) ≡ level (partOf part) configuration global + 1
-frame-on part configuration global =
-    count-frame (subframes (partOf part) configuration) (level (partOf part) configuration global) (level-lt part configuration global)
-
--- the ON count of a window is a difference of two quotients
-pub window-on :
-    (part configuration global from w : ℕ)
-    → count (isOn (partOf part) configuration global) from w
-    ≡ (from + w) * (level (partOf part) configuration global + 1) / subframes (partOf part) configuration
-    - from * (level (partOf part) configuration global + 1) / subframes (partOf part) configuration
-window-on part configuration global from w =
-    count-quotients (subframes (partOf part) configuration) (level (partOf part) configuration global) (level-lt part configuration global) from w
-
--- the lead of every window lies strictly between -S and S
-pub window-lead :
-    (part configuration global from w : ℕ)
-    → (negℤ (pos (subframes (partOf part) configuration)) <ℤ leadOf (partOf part) configuration global from w)
-    × (leadOf (partOf part) configuration global from w <ℤ pos (subframes (partOf part) configuration))
-window-lead part configuration global from w =
-    lead-below (subframes (partOf part) configuration) (level (partOf part) configuration global) (level-lt part configuration global) from w
 
 -- an accepted question about an ON subframe says: lit in one run of clocks, and no others
 pub lit-in-run :
@@ -96,7 +71,8 @@ pub lit-clocks :
 unfolding litAnswer litClocksAnswer
 lit-clocks part configuration global value output subframe clock phase f e q a =
     let p = partOf part in
-    let g = run-given (first (litRows part configuration value output subframe 0 phase)) (litFirst p configuration global value output subframe) (litEnd p configuration global value output subframe) f e q in
+    let refusal : ℕ = first (litRows part configuration value output subframe 0 phase) in
+    let g = run-given refusal (litFirst p configuration global value output subframe) (litEnd p configuration global value output subframe) f e q in
     sym
     (accepted asked.Refused refl a
     (ap asked.Is
@@ -115,7 +91,7 @@ lit-clocks-accepted part configuration value output subframe clock phase a =
 -- in a frame, over its subframes and their clocks, g + 1 times as many clocks are lit as in an ON subframe
 pub frame-lit :
     (part configuration global value output : ℕ)
-    → total (λ s. count (isLit (partOf part) configuration global value output s) 0 (partOf part .clocks)) (subframes (partOf part) configuration)
+    → total (λ s. howManyFrom (isLit (partOf part) configuration global value output s) 0 (partOf part .clocks)) (subframes (partOf part) configuration)
     ≡ (level (partOf part) configuration global + 1) * litCount (partOf part) value
 frame-lit part configuration global value output =
     total-lit (partOf part) configuration global value output (subframes (partOf part) configuration)

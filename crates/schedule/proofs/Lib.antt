@@ -1,5 +1,3 @@
--- Laws of light: signed differences, ON subframes, lit clocks, and the claims for each part.
-pub mod Signed
-pub mod Subframes
+-- Laws of light: lit clocks, and the claims for each part.
 pub mod Lit
 pub mod Claims

@@ -2,7 +2,7 @@
 -- edge zone ends and stops at the value or the other edge zone; an odd one's is its mirror image. Both have the same number of clocks.
 -- A test of a run is two tests of its ends, by cases on each; the number of clocks of a run by induction on the clocks. Assumes nothing.
 use mathlib.Core.Path.{_≡_, refl, sym, ap, ap₂, _∙_}
-use mathlib.Core.Bool.{Bool, true, false, _&&_, _||_, cond}
+use mathlib.Core.Bool.{Bool, true, false, _&&_, _||_, cond, and-comm}
 use Prim.Native.Nat.{ℕ, zero, suc, _+_, _-_, _*_, _%_, _<_, _≤_, min, max}
 use native.Mathlib.Nat.{add-zero, zero-add, zero-mul, one-mul, add-mul}
 use native.Mathlib.Omega.{arith}
@@ -11,9 +11,10 @@ use borrow.Author.Tests.{eqb-true, eqb-false, eq-eqb, ne-eqb, ltb-true, ltb-fals
 use Rattle.bits.specs.Bits.{digit}
 use Rattle.parts.specs.Parts.{Part, partOf, subframes, multiplex}
 use Rattle.parts.proofs.Laws.{each-row}
+use Rattle.subframes.specs.Subframes.{howManyFrom, isOn}
 use Rattle.schedule.specs.Answers.{positionOver}
-use Rattle.schedule.specs.Light.{count, total, nameNumber, litAt, litBy, isEven, inRun, litFrom, litTo, litCount, isOn, isLit, litFirst, litEnd}
-use Rattle.tables.proofs.Booleans.{or-none, and-false, or-second}
+use Rattle.schedule.specs.Light.{total, nameNumber, litAt, litBy, isEven, inRun, litFrom, litTo, litCount, isLit, litFirst, litEnd}
+use Rattle.tables.proofs.Booleans.{or-none, and-false, and-assoc, or-second}
 
 ltb-min : (c m n : ℕ) → ltb c (min m n) ≡ ltb c n && ltb c m
 ltb-min c m n = at (ltb c n) refl (ltb c m) refl where
@@ -29,19 +30,24 @@ leb-max c m n = at (leb m c) refl (leb n c) refl where
   at true e false f = lt-leb (max m n) c (omega (arith, leb-false n c f))
   at true e true f = le-leb (max m n) c (omega (arith, leb-true m c e, leb-true n c f))
 
-and-turn : (a b c : Bool) → a && (b && c) ≡ (a && c) && b
-and-turn false b c = refl
-and-turn true false false = refl
-and-turn true false true = refl
-and-turn true true false = refl
-and-turn true true true = refl
-
 -- clock by clock, an output is lit in one run
 pub lit-run : (p : Part) (v output c : ℕ) → litAt p v output c ≡ inRun (litFrom p v (isEven output)) (litTo p v (isEven output)) c
 lit-run p v output c = at (isEven output) where
-  at : (t : Bool) → leb (p .edge) c && (ltb c (p .clocks - p .edge) && cond t (ltb c v) (leb (p .clocks - v) c)) ≡ inRun (cond t (p .edge) (max (p .edge) (p .clocks - v))) (cond t (min v (p .clocks - p .edge)) (p .clocks - p .edge)) c
-  at true = ap (λ (t : Bool). leb (p .edge) c && t) (sym (ltb-min c v (p .clocks - p .edge)))
-  at false = and-turn (leb (p .edge) c) (ltb c (p .clocks - p .edge)) (leb (p .clocks - v) c) ∙ ap (λ (t : Bool). t && ltb c (p .clocks - p .edge)) (sym (leb-max c (p .edge) (p .clocks - v)))
+  other-edge : ℕ
+  other-edge = p .clocks - p .edge
+
+  by-value : ℕ
+  by-value = p .clocks - v
+
+  at :
+      (t : Bool)
+      → leb (p .edge) c && (ltb c other-edge && cond t (ltb c v) (leb by-value c))
+      ≡ inRun (cond t (p .edge) (max (p .edge) by-value)) (cond t (min v other-edge) other-edge) c
+  at true = ap (λ (t : Bool). leb (p .edge) c && t) (sym (ltb-min c v other-edge))
+  at false =
+      ap (λ (t : Bool). leb (p .edge) c && t) (and-comm (ltb c other-edge) (leb by-value c))
+      ∙ sym (and-assoc (leb (p .edge) c) (leb by-value c) (ltb c other-edge))
+      ∙ ap (λ (t : Bool). t && ltb c other-edge) (sym (leb-max c (p .edge) by-value))
 
 -- a run that stops where it begins has no clock
 pub run-empty : (from to c : ℕ) → to ≤ from → inRun from to c ≡ false
@@ -69,17 +75,23 @@ lit-first-end p configuration global v output s c = at (isOn p configuration glo
 
 -- ---- how many
 
-count-same : (f g : ℕ → Bool) → ((c : ℕ) → f c ≡ g c) → (from n : ℕ) → count f from n ≡ count g from n
-unfolding count
-count-same f g e from zero = refl
-count-same f g e from (suc n) = ap₂ (λ (k : ℕ) (t : Bool). k + digit t) (count-same f g e from n) (e (from + n))
+howManyFrom-same : (f g : ℕ → Bool) → ((c : ℕ) → f c ≡ g c) → (from n : ℕ) → howManyFrom f from n ≡ howManyFrom g from n
+unfolding howManyFrom
+howManyFrom-same f g e from zero = refl
+howManyFrom-same f g e from (suc n) = ap₂ (λ (k : ℕ) (t : Bool). k + digit t) (howManyFrom-same f g e from n) (e (from + n))
 
 -- a run that begins after 0 has as many of the first n clocks as lie in it
-pub count-run : (from to n : ℕ) → count (inRun from to) 0 n ≡ min to n - from
-unfolding count
-count-run from to zero = omega arith
-count-run from to (suc n) = at (count-run from to n) (leb from (0 + n)) refl (ltb (0 + n) to) refl where
-  at : count (inRun from to) 0 n ≡ min to n - from → (s : Bool) → leb from (0 + n) ≡ s → (t : Bool) → ltb (0 + n) to ≡ t → count (inRun from to) 0 n + digit (s && t) ≡ min to (suc n) - from
+pub howManyFrom-run : (from to n : ℕ) → howManyFrom (inRun from to) 0 n ≡ min to n - from
+unfolding howManyFrom
+howManyFrom-run from to zero = omega arith
+howManyFrom-run from to (suc n) = at (howManyFrom-run from to n) (leb from (0 + n)) refl (ltb (0 + n) to) refl where
+  at :
+      howManyFrom (inRun from to) 0 n ≡ min to n - from
+      → (s : Bool)
+      → leb from (0 + n) ≡ s
+      → (t : Bool)
+      → ltb (0 + n) to ≡ t
+      → howManyFrom (inRun from to) 0 n + digit (s && t) ≡ min to (suc n) - from
   at h false e t f = omega (arith, leb-false from (0 + n) e)
   at h true e false f = omega (arith, leb-true from (0 + n) e, ltb-false (0 + n) to f)
   at h true e true f = omega (arith, leb-true from (0 + n) e, ltb-true (0 + n) to f)
@@ -88,10 +100,10 @@ mirror : (e n v : ℕ) → n - e - max e (n - v) ≡ min v (n - e) - e
 mirror e n v = omega arith
 
 -- an output is lit for as many clocks of a subframe, even or odd
-pub count-lit : (p : Part) (v output : ℕ) → count (litAt p v output) 0 (p .clocks) ≡ litCount p v
-count-lit p v output =
-    count-same (litAt p v output) (inRun (litFrom p v (isEven output)) (litTo p v (isEven output))) (lit-run p v output) 0 (p .clocks)
-    ∙ count-run (litFrom p v (isEven output)) (litTo p v (isEven output)) (p .clocks)
+pub lit-count : (p : Part) (v output : ℕ) → howManyFrom (litAt p v output) 0 (p .clocks) ≡ litCount p v
+lit-count p v output =
+    howManyFrom-same (litAt p v output) (inRun (litFrom p v (isEven output)) (litTo p v (isEven output))) (lit-run p v output) 0 (p .clocks)
+    ∙ howManyFrom-run (litFrom p v (isEven output)) (litTo p v (isEven output)) (p .clocks)
     ∙ at (isEven output) where
       at : (t : Bool) → min (cond t (min v (p .clocks - p .edge)) (p .clocks - p .edge)) (p .clocks) - cond t (p .edge) (max (p .edge) (p .clocks - v)) ≡ litCount p v
       at true =
@@ -109,24 +121,24 @@ lit-on p configuration global v output s c e = ap (λ (t : Bool). t && litAt p v
 pub lit-off : (p : Part) (configuration global v output s c : ℕ) → isOn p configuration global s ≡ false → isLit p configuration global v output s c ≡ false
 lit-off p configuration global v output s c e = ap (λ (t : Bool). t && litAt p v output c) e
 
-count-none : (from n : ℕ) → count (λ c. false) from n ≡ 0
-unfolding count
-count-none from zero = refl
-count-none from (suc n) = add-zero _ ∙ count-none from n
+howManyFrom-none : (from n : ℕ) → howManyFrom (λ c. false) from n ≡ 0
+unfolding howManyFrom
+howManyFrom-none from zero = refl
+howManyFrom-none from (suc n) = add-zero _ ∙ howManyFrom-none from n
 
 -- the lit clocks of the first n subframes
 pub total-lit :
     (p : Part) (configuration global v output n : ℕ)
-    → total (λ s. count (isLit p configuration global v output s) 0 (p .clocks)) n ≡ count (isOn p configuration global) 0 n * litCount p v
-unfolding count total
+    → total (λ s. howManyFrom (isLit p configuration global v output s) 0 (p .clocks)) n ≡ howManyFrom (isOn p configuration global) 0 n * litCount p v
+unfolding howManyFrom total
 total-lit p configuration global v output zero = sym (zero-mul (litCount p v))
 total-lit p configuration global v output (suc n) =
     ap₂ (λ (j k : ℕ). j + k) (total-lit p configuration global v output n)
     (at (isOn p configuration global n) ∙ ap (λ (k : ℕ). digit (isOn p configuration global k) * litCount p v) (sym (zero-add n)))
-    ∙ sym (add-mul (count (isOn p configuration global) 0 n) (digit (isOn p configuration global (0 + n))) (litCount p v)) where
-      at : (t : Bool) → count (λ c. t && litAt p v output c) 0 (p .clocks) ≡ digit t * litCount p v
-      at true = count-lit p v output ∙ sym (one-mul (litCount p v))
-      at false = count-none 0 (p .clocks) ∙ sym (zero-mul (litCount p v))
+    ∙ sym (add-mul (howManyFrom (isOn p configuration global) 0 n) (digit (isOn p configuration global (0 + n))) (litCount p v)) where
+      at : (t : Bool) → howManyFrom (λ c. t && litAt p v output c) 0 (p .clocks) ≡ digit t * litCount p v
+      at true = lit-count p v output ∙ sym (one-mul (litCount p v))
+      at false = howManyFrom-none 0 (p .clocks) ∙ sym (zero-mul (litCount p v))
 
 -- ---- by the tests of the code
 

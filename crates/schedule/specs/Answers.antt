@@ -1,36 +1,22 @@
 -- What the questions about light answer, for any input: the refusal of their table, or the answer of Light.
-use Prim.Native.Nat.{ℕ, _+_, _*_}
+use Prim.Native.Nat.{ℕ, _*_}
 use mathlib.Core.Bool.{Bool, not, _||_}
 use mathlib.Core.List.{List, [], _∷_}
 use lib.Dec.{ltb, leb}
 use Rattle.tables.specs.Refusals.{Row, _when_, first, answer}
 use Rattle.parts.specs.Parts.{Part, known, partOf, multiplex, subframes, limit}
-use Rattle.schedule.specs.Light.{isOn, leadOf, isLit, litFirst, litEnd}
-use Rattle.schedule.specs.declared.answer.Asked.{Asked}
-use Rattle.schedule.specs.declared.answer.Asked.the-variants as asked
+use Rattle.subframes.specs.declared.answer.Asked.{Asked}
+use Rattle.subframes.specs.declared.answer.Asked.the-variants as asked
+use Rattle.schedule.specs.Light.{isLit, litFirst, litEnd}
 use Rattle.schedule.specs.declared.answer.Clocks.{Clocks}
 use Rattle.schedule.specs.declared.answer.Clocks.the-variants as clocks
-use Rattle.schedule.specs.declared.answer.Lead.{Lead}
-use Rattle.schedule.specs.declared.answer.Lead.the-variants as lead
-
--- a window of w subframes does not end within the frame
-abbrev pub windowOver : Part → ℕ → ℕ → ℕ → Bool
-windowOver p configuration from w = ltb (subframes p configuration) (from + w)
 
 -- an output, a subframe, a clock or a phase that the part and its configuration do not have: MUX1 only where multiplexed
 unfoldable pub positionOver : Part → ℕ → ℕ → ℕ → ℕ → ℕ → Bool
 positionOver p configuration output subframe clock phase =
     leb (8 * p .banks) output || (leb (subframes p configuration) subframe || (leb (p .clocks) clock || ltb (multiplex configuration) phase))
 
--- ---- the tables of refusals
-
--- is a subframe ON
-abbrev pub onRows : ℕ → ℕ → ℕ → List Row
-onRows part configuration subframe = (1 when not (known part)) ∷ (13 when leb (subframes (partOf part) configuration) subframe) ∷ []
-
--- the lead of a window
-abbrev pub leadRows : ℕ → ℕ → ℕ → ℕ → List Row
-leadRows part configuration from w = (1 when not (known part)) ∷ (13 when windowOver (partOf part) configuration from w) ∷ []
+-- ---- the table of refusals
 
 -- is an output lit
 abbrev pub litRows : ℕ → ℕ → ℕ → ℕ → ℕ → ℕ → ℕ → List Row
@@ -38,16 +24,6 @@ litRows part configuration value output subframe clock phase =
     (1 when not (known part)) ∷ (6 when leb (limit (partOf part)) value) ∷ (13 when positionOver (partOf part) configuration output subframe clock phase) ∷ []
 
 -- ---- the answers
-
--- is a subframe ON
-unfoldable pub onAnswer : ℕ → ℕ → ℕ → ℕ → Asked
-onAnswer part configuration global subframe =
-    answer (first (onRows part configuration subframe)) asked.Refused (asked.Is (isOn (partOf part) configuration global subframe))
-
--- the lead of a window
-unfoldable pub leadAnswer : ℕ → ℕ → ℕ → ℕ → ℕ → Lead
-leadAnswer part configuration global from w =
-    answer (first (leadRows part configuration from w)) lead.Refused (lead.By (leadOf (partOf part) configuration global from w))
 
 -- is an output with a value lit at a clock of a subframe, in a phase
 unfoldable pub litAnswer : ℕ → ℕ → ℕ → ℕ → ℕ → ℕ → ℕ → ℕ → Asked

@@ -1,3 +1,3 @@
--- Light: ON subframes, leads and lit clocks, and what the questions about them answer.
+-- Light: lit clocks, and what the questions about them answer.
 pub mod Light
 pub mod Answers

@@ -1,41 +1,16 @@
--- docs/RULES.md, "Light": which subframes of a frame are ON, the lead of a window of subframes, and the clocks at which an output is lit.
--- A frame has S subframes and a level g below S; a subframe has P clocks, of which the first and last e are the edge zones.
--- All is said for any S and g, any row and any configuration. Lit clocks are said twice, clock by clock and as one run; that these agree,
--- and every other closed form, is a law (proofs/).
-use Prim.Native.Nat.{ℕ, zero, suc, _+_, _-_, _*_, _/_, _%_, min, max}
+-- docs/RULES.md, "Light": the clocks at which an output is lit.
+-- A subframe has P clocks, of which the first and last e are the edge zones. All is said for any row and any configuration. Lit clocks are
+-- said twice, clock by clock and as one run; that these agree, and every other closed form, is a law (proofs/).
+use Prim.Native.Nat.{ℕ, zero, suc, _+_, _-_, _%_, min, max}
 use mathlib.Core.Bool.{Bool, _&&_, cond}
 use lib.Dec.{eqb, ltb, leb}
-use lib.IntN.{ℤ, pos, _-ℤ_}
-use Rattle.bits.specs.Bits.{digit}
-use Rattle.parts.specs.Parts.{Part, subframes}
-
--- how many of the n numbers from `from` on pass a test
-unfoldable pub count : (ℕ → Bool) → ℕ → ℕ → ℕ
-count f from zero = 0
-count f from (suc n) = count f from n + digit (f (from + n))
+use Rattle.parts.specs.Parts.{Part}
+use Rattle.subframes.specs.Subframes.{isOn}
 
 -- the sum of f over the n numbers from 0 on
 unfoldable pub total : (ℕ → ℕ) → ℕ → ℕ
 total f zero = 0
 total f (suc n) = total f n + f n
-
--- ---- subframes
-
--- s(g + 1) div S
-abbrev pub onFirst : ℕ → ℕ → ℕ → ℕ
-onFirst S g s = s * (g + 1) / S
-
--- subframe s is ON
-abbrev pub on : ℕ → ℕ → ℕ → Bool
-on S g s = ltb (onFirst S g s) (onFirst S g (s + 1))
-
--- the ON subframes of a window of w subframes
-abbrev pub onCount : ℕ → ℕ → ℕ → ℕ → ℕ
-onCount S g from w = count (on S g) from w
-
--- the lead of a window: S times its ON count less w(g + 1)
-abbrev pub lead : ℕ → ℕ → ℕ → ℕ → ℤ
-lead S g from w = pos (S * onCount S g from w) -ℤ pos (w * (g + 1))
 
 -- ---- clocks of an ON subframe
 
@@ -74,18 +49,6 @@ abbrev pub litCount : Part → ℕ → ℕ
 litCount p v = min v (p .clocks - p .edge) - p .edge
 
 -- ---- by part, configuration and global byte
-
--- g: any byte, modulo S
-abbrev pub level : Part → ℕ → ℕ → ℕ
-level p configuration global = global % subframes p configuration
-
--- subframe s is ON
-abbrev pub isOn : Part → ℕ → ℕ → ℕ → Bool
-isOn p configuration global s = on (subframes p configuration) (level p configuration global) s
-
--- the lead of a window
-abbrev pub leadOf : Part → ℕ → ℕ → ℕ → ℕ → ℤ
-leadOf p configuration global from w = lead (subframes p configuration) (level p configuration global) from w
 
 -- an output with value v is lit at clock c of subframe s
 abbrev pub isLit : Part → ℕ → ℕ → ℕ → ℕ → ℕ → ℕ → Bool

@@ -1,10 +1,10 @@
 // The clocks at which an output is lit.
 ghost use mathlib.Core.Path.{_≡_};
-ghost use Rattle.parts.specs.Parts.{partOf, limit, subframes};
+ghost use Rattle.parts.specs.Parts.{partOf, limit};
 ghost use Prim.Native.Nat.{_<_};
 ghost use Rattle.schedule.specs.Light.{litAt, isEven, isLit};
-use crate::subframe::is_subframe_on;
 use parts::constants_of;
+use subframes::is_subframe_on;
 
 // In an OFF subframe at none.
 pub fn is_output_lit(
@@ -16,7 +16,7 @@ pub fn is_output_lit(
     subframe: u32,
     clock: u32,
 ) -> bool
-    requires { ⌜ (subframe < subframes (partOf part) configuration) × (value < limit (partOf part)) ⌝ }
+    requires { ⌜ value < limit (partOf part) ⌝ }
     ensures { λ r. ⌜ r ≡ isLit (partOf part) configuration global value output subframe clock ⌝ }
 {
     is_subframe_on(part, configuration, global, subframe)

@@ -1,13 +1,13 @@
 // The clocks at which an output is lit, as one run: no walk over the clocks.
 ghost use mathlib.Core.Path.{_≡_};
 ghost use Prim.Native.Nat.{_<_};
-ghost use Rattle.parts.specs.Parts.{partOf, limit, subframes};
+ghost use Rattle.parts.specs.Parts.{partOf, limit};
 ghost use Rattle.schedule.specs.Light.{isEven, litFrom, litTo};
 ghost use Rattle.schedule.specs.Answers.{litRun};
 use crate::answer::Clocks;
 use crate::clocks::is_output_even;
-use crate::subframe::is_subframe_on;
 use parts::constants_of;
+use subframes::is_subframe_on;
 
 // In an OFF subframe, and with a value within the edge zone, at none.
 pub fn lit_run(
@@ -18,7 +18,7 @@ pub fn lit_run(
     output: u32,
     subframe: u32,
 ) -> Clocks
-    requires { ⌜ (subframe < subframes (partOf part) configuration) × (value < limit (partOf part)) ⌝ }
+    requires { ⌜ value < limit (partOf part) ⌝ }
     ensures { λ r. ⌜ r ≡ litRun (partOf part) configuration global value output subframe ⌝ }
 {
     if !is_subframe_on(part, configuration, global, subframe) {

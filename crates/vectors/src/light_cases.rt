@@ -1,8 +1,8 @@
 // Light, i to k: ON subframes, leads, and the clocks at which an output is lit, each clock asked for and counted.
 ghost use mathlib.Core.Path.{_≡_};
 ghost use Prim.Native.Nat.{_+_, _<_, _≤_};
-use schedule::Asked;
-use schedule::Lead;
+use subframes::Asked;
+use subframes::Lead;
 
 // Two outputs in wire order: B7 is odd, R0 is even.
 const B7: u32 = 0;
@@ -40,7 +40,7 @@ fn subframes() {
 }
 
 fn on_number(subframe: u32) -> u8 {
-    match schedule::is_on(6974, 0, 96, subframe) {
+    match subframes::is_on(6974, 0, 96, subframe) {
         Asked::Is(on) => on as u8,
         Asked::Refused(_) => 2,
     }
@@ -67,7 +67,7 @@ fn lead_case(name: &[u8], start: u32, length: u32, should: i32) {
     cases::text(b": should be");
     cases::signed(should);
     cases::text(b", came out");
-    match schedule::lead_of(6974, 0, 96, start, length) {
+    match subframes::lead_of(6974, 0, 96, start, length) {
         Lead::By(lead) => {
             cases::signed(lead);
             cases::verdict(lead == should);

@@ -1,7 +1,7 @@
 use mathlib.Core.Path.{sym, ap, _∙_}
 use Prim.Native.Nat.{ℕ}
 use Rattle.tables.proofs.Rows.{refused}
-use Rattle.schedule.specs.declared.answer.Asked.the-variants.{Is, Refused}
+use Rattle.subframes.specs.declared.answer.Asked.the-variants.{Is, Refused}
 use Rattle.schedule.specs.Answers.{litAnswer}
 use Rattle.device_light.specs.OfDevice.{isShown, deviceAnswer}
 use Rattle.device_light.proofs.Records.{first-record, device-lit}

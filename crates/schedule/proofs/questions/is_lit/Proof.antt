@@ -2,10 +2,9 @@ use mathlib.Core.Path.{refl, sym, ap, _∙_}
 use borrow.Author.Tests.{leb-false}
 use Rattle.parts.specs.Parts.{partOf}
 use Rattle.tables.proofs.Rows.{clear, refused, accepted}
-use Rattle.schedule.specs.declared.answer.Asked.the-variants.{Is, Refused}
+use Rattle.subframes.specs.declared.answer.Asked.the-variants.{Is, Refused}
 use Rattle.schedule.specs.Light.{isLit}
 use Rattle.schedule.specs.Answers.{litRows, litAnswer}
-use Rattle.schedule.proofs.Lit.{position-within}
 use borrow.Author.Needs.{needs}
 use Rattle.schedule.proofs.questions.is_lit.Statement.{statement}
 use Rattle.schedule.proofs.questions.is_lit.Tie as tie
@@ -21,7 +20,7 @@ returns c = let a = c .before .before .args in
 is-output-lit-requires : tie.Need-is-output-lit-requires
 is-output-lit-requires c κs = let a = c .before .before .args in
     let n = clear (litRows (a .part) (a .configuration) (a .value) (a .output) (a .subframe) (a .clock) (a .phase)) refl (sym (c .before .judge-lit .ensures) ∙ c .if1 .left) in
-    (position-within (partOf (a .part)) (a .configuration) (a .output) (a .subframe) (a .clock) (a .phase) (n .1 .1 .0) .1, leb-false _ _ (n .1 .0))
+    leb-false _ _ (n .1 .0)
 
 returns-2 : tie.Need-returns-2
 unfolding litAnswer

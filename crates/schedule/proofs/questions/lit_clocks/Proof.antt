@@ -4,7 +4,6 @@ use Rattle.parts.specs.Parts.{partOf}
 use Rattle.tables.proofs.Rows.{clear, refused, accepted}
 use Rattle.schedule.specs.declared.answer.Clocks.the-variants.{Refused}
 use Rattle.schedule.specs.Answers.{litRows, litRun, litClocksAnswer}
-use Rattle.schedule.proofs.Lit.{position-within}
 use borrow.Author.Needs.{needs}
 use Rattle.schedule.proofs.questions.lit_clocks.Statement.{statement}
 use Rattle.schedule.proofs.questions.lit_clocks.Tie as tie
@@ -20,7 +19,7 @@ returns c = let a = c .before .before .args in
 lit-run-requires : tie.Need-lit-run-requires
 lit-run-requires c κs = let a = c .before .before .args in
     let n = clear (litRows (a .part) (a .configuration) (a .value) (a .output) (a .subframe) 0 (a .phase)) refl (sym (c .before .judge-lit .ensures) ∙ c .if1 .left) in
-    (position-within (partOf (a .part)) (a .configuration) (a .output) (a .subframe) 0 (a .phase) (n .1 .1 .0) .1, leb-false _ _ (n .1 .0))
+    leb-false _ _ (n .1 .0)
 
 returns-2 : tie.Need-returns-2
 unfolding litClocksAnswer

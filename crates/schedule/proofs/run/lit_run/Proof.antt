@@ -6,7 +6,8 @@ use borrow.Author.Tests.{not-true, not-false, le-ltb, lt-ltb}
 use Rattle.parts.specs.Parts.{partOf}
 use Rattle.schedule.specs.declared.answer.Clocks.{Clocks}
 use Rattle.schedule.specs.declared.answer.Clocks.the-variants.{Run}
-use Rattle.schedule.specs.Light.{isEven, litFrom, litTo, isOn}
+use Rattle.subframes.specs.Subframes.{isOn}
+use Rattle.schedule.specs.Light.{isEven, litFrom, litTo}
 use Rattle.schedule.specs.Answers.{litRun}
 use borrow.Author.Needs.{needs}
 use Rattle.schedule.proofs.run.lit_run.Statement.{statement}

@@ -41,9 +41,11 @@ use Rattle.compare.specs.Compare.{Pair, _against_, differsAt, groups, inGroups,
 use Rattle.compare.specs.declared.compared.Compared.{Compared}
 use Rattle.arguments.specs.Arguments.{parsed, askedRows, judged}
 use Rattle.arguments.specs.declared.judging.Asked.the-variants as B
-use Rattle.capi.specs.Answers.{accepted, refused, partRows}
-use Rattle.capi.specs.declared.answer.Answer.{Answer as RowAnswer}
-use Rattle.claims.specs.Tables.{Exactly, Answers, Leaves, convertedNumber, writtenNumber, readNumber, returnReadNumber, askedNumber, leadNumber, clocksNumber, argumentsNumber}
+use Rattle.answers.specs.Answers.{accepted, refused}
+use Rattle.answers.specs.declared.answer.Answer.{Answer as RowAnswer}
+use Rattle.capi_bits.specs.PartAnswers.{partRows}
+use Rattle.capi_frames.specs.FrameAnswers.{returnReadNumber}
+use Rattle.claims.specs.Tables.{Exactly, Answers, Leaves, convertedNumber, writtenNumber, readNumber, askedNumber, leadNumber, clocksNumber, argumentsNumber}
 use Rattle.claims.specs.Claims as claim
 
 -- ---- any table, any answer, any lent list

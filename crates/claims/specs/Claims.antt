@@ -60,9 +60,11 @@ use Rattle.compare.specs.Differences.{FirstDifference}
 use Rattle.compare.specs.declared.compared.Compared.{Compared}
 use Rattle.arguments.specs.Arguments.{parsed, valueOf, askedRows, asked}
 use Rattle.arguments.specs.declared.judging.Asked.the-variants as B
-use Rattle.capi.specs.Answers.{accepted, refused, partRows, ofPart}
-use Rattle.capi.specs.declared.answer.Answer.{Answer as RowAnswer}
-use Rattle.claims.specs.Tables.{Exactly, Answers, Leaves, convertedNumber, writtenNumber, readNumber, returnReadNumber, askedNumber, leadNumber, clocksNumber, argumentsNumber}
+use Rattle.answers.specs.Answers.{accepted, refused}
+use Rattle.answers.specs.declared.answer.Answer.{Answer as RowAnswer}
+use Rattle.capi_bits.specs.PartAnswers.{partRows, ofPart}
+use Rattle.capi_frames.specs.FrameAnswers.{returnReadNumber}
+use Rattle.claims.specs.Tables.{Exactly, Answers, Leaves, convertedNumber, writtenNumber, readNumber, askedNumber, leadNumber, clocksNumber, argumentsNumber}
 use Rattle.claims.specs.Examples.{Each, examples}
 
 -- each is a byte

@@ -1,5 +1,6 @@
 -- What it is to answer by a table of refusals: the number that an answer carries, 0 where it is none, is given exactly under the table's
--- conditions; and what then stands in the answer and in a lent list. Then that number for each kind of answer.
+-- conditions; and what then stands in the answer and in a lent list. Then that number for each kind of answer; of the
+-- return reader it is capi_frames/specs/FrameAnswers: returnReadNumber.
 use Prim.Native.Nat.{ℕ}
 use mathlib.Core.Path.{_≡_}
 use mathlib.Core.List.{List}
@@ -10,8 +11,6 @@ use Rattle.frames.specs.declared.told.Written.{Written}
 use Rattle.frames.specs.declared.told.Written.the-variants as W
 use Rattle.frames.specs.declared.told.Read.{Read}
 use Rattle.frames.specs.declared.told.Read.the-variants as Q
-use Rattle.frames.specs.declared.told.ReturnRead.{ReturnRead}
-use Rattle.frames.specs.declared.told.ReturnRead.the-variants as R
 use Rattle.subframes.specs.declared.answer.Asked.{Asked}
 use Rattle.subframes.specs.declared.answer.Asked.the-variants as A
 use Rattle.subframes.specs.declared.answer.Lead.{Lead}
@@ -57,11 +56,6 @@ readNumber (Q.Byte b) = 0
 readNumber (Q.Bytes n) = 0
 readNumber (Q.Values n) = 0
 readNumber (Q.Refused n) = n
-
--- of the return reader
-abbrev pub returnReadNumber : ReturnRead → ℕ
-returnReadNumber (R.Count n) = 0
-returnReadNumber (R.Refused n) = n
 
 -- of a question about light
 abbrev pub askedNumber : Asked → ℕ

@@ -1,0 +1,2 @@
+-- What an operation for C and Rust answers.
+pub mod Answers

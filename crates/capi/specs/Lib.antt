@@ -1,2 +1,0 @@
--- What an exported operation's numbers are.
-pub mod Answers

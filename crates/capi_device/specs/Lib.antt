@@ -1,0 +1,2 @@
+-- What a step of one device answers, in numbers.
+pub mod StepAnswers

@@ -1,0 +1,2 @@
+-- What the operations on frames answer, in numbers.
+pub mod FrameAnswers

@@ -1,0 +1,2 @@
+-- What the questions about light answer, in numbers.
+pub mod LightAnswers

@@ -8,7 +8,7 @@ use lib.ListN.{length}
 use borrow.Author.Tests.{ltb-false, eqb-true, not-false}
 use Rattle.bits.specs.Bits.{bytesFor}
 use Rattle.tables.specs.Refusals.{first}
-use Rattle.parts.specs.Parts.{known}
+use Rattle.parts.specs.Parts.{known, mostDevices}
 use Rattle.parts.specs.declared.command.Command.{Command}
 use Rattle.tables.proofs.Rows as rows
 use Rattle.parts.proofs.Laws.{count-bounds}
@@ -23,7 +23,7 @@ use Rattle.frames.specs.declared.told.Tail.{Tail}
 pub record ToldAccepted (part devices : ℕ) (tail : Tail) : Type 0 where
   pub part-known : known part ≡ true
   pub some : 0 < devices
-  pub few : devices < 1024
+  pub few : devices ≤ mostDevices
   pub short : tail .length ≤ 64
 
 module _ (part devices : ℕ) (tail : Tail) where
@@ -33,7 +33,7 @@ module _ (part devices : ℕ) (tail : Tail) where
       record {
         part-known = not-false _ (c .0);
         some = count .0;
-        few = omega (arith, count .1);
+        few = count .1;
         short = ltb-false 64 (tail .length) (c .1 .1 .0);
       }
 

@@ -2,13 +2,13 @@
 -- one width with no gap: values, or bytes. Then the tests and the rows of refusals that more than one operation has.
 -- What each operation answers is in Reading, Returns and, of the writer, in frame_writer/specs/Writing. docs/RULES.md, "The set and the wire" and "Refusal numbers".
 use Prim.Native.Nat.{ℕ, _+_, _*_, _^_}
-use mathlib.Core.Bool.{Bool, true, not, _&&_}
+use mathlib.Core.Bool.{Bool, true, not, _&&_, cond}
 use mathlib.Core.List.{List, [], _∷_}
-use lib.Dec.{eqb, ltb}
+use lib.Dec.{eqb, ltb, leb}
 use lib.ListN.{take, drop}
 use Rattle.bits.specs.Bits.{bits, number, fields, bytesOf, bytesFor}
 use Rattle.tables.specs.Refusals.{Row, _when_}
-use Rattle.parts.specs.Parts.{known, isCount, partOf, multiplex, code, fieldWidth, sliceFields}
+use Rattle.parts.specs.Parts.{known, isCount, mostDevices, partOf, multiplex, code, fieldWidth, sliceFields}
 use Rattle.parts.specs.Wire.{frame}
 use Rattle.parts.specs.declared.command.Command.{Command}
 use Rattle.frames.specs.declared.told.Told.{Told}
@@ -58,6 +58,20 @@ frameOf t tail vs = bytesOf (frameBits t tail vs)
 -- the bytes that a frame has
 abbrev pub frameLength : Told → Tail → ℕ
 frameLength t tail = bytesFor (24 + slicesBits t + tail .length)
+
+-- ---- its sizes, for any N and any tail
+
+-- the fields of all slices: 0 where N is over its limit
+unfoldable pub toldFields : Told → ℕ
+toldFields t = cond (leb (t .devices) mostDevices) (fieldCount t) 0
+
+-- bits of all slices: 0 where N is over its limit
+unfoldable pub toldBits : Told → ℕ
+toldBits t = cond (leb (t .devices) mostDevices) (slicesBits t) 0
+
+-- the bytes that a frame has: 0 where N is over its limit, or the tail has over 64 bits
+unfoldable pub toldLength : Told → Tail → ℕ
+toldLength t tail = cond (leb (t .devices) mostDevices && leb (tail .length) 64) (frameLength t tail) 0
 
 -- ---- tests
 

@@ -12,6 +12,7 @@ pub use judge::is_tail_high;
 pub use judge::judge_told;
 pub use reader::read;
 pub use returns::read_return;
+pub use sizes::told_bits;
 pub use sizes::told_fields;
 pub use sizes::told_length;
 pub use told::Read;

@@ -4,6 +4,7 @@ ghost use mathlib.Core.Bool.{false};
 ghost use Prim.Native.Nat.{_+_, _*_, _<_, _≤_};
 ghost use lib.ListN.{length};
 ghost use Rattle.tables.specs.Refusals.{first};
+ghost use Rattle.parts.specs.Parts.{mostDevices};
 ghost use Rattle.frames.specs.Frames.{fieldCount, slicesBits, frameLength};
 ghost use Rattle.frames.specs.Reading.{heldFields, roomShort, copyHigh, copiesDiffer, lengthRows, rangeRows, sliceRows, bodyRows, readRefusal, found, bytesFound, valuesFound, read, readBytes, readValues};
 use crate::judge::is_tail_high;
@@ -12,9 +13,9 @@ use crate::judge::judge_head;
 use crate::judge::judge_told;
 use crate::lists::held_below;
 use crate::lists::held_same;
-use crate::sizes::field_count;
-use crate::sizes::frame_length;
-use crate::sizes::slices_bits;
+use crate::sizes::told_bits;
+use crate::sizes::told_fields;
+use crate::sizes::told_length;
 use crate::take::field_at;
 use crate::take::take_bytes;
 use crate::take::take_values;
@@ -55,14 +56,14 @@ fn judge_read(told: Told, tail: Tail, frame: &[u8], bytes: usize, values: usize)
 
 // Numbers 4 and 5 of a reader, or 0.
 fn judge_lengths(told: Told, tail: Tail, long: usize, bytes: usize, values: usize) -> u8
-    requires { ⌜ (told .devices < 1024) × (tail .length ≤ 64) ⌝ }
+    requires { ⌜ (told .devices ≤ mostDevices) × (tail .length ≤ 64) ⌝ }
     ensures { λ r. ⌜ r ≡ first (lengthRows told tail long bytes values) ⌝ }
 {
     let command = told.command;
-    if long != frame_length(told, tail) {
+    if long != told_length(told, tail) {
         return 4;
     }
-    if is_room_short(command, field_count(told), bytes, values) {
+    if is_room_short(command, told_fields(told), bytes, values) {
         return 5;
     }
     0
@@ -81,7 +82,7 @@ fn is_room_short(command: Command, n: usize, bytes: usize, values: usize) -> boo
 
 // Numbers 6 to 12 of a reader, or 0.
 fn judge_body(told: Told, tail: Tail, frame: &[u8]) -> u8
-    requires { ⌜ (0 < told .devices) × (told .devices < 1024) × (tail .length ≤ 64) × (length (now frame) ≡ frameLength told tail) ⌝ }
+    requires { ⌜ (0 < told .devices) × (told .devices ≤ mostDevices) × (tail .length ≤ 64) × (length (now frame) ≡ frameLength told tail) ⌝ }
     ensures { λ r. ⌜ r ≡ first (bodyRows told tail (now (frame .entry))) ⌝ }
 {
     let range = judge_range(told, tail, frame);
@@ -97,12 +98,12 @@ fn judge_body(told: Told, tail: Tail, frame: &[u8]) -> u8
     if slices != 0 {
         return slices;
     }
-    judge_end(frame, 24 + slices_bits(told), tail)
+    judge_end(frame, 24 + told_bits(told), tail)
 }
 
 // Number 6 of a reader, or 0.
 fn judge_range(told: Told, tail: Tail, frame: &[u8]) -> u8
-    requires { ⌜ (told .devices < 1024) × (tail .length ≤ 64) × (3 + fieldCount told ≤ length (now frame)) ⌝ }
+    requires { ⌜ (told .devices ≤ mostDevices) × (tail .length ≤ 64) × (3 + fieldCount told ≤ length (now frame)) ⌝ }
     ensures { λ r. ⌜ r ≡ first (rangeRows told tail (now (frame .entry))) ⌝ }
 {
     if is_copy_high(told, frame) {
@@ -116,11 +117,11 @@ fn judge_range(told: Told, tail: Tail, frame: &[u8]) -> u8
 
 // A copy of a global byte is out of range.
 fn is_copy_high(told: Told, frame: &[u8]) -> bool
-    requires { ⌜ (told .devices < 1024) × (3 + fieldCount told ≤ length (now frame)) ⌝ }
+    requires { ⌜ (told .devices ≤ mostDevices) × (3 + fieldCount told ≤ length (now frame)) ⌝ }
     ensures { λ r. ⌜ r ≡ copyHigh told (told .command) (heldFields told (now (frame .entry))) ⌝ }
 {
     let command = told.command;
-    let n = field_count(told);
+    let n = told_fields(told);
     let limit = parts::subframes_of(told.part, told.configuration) as u8;
     match command {
         Command::Global => !held_below(frame, n, limit),
@@ -130,7 +131,7 @@ fn is_copy_high(told: Told, frame: &[u8]) -> bool
 
 // Numbers 9 and 10 of a reader, or 0.
 fn judge_slices(told: Told, frame: &[u8]) -> u8
-    requires { ⌜ (0 < told .devices) × (told .devices < 1024) × (3 + fieldCount told ≤ length (now frame)) ⌝ }
+    requires { ⌜ (0 < told .devices) × (told .devices ≤ mostDevices) × (3 + fieldCount told ≤ length (now frame)) ⌝ }
     ensures { λ r. ⌜ r ≡ first (sliceRows told (now (frame .entry))) ⌝ }
 {
     if field_at(frame, 14, 10) != 0 {
@@ -144,11 +145,11 @@ fn judge_slices(told: Told, frame: &[u8]) -> u8
 
 // Copies of a global or configuration byte differ.
 fn do_copies_differ(told: Told, frame: &[u8]) -> bool
-    requires { ⌜ (0 < told .devices) × (told .devices < 1024) × (3 + fieldCount told ≤ length (now frame)) ⌝ }
+    requires { ⌜ (0 < told .devices) × (told .devices ≤ mostDevices) × (3 + fieldCount told ≤ length (now frame)) ⌝ }
     ensures { λ r. ⌜ r ≡ copiesDiffer (told .command) (heldFields told (now (frame .entry))) ⌝ }
 {
     let command = told.command;
-    let n = field_count(told);
+    let n = told_fields(told);
     match command {
         Command::Individual => false,
         Command::Calibration => false,
@@ -161,7 +162,7 @@ fn do_copies_differ(told: Told, frame: &[u8]) -> bool
 fn take_fields(told: Told, frame: &[u8], bytes: &mut [u8], values: &mut [u16]) -> Read
     requires { ⌜
         (0 < told .devices)
-        × (told .devices < 1024)
+        × (told .devices ≤ mostDevices)
         × (24 + slicesBits told ≤ 8 * length (now frame))
         × (roomShort (told .command) (fieldCount told) (length (now bytes)) (length (now values)) ≡ false)
         ⌝ }
@@ -173,7 +174,7 @@ fn take_fields(told: Told, frame: &[u8], bytes: &mut [u8], values: &mut [u16]) -
         ⌝ }
 {
     let command = told.command;
-    let n = field_count(told);
+    let n = told_fields(told);
     let width = parts::field_width(command, told.part);
     match command {
         Command::Individual => {

@@ -5,7 +5,6 @@ use Rattle.frame_writer.proofs.writer.put_slices.Tie as tie
 use Prim.Native.Nat.{ℕ, _+_}
 use mathlib.Core.Path.{_≡_, refl, sym, ap, _∙_}
 use native.Mathlib.Omega.{arith}
-use borrow.Author.Tests.{lt-ltb}
 use lib.ListN.{replicate, length-replicate}
 use Rattle.parts.specs.Parts.{partOf, fieldWidth}
 use Rattle.parts.specs.declared.command.Command.{Command}
@@ -17,7 +16,8 @@ use Rattle.frame_writer.proofs.Pieces as pieces
 
 -- the number of fields, of an N that is not refused
 count : (c : tie.After-told-fields) → c .told-fields .result ≡ fieldCount (c .before .before .before .before .args .told)
-count c = c .told-fields .ensures ∙ rw (lt-ltb _ _ (c .before .before .before .before .pre .0))
+count c = let entry = c .before .before .before .before in
+    c .told-fields .ensures ∙ lengths.told-fields (entry .args .told) (entry .pre .0)
 
 told-fields-requires : tie.Need-told-fields-requires
 told-fields-requires c κs = search needs

@@ -3,14 +3,19 @@ use Rattle.frames.proofs.Lengths as lengths
 use Rattle.frames.proofs.Pieces as pieces
 use Rattle.parts.specs.declared.command.Command.{Command}
 use Rattle.parts.specs.Parts.{partOf, fieldWidth}
+use Rattle.frames.specs.Frames.{fieldCount}
 use Rattle.frames.specs.Reading.{copiesDiffer, heldFields}
-use mathlib.Core.Path.{sym, ap, _∙_}
+use mathlib.Core.Path.{_≡_, sym, ap, _∙_}
 use borrow.Author.Needs.{needs}
 use Rattle.frames.proofs.reader.do_copies_differ.Statement.{statement}
 use Rattle.frames.proofs.reader.do_copies_differ.Tie as tie
 
-field-count-requires : tie.Need-field-count-requires
-field-count-requires c κs = search needs
+-- N is not over its limit
+count : (c : tie.After-told-fields) → c .told-fields .result ≡ fieldCount (c .before .before .args .told)
+count c = let s = c .before .before in c .told-fields .ensures ∙ lengths.told-fields (s .args .told) (s .pre .1)
+
+told-fields-requires : tie.Need-told-fields-requires
+told-fields-requires c κs = search needs
 
 enum-told : tie.Need-enum-told
 enum-told c = search needs
@@ -23,14 +28,14 @@ enum-told-3 c = search needs
 
 held-same-requires : tie.Need-held-same-requires
 held-same-requires c κs = let s = c .before .before .before .before in
-    rw (c .before .before .field-count .ensures) (lengths.count-some (s .args .told) (s .pre .0), s .pre .2)
+    rw (count (c .before .before)) (lengths.count-some (s .args .told) (s .pre .0), s .pre .2)
 
 enum-told-4 : tie.Need-enum-told-4
 enum-told-4 c = search needs
 
 held-same-requires-2 : tie.Need-held-same-requires-2
 held-same-requires-2 c κs = let s = c .before .before .before .before in
-    rw (c .before .before .field-count .ensures) (lengths.count-some (s .args .told) (s .pre .0), s .pre .2)
+    rw (count (c .before .before)) (lengths.count-some (s .args .told) (s .pre .0), s .pre .2)
 
 returns : tie.Need-returns
 returns c = search needs
@@ -44,7 +49,7 @@ returns-3 c = let s = c .before .before .before .before .before in
     let f = s .args .frame .now in
     let e = c .before .enum-told3 .given .1 in
     let h = pieces.held-bytes t f (ap (λ (k : Command). fieldWidth (partOf (t .part)) k) e) (s .pre .2) (λ i. c .before .before .before .before .shared-slice-known .given i .fits) in
-    pieces.all-held-same t f h (c .before .before .before .field-count .ensures) (s .pre .0) (c .held-same .ensures)
+    pieces.all-held-same t f h (count (c .before .before .before)) (s .pre .0) (c .held-same .ensures)
     ∙ sym (ap (λ (k : Command). copiesDiffer k (heldFields t f)) e)
 
 returns-4 : tie.Need-returns-4
@@ -53,14 +58,14 @@ returns-4 c = let s = c .before .before .before .before .before in
     let f = s .args .frame .now in
     let e = c .before .enum-told4 .given .1 in
     let h = pieces.held-bytes t f (ap (λ (k : Command). fieldWidth (partOf (t .part)) k) e) (s .pre .2) (λ i. c .before .before .before .before .shared-slice-known .given i .fits) in
-    pieces.all-held-same t f h (c .before .before .before .field-count .ensures) (s .pre .0) (c .held-same2 .ensures)
+    pieces.all-held-same t f h (count (c .before .before .before)) (s .pre .0) (c .held-same2 .ensures)
     ∙ sym (ap (λ (k : Command). copiesDiffer k (heldFields t f)) e)
 
 pub do-copies-differ-spec : {M : Type 1} → statement M
 do-copies-differ-spec =
     tie.close
     (tie.spec
-    field-count-requires
+    told-fields-requires
     enum-told
     enum-told-2
     enum-told-3

@@ -7,13 +7,18 @@ use mathlib.Core.Bool.{false}
 use native.Mathlib.Omega.{arith}
 use Rattle.parts.specs.Parts.{partOf, fieldWidth}
 use Rattle.parts.specs.declared.command.Command.{Command}
+use Rattle.frames.specs.Frames.{fieldCount}
 use Rattle.frames.specs.Reading.{copyHigh, heldFields}
 use Rattle.parts.proofs.Cases.{not-global}
 use Rattle.frames.proofs.Lengths as lengths
 use Rattle.frames.proofs.Pieces as pieces
 
-field-count-requires : tie.Need-field-count-requires
-field-count-requires c κs = search needs
+-- N is not over its limit
+count : (c : tie.After-told-fields) → c .told-fields .result ≡ fieldCount (c .before .before .args .told)
+count c = let s = c .before .before in c .told-fields .ensures ∙ lengths.told-fields (s .args .told) (s .pre .0)
+
+told-fields-requires : tie.Need-told-fields-requires
+told-fields-requires c κs = search needs
 
 subframes-of-requires : tie.Need-subframes-of-requires
 subframes-of-requires c κs = search needs
@@ -26,7 +31,7 @@ enum-told : tie.Need-enum-told
 enum-told c = search needs
 
 held-below-requires : tie.Need-held-below-requires
-held-below-requires c κs = rw (c .before .before .before .field-count .ensures) (c .before .before .before .before .before .pre .1)
+held-below-requires c κs = rw (count (c .before .before .before)) (c .before .before .before .before .before .pre .1)
 
 returns : tie.Need-returns
 returns c = let s = c .before .before .before .before .before .before in
@@ -34,7 +39,7 @@ returns c = let s = c .before .before .before .before .before .before in
     let f = s .args .frame .now in
     let e = c .before .enum-told .given .1 in
     let h = pieces.held-bytes t f (ap (λ (k : Command). fieldWidth (partOf (t .part)) k) e) (s .pre .1) (λ i. c .before .before .before .before .before .shared-slice-known .given i .fits) in
-    pieces.all-held-below t f h (c .before .before .before .before .field-count .ensures) (c .before .before .before .subframes-of .ensures) (c .held-below .ensures)
+    pieces.all-held-below t f h (count (c .before .before .before .before)) (c .before .before .before .subframes-of .ensures) (c .held-below .ensures)
     ∙ sym (ap (λ (k : Command). copyHigh t k (heldFields t f)) e)
 
 returns-2 : tie.Need-returns-2
@@ -44,4 +49,4 @@ returns-2 c =
     not-global (λ k. false ≡ copyHigh t k (heldFields t (a .frame .now))) refl refl refl (t .command) (c .match .keys2)
 
 pub is-copy-high-spec : {M : Type 1} → statement M
-is-copy-high-spec = tie.close (tie.spec field-count-requires subframes-of-requires cast-limit enum-told held-below-requires returns returns-2)
+is-copy-high-spec = tie.close (tie.spec told-fields-requires subframes-of-requires cast-limit enum-told held-below-requires returns returns-2)

@@ -6,11 +6,16 @@ use mathlib.Core.List.{_++_}
 use Rattle.bits.specs.Bits.{fields}
 use Prim.Native.Nat.{_+_}
 use native.Mathlib.Omega.{arith}
-use mathlib.Core.Path.{refl}
+use mathlib.Core.Path.{_≡_, refl, _∙_}
 use Rattle.tables.proofs.Rows as rows
 use borrow.Author.Needs.{needs}
 use Rattle.frames.proofs.reader.judge_body.Statement.{statement}
 use Rattle.frames.proofs.reader.judge_body.Tie as tie
+
+-- N is not over its limit
+bits : (c : tie.After-told-bits) → c .told-bits .result ≡ slicesBits (c .before .before .before .before .before .before .before .before .args .told)
+bits c = let s = c .before .before .before .before .before .before .before .before in
+    c .told-bits .ensures ∙ lengths.told-bits (s .args .told) (s .pre .1)
 
 judge-range-requires : tie.Need-judge-range-requires
 judge-range-requires c κs = let s = c .before in
@@ -53,17 +58,17 @@ returns-3 c = let s = c .before .before .before .before .before .before .before 
     (rows.later (headRows (t .command) bs) (sliceRows t f ++ end) refl (q .before .judge-head .ensures) (q .if2 .left)
     (rows.sooner (sliceRows t f) end (c .before .judge-slices .ensures) (c .if3 .taken)))
 
-slices-bits-requires : tie.Need-slices-bits-requires
-slices-bits-requires c κs = search needs
+told-bits-requires : tie.Need-told-bits-requires
+told-bits-requires c κs = search needs
 
 add-judge-end : tie.Need-add-judge-end
 add-judge-end c = let s = c .before .before .before .before .before .before .before .before in
-    rw (c .slices-bits .ensures) (record { fits = omega (arith, lengths.bits-small (s .args .told) (s .pre .1)) })
+    rw (bits c) (record { fits = omega (arith, lengths.bits-small (s .args .told) (s .pre .1)) })
 
 judge-end-requires : tie.Need-judge-end-requires
 judge-end-requires c κs = let s = c .before .before .before .before .before .before .before .before in
     let small = lengths.bits-small (s .args .told) (s .pre .1) in
-    rw (c .slices-bits .ensures) (omega arith, s .pre .2, s .pre .3)
+    rw (bits c) (omega arith, s .pre .2, s .pre .3)
 
 returns-4 : tie.Need-returns-4
 returns-4 c = let s = c .before .before .before .before .before .before .before .before .before in
@@ -77,7 +82,7 @@ returns-4 c = let s = c .before .before .before .before .before .before .before 
     rows.later (rangeRows t (s .args .tail) f) (headRows (t .command) bs ++ (sliceRows t f ++ end)) refl (p .before .judge-range .ensures) (p .if1 .left)
     (rows.later (headRows (t .command) bs) (sliceRows t f ++ end) refl (q .before .judge-head .ensures) (q .if2 .left)
     (rows.later (sliceRows t f) end refl (r .before .judge-slices .ensures) (r .if3 .left)
-    (rw (c .before .slices-bits .ensures) at (c .judge-end .ensures))))
+    (rw (bits (c .before)) at (c .judge-end .ensures))))
 
 pub judge-body-spec : {M : Type 1} → statement M
 judge-body-spec =
@@ -89,7 +94,7 @@ judge-body-spec =
     returns-2
     judge-slices-requires
     returns-3
-    slices-bits-requires
+    told-bits-requires
     add-judge-end
     judge-end-requires
     returns-4)

@@ -18,8 +18,12 @@ use Rattle.frames.specs.declared.told.Read.the-variants.{Byte, Bytes, Va
 use Rattle.frames.proofs.Lengths as lengths
 use Rattle.frames.proofs.Pieces as pieces
 
-field-count-requires : tie.Need-field-count-requires
-field-count-requires c κs = c .before .before .before .pre .1
+-- N is not over its limit
+count : (c : tie.After-told-fields) → c .told-fields .result ≡ fieldCount (c .before .before .before .before .args .told)
+count c = let s = c .before .before .before .before in c .told-fields .ensures ∙ lengths.told-fields (s .args .told) (s .pre .1)
+
+told-fields-requires : tie.Need-told-fields-requires
+told-fields-requires c κs = search needs
 
 field-width-requires : tie.Need-field-width-requires
 field-width-requires c κs = search needs
@@ -29,7 +33,7 @@ enum-told c = search needs
 
 take-values-requires : tie.Need-take-values-requires
 take-values-requires c κs =
-    let field-count = c .before .before .before .before .field-count in
+    let n = count (c .before .before .before .before) in
     let field-width = c .before .before .before .field-width in
     let s = c .before .before .before .before .before .before .before .before in
     let a = s .args in
@@ -38,8 +42,8 @@ take-values-requires c κs =
     let e = c .before .enum-told .given .1 in
     let more = lengths.bytes-more t in
     let q = subst (λ (k : Command). roomShort k (fieldCount t) (length (a .bytes .now)) (length (a .values .now)) ≡ false) e (s .pre .3) in
-    let m : field-count .result * field-width .result ≡ slicesBits t = ap₂ (λ (x y : ℕ). x * y) (field-count .ensures) (field-width .ensures) in
-    (omega (arith, field-width .ensures, lengths.width-small (t .part) (t .command) .1), omega (arith, m, s .pre .2), rw (field-count .ensures) (ltb-false _ _ q))
+    let m : c .before .before .before .before .told-fields .result * field-width .result ≡ slicesBits t = ap₂ (λ (x y : ℕ). x * y) n (field-width .ensures) in
+    (omega (arith, field-width .ensures, lengths.width-small (t .part) (t .command) .1), omega (arith, m, s .pre .2), rw n (ltb-false _ _ q))
 
 enum-told-2 : tie.Need-enum-told-2
 enum-told-2 c = search needs
@@ -52,7 +56,7 @@ take-bytes-requires c κs = let s = c .before .before .before .before .before .b
     let e = c .before .enum-told2 .given .1 in
     let more = lengths.bytes-more t in
     let q = subst (λ (k : Command). roomShort k (fieldCount t) (length (a .bytes .now)) (length (a .values .now)) ≡ false) e (s .pre .3) in
-    rw (c .before .before .before .before .field-count .ensures) (omega (arith, more, s .pre .2), ltb-false _ _ q)
+    rw (count (c .before .before .before .before)) (omega (arith, more, s .pre .2), ltb-false _ _ q)
 
 enum-told-3 : tie.Need-enum-told-3
 enum-told-3 c = search needs
@@ -74,7 +78,7 @@ same-length c = search needs
 returns : tie.Need-returns
 returns c =
     let enum-told = c .before .before .before .before .enum-told in
-    let field-count = c .before .before .before .before .before .before .before .field-count in
+    let n = count (c .before .before .before .before .before .before .before) in
     let take-values = c .before .before .take-values in
     let field-width = c .before .before .before .before .before .before .field-width in
     let s = c .before .before .before .before .before .before .before .before .before .before .before in
@@ -85,9 +89,9 @@ returns c =
     let more = lengths.bytes-more t in
     let h = heldFields t f in
     let all = fields 8 (drop 3 f) in (
-      ap Values (field-count .ensures) ∙ sym (ap (λ (k : Command). found t k h) e),
+      ap Values n ∙ sym (ap (λ (k : Command). found t k h) e),
       sym (ap (λ (k : Command). bytesFound k h (a .bytes .now)) e),
-      take-values .ensures ∙ ap₂ (λ (x y : ℕ). over (split x y all) (a .values .now)) (field-width .ensures) (field-count .ensures)
+      take-values .ensures ∙ ap₂ (λ (x y : ℕ). over (split x y all) (a .values .now)) (field-width .ensures) n
           ∙ ap (λ (l : List ℕ). over l (a .values .now)) (sym (pieces.held-split t f (omega (arith, s .pre .2)))) ∙ sym (ap (λ (k : Command). valuesFound k h (a .values .now)) e),
     )
 
@@ -97,7 +101,7 @@ same-length-2 c = search needs
 returns-2 : tie.Need-returns-2
 returns-2 c =
     let enum-told2 = c .before .before .before .before .enum-told2 in
-    let field-count = c .before .before .before .before .before .before .before .field-count in
+    let n = count (c .before .before .before .before .before .before .before) in
     let take-bytes = c .before .before .take-bytes in
     let s = c .before .before .before .before .before .before .before .before .before .before .before in
     let a = s .args in
@@ -107,8 +111,8 @@ returns-2 c =
     let more = lengths.bytes-more t in
     let h = heldFields t f in
     let g = pieces.held-bytes t f (ap (λ (k : Command). fieldWidth (partOf (t .part)) k) e) (omega (arith, more, s .pre .2)) (λ i. c .before .before .before .before .before .before .before .before .before .before .shared-slice-known .given i .fits) in (
-      ap Bytes (field-count .ensures) ∙ sym (ap (λ (k : Command). found t k h) e),
-      take-bytes .ensures ∙ ap (λ (k : ℕ). over (take k (drop 3 f)) (a .bytes .now)) (field-count .ensures)
+      ap Bytes n ∙ sym (ap (λ (k : Command). found t k h) e),
+      take-bytes .ensures ∙ ap (λ (k : ℕ). over (take k (drop 3 f)) (a .bytes .now)) n
           ∙ ap (λ (l : List ℕ). over l (a .bytes .now)) (sym g) ∙ sym (ap (λ (k : Command). bytesFound k h (a .bytes .now)) e),
       sym (ap (λ (k : Command). valuesFound k h (a .values .now)) e),
     )
@@ -145,7 +149,7 @@ pub take-fields-spec : {M : Type 1} → statement M
 take-fields-spec =
     tie.close
     (tie.spec
-    field-count-requires
+    told-fields-requires
     field-width-requires
     enum-told
     take-values-requires

@@ -4,6 +4,7 @@ pub mod Tests
 pub mod Copies
 pub mod Lengths
 pub mod Answers
+pub mod Judged
 pub mod Accepted
 pub mod Pieces
 pub mod Cases

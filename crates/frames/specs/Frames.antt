@@ -5,7 +5,7 @@ use Prim.Native.Nat.{ℕ, _+_, _*_, _^_}
 use mathlib.Core.Bool.{Bool, true, not, _&&_, cond}
 use mathlib.Core.List.{List, [], _∷_}
 use lib.Dec.{eqb, ltb, leb}
-use lib.ListN.{take, drop}
+use lib.ListN.{length, take, drop}
 use Rattle.bits.specs.Bits.{bits, number, fields, bytesOf, bytesFor}
 use Rattle.tables.specs.Refusals.{Row, _when_}
 use Rattle.parts.specs.Parts.{known, isCount, mostDevices, partOf, multiplex, code, fieldWidth, sliceFields}
@@ -88,6 +88,10 @@ tailHigh tail = not (ltb (tail .number) (2 ^ tail .length))
 abbrev pub field : ℕ → ℕ → List Bool → ℕ
 field at n bs = number (take n (drop at bs))
 
+-- the same of a frame's bytes: 0 where n is over 64, or the frame has not so many bits
+unfoldable pub fieldAt : ℕ → ℕ → List ℕ → ℕ
+fieldAt at n frame = cond (leb n 64 && leb (at + n) (8 * length frame)) (field at n (fields 8 frame)) 0
+
 -- ---- rows that more than one operation has
 
 -- 1 to 3: the part, N, the tail's length
@@ -108,3 +112,16 @@ endRows at tail bs =
     (11 when not (eqb (number (drop (at + tail .length) bs)) 0))
     ∷ (12 when not (eqb (field at (tail .length) bs) (tail .number)))
     ∷ []
+
+-- ---- the same of any bytes: a frame of another length is refused first
+
+-- 7 and 8, of a frame that has a header
+unfoldable pub headTable : Command → List ℕ → List Row
+headTable c frame = (4 when ltb (length frame) 3) ∷ headRows c (fields 8 frame)
+
+-- 11 and 12, of a tail of up to 64 bits, and of a frame that ends with the byte of its last bit
+unfoldable pub endTable : ℕ → Tail → List ℕ → List Row
+endTable at tail frame =
+    (3 when ltb 64 (tail .length))
+    ∷ (4 when not (eqb (length frame) (bytesFor (at + tail .length))))
+    ∷ endRows at tail (fields 8 frame)

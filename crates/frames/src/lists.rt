@@ -6,7 +6,7 @@ ghost use Rattle.tables.specs.Lists.{allBelow};
 ghost use Rattle.frames.specs.Frames.{allSame};
 
 // Every byte is the given one. No early end, so that the loop is vectorised.
-pub fn bytes_same(bytes: &[u8], byte: u8) -> bool
+fn bytes_same(bytes: &[u8], byte: u8) -> bool
     ensures { λ r. ⌜ r ≡ allSame (now (bytes .entry)) byte ⌝ }
 {
     let mut other: u8 = 0;

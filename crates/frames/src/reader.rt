@@ -98,7 +98,7 @@ fn judge_body(told: Told, tail: Tail, frame: &[u8]) -> u8
     if slices != 0 {
         return slices;
     }
-    judge_end(frame, 24 + told_bits(told), tail)
+    judge_end(frame, (24 + told_bits(told)) as u32, tail)
 }
 
 // Number 6 of a reader, or 0.

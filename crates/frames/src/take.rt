@@ -3,13 +3,12 @@ ghost use mathlib.Core.Path.{_≡_};
 ghost use Prim.Native.Nat.{_+_, _*_, _≤_};
 ghost use lib.ListN.{length, take, drop};
 ghost use Rattle.bits.specs.Bits.{fields, split, over};
-ghost use Rattle.frames.specs.Frames.{field};
+ghost use Rattle.frames.specs.Frames.{fieldAt};
 use bits::Number;
 
-// The number of the `width` bits from the bit `at` on.
+// The number of the `width` bits from the bit `at` on: 0 where the frame does not have them.
 pub fn field_at(frame: &[u8], at: usize, width: u32) -> u64
-    requires { ⌜ (width ≤ 64) × (at + width ≤ 8 * length (now frame)) ⌝ }
-    ensures { λ r. ⌜ r ≡ field at width (fields 8 (now (frame .entry))) ⌝ }
+    ensures { λ r. ⌜ r ≡ fieldAt at width (now (frame .entry)) ⌝ }
 {
     let Number::Value(value) = bits::number_at(frame, at, width) else {
         return 0;

@@ -1,5 +1,6 @@
 -- Accepted, there are 24 bits, and ten of them are a count.
 use Rattle.frames.proofs.Accepted as accepted
+use Rattle.frames.proofs.Judged as judged
 use Rattle.frames.specs.declared.told.ReturnRead.the-variants.{Count, Refused}
 use Rattle.frames.specs.Frames.{field}
 use Rattle.frames.specs.Returns.{returnRead}
@@ -7,11 +8,20 @@ use Rattle.bits.proofs.Laws as wire
 use Rattle.bits.specs.Bits.{fields}
 use lib.ListN.{drop}
 use native.Mathlib.Omega.{arith}
-use mathlib.Core.Path.{sym, ap, _∙_}
+use mathlib.Core.Path.{_≡_, sym, ap, _∙_}
 use Rattle.tables.proofs.Rows as rows
 use borrow.Author.Needs.{needs}
 use Rattle.frames.proofs.returns.read_return.Statement.{statement}
 use Rattle.frames.proofs.returns.read_return.Tie as tie
+
+-- what is accepted has a header
+count : (c : tie.After-field-at) → c .field-at .result ≡ field 14 10 (fields 8 (c .before .before .before .before .args .frame .now))
+count c =
+    let judge-return = c .before .before .judge-return in
+    let a = c .before .before .before .before .args in
+    let f = a .frame .now in
+    let long = accepted.return-long (a .part) (a .devices) (a .command) (a .tail) f (sym (judge-return .ensures) ∙ c .before .if1 .left) in
+    c .field-at .ensures ∙ judged.field-within 14 10 f (omega arith) (omega (arith, long))
 
 judge-return-requires : tie.Need-judge-return-requires
 judge-return-requires c κs = search needs
@@ -22,16 +32,15 @@ returns c = let a = c .before .before .before .args in
     rows.refused Refused (Count (field 14 10 (fields 8 (a .frame .now)))) (c .before .judge-return .ensures) (c .if1 .taken)
 
 field-at-requires : tie.Need-field-at-requires
-field-at-requires c κs = let a = c .before .before .before .args in
-    (omega arith, accepted.return-long (a .part) (a .devices) (a .command) (a .tail) (a .frame .now) (sym (c .before .judge-return .ensures) ∙ c .if1 .left))
+field-at-requires c κs = search needs
 
 cast-t9 : tie.Need-cast-t9
 cast-t9 c = let a = c .before .before .before .before .args in
-    rw (c .field-at .ensures) (record { fits = omega (arith, wire.number-take-lt 10 (drop 14 (fields 8 (a .frame .now)))) })
+    rw (count c) (record { fits = omega (arith, wire.number-take-lt 10 (drop 14 (fields 8 (a .frame .now)))) })
 
 returns-2 : tie.Need-returns-2
 unfolding returnRead
-returns-2 c = rows.accepted Refused (c .before .before .judge-return .ensures) (c .before .if1 .left) (ap Count (c .field-at .ensures))
+returns-2 c = rows.accepted Refused (c .before .before .judge-return .ensures) (c .before .if1 .left) (ap Count (count c))
 
 pub read-return-spec : {M : Type 1} → statement M
 read-return-spec =

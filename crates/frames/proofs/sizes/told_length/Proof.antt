@@ -19,7 +19,8 @@ unfolding toldLength
 returns-2 c = rw (le-leb _ _ (c .before .before .if1 .left), lt-leb _ _ (c .if2 .taken))
 
 -- N is not over its limit
-bits : (c : tie.After-told-bits) → (c .told-bits .result ≡ slicesBits (c .before .before .before .before .before .args .told)) × (slicesBits (c .before .before .before .before .before .args .told) ≤ mostDevices * 48 * 14)
+bits : (c : tie.After-told-bits) → let t = c .before .before .before .before .before .args .told in
+    (c .told-bits .result ≡ slicesBits t) × (slicesBits t ≤ mostDevices * 48 * 14)
 bits c = let t = c .before .before .before .before .before .args .told in
     let few = c .before .before .before .if1 .left in
     (c .told-bits .ensures ∙ lengths.told-bits t few, lengths.bits-small t few)

@@ -6,12 +6,12 @@ use mathlib.Core.List.{List}
 use Rattle.tables.specs.Refusals.{Row, Applies, Lowest}
 use Rattle.serial.specs.declared.states.Converted.{Converted}
 use Rattle.serial.specs.declared.states.Converted.the-variants as L
-use Rattle.frames.specs.declared.told.Written.{Written}
-use Rattle.frames.specs.declared.told.Written.the-variants as W
-use Rattle.frames.specs.declared.told.Read.{Read}
-use Rattle.frames.specs.declared.told.Read.the-variants as Q
-use Rattle.frames.specs.declared.told.ReturnRead.{ReturnRead}
-use Rattle.frames.specs.declared.told.ReturnRead.the-variants as R
+use Rattle.frame_writer.specs.declared.answer.Written.{Written}
+use Rattle.frame_writer.specs.declared.answer.Written.the-variants as W
+use Rattle.frame_reader.specs.declared.answer.Read.{Read}
+use Rattle.frame_reader.specs.declared.answer.Read.the-variants as Q
+use Rattle.return_reader.specs.declared.answer.ReturnRead.{ReturnRead}
+use Rattle.return_reader.specs.declared.answer.ReturnRead.the-variants as R
 use Rattle.schedule.specs.declared.answer.Asked.{Asked}
 use Rattle.schedule.specs.declared.answer.Asked.the-variants as A
 use Rattle.schedule.specs.declared.answer.Lead.{Lead}

@@ -1,8 +1,8 @@
 -- A frame by what is told of it: one list of bits for all four commands, header, slices, tail. Every command's slices are fields of
 -- one width with no gap: values, or bytes. Then the tests and the rows of refusals that more than one operation has.
--- What each operation answers is in Reading, Returns and, of the writer, in frame_writer/specs/Writing. docs/RULES.md, "The set and the wire" and "Refusal numbers".
+-- What each operation answers is in frame_reader/specs/Reading, return_reader/specs/Returns and frame_writer/specs/Writing. docs/RULES.md, "The set and the wire" and "Refusal numbers".
 use Prim.Native.Nat.{ℕ, _+_, _*_, _^_}
-use mathlib.Core.Bool.{Bool, true, not, _&&_, cond}
+use mathlib.Core.Bool.{Bool, not, _&&_, cond}
 use mathlib.Core.List.{List, [], _∷_}
 use lib.Dec.{eqb, ltb, leb}
 use lib.ListN.{length, take, drop}
@@ -74,11 +74,6 @@ unfoldable pub toldLength : Told → Tail → ℕ
 toldLength t tail = cond (leb (t .devices) mostDevices && leb (tail .length) 64) (frameLength t tail) 0
 
 -- ---- tests
-
--- each byte is b
-abbrev pub allSame : List ℕ → ℕ → Bool
-allSame [] b = true
-allSame (x ∷ xs) b = eqb x b && allSame xs b
 
 -- tail bits stand above its length
 abbrev pub tailHigh : Tail → Bool

@@ -2,7 +2,7 @@
 ghost use mathlib.Core.Path.{_≡_};
 ghost use Rattle.tables.specs.Refusals.{first};
 ghost use Rattle.frames.specs.Frames.{tailHigh, toldRows, headTable, endTable};
-use crate::take::field_at;
+use crate::field::field_at;
 use crate::told::Tail;
 use parts::Command;
 

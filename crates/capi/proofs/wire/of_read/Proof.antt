@@ -1,6 +1,6 @@
 -- `capi::of_read` meets its contract. Assumes nothing.
 use mathlib.Core.Path.{_≡_, refl, ap, _∙_}
-use Rattle.frames.proofs.Cases.{read-no-refusal}
+use Rattle.frame_reader.proofs.Cases.{read-no-refusal}
 use Rattle.capi.specs.Answers.{accepted, valueGiven, ofRead}
 use borrow.Author.Needs.{needs}
 use Rattle.capi.proofs.wire.of_read.Statement.{statement}

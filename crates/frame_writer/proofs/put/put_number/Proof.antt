@@ -12,7 +12,7 @@ use Rattle.bits.specs.Bits.{bytesOf, bytesFor, overAt}
 use Rattle.bits.proofs.Laws as bit
 use mathlib.Core.Bool.{Bool}
 use Rattle.bits.proofs.Answers.{roomFits-within, packedOut-roomFits}
-use Rattle.frames.proofs.Answers as answers
+use Rattle.frame_writer.proofs.Answers as answers
 
 pack-number-requires : tie.Need-pack-number-requires
 pack-number-requires c κs = search needs

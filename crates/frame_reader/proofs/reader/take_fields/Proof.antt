@@ -110,7 +110,8 @@ returns-2 c =
     let e = enum-told2 .given .1 in
     let more = lengths.bytes-more t in
     let h = heldFields t f in
-    let g = held.held-bytes t f (ap (λ (k : Command). fieldWidth (partOf (t .part)) k) e) (omega (arith, more, s .pre .2)) (λ i. c .before .before .before .before .before .before .before .before .before .before .shared-slice-known .given i .fits) in (
+    let known = c .before .before .before .before .before .before .before .before .before .before .shared-slice-known in
+    let g = held.held-bytes t f (ap (λ (k : Command). fieldWidth (partOf (t .part)) k) e) (omega (arith, more, s .pre .2)) (λ i. known .given i .fits) in (
       ap Bytes n ∙ sym (ap (λ (k : Command). found t k h) e),
       take-bytes .ensures ∙ ap (λ (k : ℕ). over (take k (drop 3 f)) (a .bytes .now)) n
           ∙ ap (λ (l : List ℕ). over l (a .bytes .now)) (sym g) ∙ sym (ap (λ (k : Command). bytesFound k h (a .bytes .now)) e),
@@ -125,7 +126,8 @@ returns-3 c = let s = c .before .before .before .before .before .before .before 
     let e = c .before .enum-told3 .given .1 in
     let more = lengths.bytes-more t in
     let h = heldFields t f in
-    let g = held.held-bytes t f (ap (λ (k : Command). fieldWidth (partOf (t .part)) k) e) (omega (arith, more, s .pre .2)) (λ i. c .before .before .before .before .before .before .before .shared-slice-known .given i .fits) in (
+    let known = c .before .before .before .before .before .before .before .shared-slice-known in
+    let g = held.held-bytes t f (ap (λ (k : Command). fieldWidth (partOf (t .part)) k) e) (omega (arith, more, s .pre .2)) (λ i. known .given i .fits) in (
       ap Byte (sym (held.held-first t f (s .pre .0) g)) ∙ sym (ap (λ (k : Command). found t k h) e),
       sym (ap (λ (k : Command). bytesFound k h (a .bytes .now)) e),
       sym (ap (λ (k : Command). valuesFound k h (a .values .now)) e),
@@ -139,7 +141,8 @@ returns-4 c = let s = c .before .before .before .before .before .before .before 
     let e = c .before .enum-told4 .given .1 in
     let more = lengths.bytes-more t in
     let h = heldFields t f in
-    let g = held.held-bytes t f (ap (λ (k : Command). fieldWidth (partOf (t .part)) k) e) (omega (arith, more, s .pre .2)) (λ i. c .before .before .before .before .before .before .before .shared-slice-known .given i .fits) in (
+    let known = c .before .before .before .before .before .before .before .shared-slice-known in
+    let g = held.held-bytes t f (ap (λ (k : Command). fieldWidth (partOf (t .part)) k) e) (omega (arith, more, s .pre .2)) (λ i. known .given i .fits) in (
       ap Byte (sym (held.held-first t f (s .pre .0) g)) ∙ sym (ap (λ (k : Command). found t k h) e),
       sym (ap (λ (k : Command). bytesFound k h (a .bytes .now)) e),
       sym (ap (λ (k : Command). valuesFound k h (a .values .now)) e),

@@ -113,7 +113,8 @@ returns-2 c =
     let e = enum-told2 .given .1 in
     let ew : 8 ≡ fieldBits t = sym (ap (λ (k : Command). fieldWidth (partOf (t .part)) k) e) in
     let ev : a .bytes .now ≡ settings t (a .byte) (a .bytes .now) (a .values .now) = sym (ap (λ (k : Command). settingsOf t k (a .byte) (a .bytes .now) (a .values .now)) e) in
-    pieces.put-whole t (a .byte) (a .bytes .now) (a .values .now) list ev ew refl (λ i. c .before .before .before .before .before .before .before .before .before .before .shared-slice-known .given i .fits) (a .at) (a .out .now) (put-bytes .ensures)
+    let known = c .before .before .before .before .before .before .before .before .before .before .shared-slice-known in
+    pieces.put-whole t (a .byte) (a .bytes .now) (a .values .now) list ev ew refl (λ i. known .given i .fits) (a .at) (a .out .now) (put-bytes .ensures)
 
 same-length-3 : tie.Need-same-length-3
 same-length-3 c = search needs
@@ -128,7 +129,8 @@ returns-3 c =
     let ew : 8 ≡ fieldBits t = sym (ap (λ (k : Command). fieldWidth (partOf (t .part)) k) e) in
     let n = c .before .before .before .before .before .before .before .told-fields .result in
     let ev : replicate n (a .byte) ≡ settings t (a .byte) (a .bytes .now) (a .values .now)
-    = ap (λ (k : ℕ). replicate k (a .byte)) (count (c .before .before .before .before .before .before .before)) ∙ sym (ap (λ (k : Command). settingsOf t k (a .byte) (a .bytes .now) (a .values .now)) e) in
+    = ap (λ (k : ℕ). replicate k (a .byte)) (count (c .before .before .before .before .before .before .before))
+    ∙ sym (ap (λ (k : Command). settingsOf t k (a .byte) (a .bytes .now) (a .values .now)) e) in
     let small = tests.below-replicate n (a .byte) 256 (omega arith) (omega arith) in
     pieces.put-whole t (a .byte) (a .bytes .now) (a .values .now) list ev ew refl small (a .at) (a .out .now)
     (c .before .before .put-same .ensures .0, c .before .before .put-same .ensures .1 ∙ ap (λ (k : ℕ). a .at + k) (sym (length-replicate n (a .byte))))
@@ -146,7 +148,8 @@ returns-4 c =
     let ew : 8 ≡ fieldBits t = sym (ap (λ (k : Command). fieldWidth (partOf (t .part)) k) e) in
     let n = c .before .before .before .before .before .before .before .told-fields .result in
     let ev : replicate n (a .byte) ≡ settings t (a .byte) (a .bytes .now) (a .values .now)
-    = ap (λ (k : ℕ). replicate k (a .byte)) (count (c .before .before .before .before .before .before .before)) ∙ sym (ap (λ (k : Command). settingsOf t k (a .byte) (a .bytes .now) (a .values .now)) e) in
+    = ap (λ (k : ℕ). replicate k (a .byte)) (count (c .before .before .before .before .before .before .before))
+    ∙ sym (ap (λ (k : Command). settingsOf t k (a .byte) (a .bytes .now) (a .values .now)) e) in
     let small = tests.below-replicate n (a .byte) 256 (omega arith) (omega arith) in
     pieces.put-whole t (a .byte) (a .bytes .now) (a .values .now) list ev ew refl small (a .at) (a .out .now)
     (c .before .before .put-same2 .ensures .0, c .before .before .put-same2 .ensures .1 ∙ ap (λ (k : ℕ). a .at + k) (sym (length-replicate n (a .byte))))

@@ -5,12 +5,12 @@ use Rattle.serial.specs.declared.states.Converted.{Converted}
 use Rattle.serial.specs.declared.states.Converted.the-variants as L
 use Rattle.frames.specs.Frames.{toldOf}
 use Rattle.frames.specs.declared.told.Told.{Told}
-use Rattle.frames.specs.declared.told.Written.{Written}
-use Rattle.frames.specs.declared.told.Written.the-variants as F
-use Rattle.frames.specs.declared.told.Read.{Read}
-use Rattle.frames.specs.declared.told.Read.the-variants as R
-use Rattle.frames.specs.declared.told.ReturnRead.{ReturnRead}
-use Rattle.frames.specs.declared.told.ReturnRead.the-variants as B
+use Rattle.frame_writer.specs.declared.answer.Written.{Written}
+use Rattle.frame_writer.specs.declared.answer.Written.the-variants as F
+use Rattle.frame_reader.specs.declared.answer.Read.{Read}
+use Rattle.frame_reader.specs.declared.answer.Read.the-variants as R
+use Rattle.return_reader.specs.declared.answer.ReturnRead.{ReturnRead}
+use Rattle.return_reader.specs.declared.answer.ReturnRead.the-variants as B
 use Rattle.answers.specs.Answers.{accepted, refused}
 use Rattle.answers.specs.declared.answer.Answer.{Answer}
 

@@ -4,17 +4,17 @@ ghost use lib.ListN.{length};
 ghost use Rattle.parts.specs.Parts.{commandAt};
 ghost use Rattle.frames.specs.Frames.{tailOf};
 ghost use Rattle.frame_writer.specs.Writing.{written, writtenOut};
-ghost use Rattle.frames.specs.Reading.{read, readBytes, readValues};
-ghost use Rattle.frames.specs.Returns.{returnRead};
+ghost use Rattle.frame_reader.specs.Reading.{read, readBytes, readValues};
+ghost use Rattle.return_reader.specs.Returns.{returnRead};
 ghost use Rattle.capi_frames.specs.FrameAnswers.{toldBy, ofWritten, valueGiven, listed, ofRead, returnReadNumber, ofReturnRead};
 use answers::Answer;
 use answers::accept;
 use answers::refuse;
-use frames::Read;
-use frames::ReturnRead;
+use frame_reader::Read;
+use frame_writer::Written;
 use frames::Tail;
 use frames::Told;
-use frames::Written;
+use return_reader::ReturnRead;
 
 // Writes a frame.
 #[no_mangle]
@@ -91,7 +91,7 @@ pub extern "C" fn bb_read(
         number: tail,
         length: long,
     };
-    let read = frames::read(told, behind, frame, bytes, values);
+    let read = frame_reader::read(told, behind, frame, bytes, values);
     of_read(read)
 }
 
@@ -112,7 +112,7 @@ pub extern "C" fn bb_read_return(
         number: tail,
         length: long,
     };
-    let returned = frames::read_return(part, devices, named, behind, frame);
+    let returned = return_reader::read_return(part, devices, named, behind, frame);
     of_return_read(returned)
 }
 

@@ -21,7 +21,7 @@ use Rattle.serial.specs.States.{dataBits}
 use Rattle.serial.specs.States as serial
 use Rattle.frames.specs.Frames.{tailBits, frameLength, toldRows}
 use Rattle.frame_writer.specs.Writing.{writeTable, writeRefusal}
-use Rattle.frames.specs.Returns as reader
+use Rattle.return_reader.specs.Returns as reader
 use Rattle.frames.specs.declared.told.Told.{Told}
 use Rattle.frames.specs.declared.told.Tail.{Tail}
 use Rattle.frame_laws.proofs.Returns.{return-read}

@@ -11,7 +11,7 @@ use Rattle.parts.specs.Parts.{partOf}
 use Rattle.parts.specs.Wire.{commandCount, header, frame, clocked}
 use Rattle.frames.specs.Frames.{frameBits, frameOf}
 use Rattle.frame_writer.specs.Writing.{writeRefusal, written, writtenOut}
-use Rattle.frames.specs.Reading.{heldFields, readRefusal}
+use Rattle.frame_reader.specs.Reading.{heldFields, readRefusal}
 use Rattle.machine.specs.Machine.{run, chain}
 use Rattle.device.specs.Run.{stepRecord}
 use Rattle.subframes.specs.Subframes.{howManyFrom}

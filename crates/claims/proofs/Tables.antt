@@ -15,13 +15,13 @@ use Rattle.parts.specs.declared.command.Command.the-variants.{Individual, Calib
 use Rattle.serial.specs.States.{frameRows, clockedAnswer, clockedOut, stateRows, dataBytesAnswer, dataBytesOut}
 use Rattle.serial.specs.declared.states.Converted.the-variants as L
 use Rattle.frame_writer.specs.Writing.{writeTable, writeRefusal, written, writtenOut}
-use Rattle.frames.specs.Reading.{heldFields, found, readTable, readRefusal, read, readBytes, readValues}
-use Rattle.frames.specs.Returns.{returnTable, returnRefusal, returnRead}
+use Rattle.frame_reader.specs.Reading.{heldFields, found, readTable, readRefusal, read, readBytes, readValues}
+use Rattle.return_reader.specs.Returns.{returnTable, returnRefusal, returnRead}
 use Rattle.frames.specs.declared.told.Told.{Told}
 use Rattle.frames.specs.declared.told.Tail.{Tail}
-use Rattle.frames.specs.declared.told.Written.the-variants as W
-use Rattle.frames.specs.declared.told.Read.the-variants as Q
-use Rattle.frames.specs.declared.told.ReturnRead.the-variants as R
+use Rattle.frame_writer.specs.declared.answer.Written.the-variants as W
+use Rattle.frame_reader.specs.declared.answer.Read.the-variants as Q
+use Rattle.return_reader.specs.declared.answer.ReturnRead.the-variants as R
 use Rattle.device.specs.Judgement.{judgement, stepRefusals, refusedWith}
 use Rattle.device.specs.declared.device.Device.{Device}
 use Rattle.device.specs.declared.device.Answer.{Answer}

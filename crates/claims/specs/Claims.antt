@@ -20,13 +20,13 @@ use Rattle.serial.specs.States.{dataBits, frameStates, frameRows, clockedAnswer
 use Rattle.serial.specs.declared.states.Converted.the-variants as L
 use Rattle.frames.specs.Frames.{fieldCount, frameOf}
 use Rattle.frame_writer.specs.Writing.{settings, writeTable, written, writtenOut}
-use Rattle.frames.specs.Reading.{heldFields, roomShort, readTable, found, bytesFound, valuesFound, read, readBytes, readValues}
-use Rattle.frames.specs.Returns as returns
+use Rattle.frame_reader.specs.Reading.{heldFields, roomShort, readTable, found, bytesFound, valuesFound, read, readBytes, readValues}
+use Rattle.return_reader.specs.Returns as returns
 use Rattle.frames.specs.declared.told.Told.{Told}
 use Rattle.frames.specs.declared.told.Tail.{Tail}
-use Rattle.frames.specs.declared.told.Written.the-variants as W
-use Rattle.frames.specs.declared.told.Read.the-variants as Q
-use Rattle.frames.specs.declared.told.ReturnRead.the-variants as R
+use Rattle.frame_writer.specs.declared.answer.Written.the-variants as W
+use Rattle.frame_reader.specs.declared.answer.Read.the-variants as Q
+use Rattle.return_reader.specs.declared.answer.ReturnRead.the-variants as R
 use Rattle.frame_laws.specs.RoundTrip.{ReadBack, WrittenAgain, byteRead, bytesRead, valuesRead}
 use Rattle.device.specs.Step.{step}
 use Rattle.device.specs.Judgement.{fits, judgement, stepRefusals, acceptedStep, refusedWith, stepAnswer}

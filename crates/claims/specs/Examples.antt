@@ -15,10 +15,10 @@ use Rattle.parts.specs.declared.command.Command.the-variants.{Individual, Calib
 use Rattle.serial.specs.States.{dataBits}
 use Rattle.frame_writer.specs.Writing.{written, writtenOut}
 use Rattle.frames.specs.Frames.{toldOf, tailOf, noTail}
-use Rattle.frames.specs.Reading.{readRefusal}
+use Rattle.frame_reader.specs.Reading.{readRefusal}
 use Rattle.frames.specs.declared.told.Told.{Told}
 use Rattle.frames.specs.declared.told.Tail.{Tail}
-use Rattle.frames.specs.declared.told.Written.the-variants as W
+use Rattle.frame_writer.specs.declared.answer.Written.the-variants as W
 use Rattle.device.specs.Step.{faulted, freshDevice}
 use Rattle.device.specs.declared.device.Device.{Device}
 use Rattle.calls.specs.Calls.{returned}

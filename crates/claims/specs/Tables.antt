@@ -7,10 +7,10 @@ use mathlib.Core.List.{List}
 use Rattle.tables.specs.Refusals.{Row, Applies, Lowest}
 use Rattle.serial.specs.declared.states.Converted.{Converted}
 use Rattle.serial.specs.declared.states.Converted.the-variants as L
-use Rattle.frames.specs.declared.told.Written.{Written}
-use Rattle.frames.specs.declared.told.Written.the-variants as W
-use Rattle.frames.specs.declared.told.Read.{Read}
-use Rattle.frames.specs.declared.told.Read.the-variants as Q
+use Rattle.frame_writer.specs.declared.answer.Written.{Written}
+use Rattle.frame_writer.specs.declared.answer.Written.the-variants as W
+use Rattle.frame_reader.specs.declared.answer.Read.{Read}
+use Rattle.frame_reader.specs.declared.answer.Read.the-variants as Q
 use Rattle.subframes.specs.declared.answer.Asked.{Asked}
 use Rattle.subframes.specs.declared.answer.Asked.the-variants as A
 use Rattle.subframes.specs.declared.answer.Lead.{Lead}

@@ -6,7 +6,7 @@ use Prim.Native.Nat.{ℕ}
 use Rattle.parts.specs.declared.command.Command.the-variants.{Configuration}
 use Rattle.frames.specs.Frames.{frameBits, frameOf}
 use Rattle.frame_writer.specs.Writing.{writeRefusal, written, writtenOut}
-use Rattle.frames.specs.Reading.{heldFields, readRefusal, read, readBytes, readValues}
+use Rattle.frame_reader.specs.Reading.{heldFields, readRefusal, read, readBytes, readValues}
 use Rattle.frames.specs.declared.told.Told.{Told}
 use Rattle.frames.specs.declared.told.Tail.{Tail}
 

@@ -11,7 +11,7 @@ use Rattle.bits.proofs.Laws as bit
 use Rattle.parts.specs.Parts.{code}
 use Rattle.parts.specs.Wire.{header, frame}
 use Rattle.frames.specs.Frames.{fieldCount, fieldBits, slicesBits, tailBits, frameBits, frameOf, frameLength, field}
-use Rattle.frames.specs.Reading.{heldFields}
+use Rattle.frame_reader.specs.Reading.{heldFields}
 use Rattle.frames.specs.declared.told.Told.{Told}
 use Rattle.frames.specs.declared.told.Tail.{Tail}
 use Rattle.frames.proofs.Lengths.{frame-holds}

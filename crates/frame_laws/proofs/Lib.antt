@@ -1,4 +1,4 @@
--- What a user of `frames` may rely on, and how it is shown.
+-- What a user of the frame writer and of the two readers may rely on, and how it is shown.
 pub mod Packed
 pub mod Frame
 pub mod Configuration

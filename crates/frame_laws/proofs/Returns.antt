@@ -11,9 +11,9 @@ use Rattle.parts.specs.Wire.{returnOf}
 use Rattle.tables.proofs.Rows as rows
 use Rattle.parts.specs.declared.command.Command.{Command}
 use Rattle.frames.specs.Frames.{tailBits, toldRows}
-use Rattle.frames.specs.Returns.{countOf, returnTable, returnRefusal, returnRead}
+use Rattle.return_reader.specs.Returns.{countOf, returnTable, returnRefusal, returnRead}
 use Rattle.frames.specs.declared.told.Tail.{Tail}
-use Rattle.frames.specs.declared.told.ReturnRead.the-variants as B
+use Rattle.return_reader.specs.declared.answer.ReturnRead.the-variants as B
 use Rattle.frames.proofs.Accepted.{toldAccepted}
 use Rattle.frame_laws.proofs.Packed as packed
 

@@ -17,15 +17,16 @@ use Rattle.tables.proofs.Rows as rows
 use Rattle.tables.proofs.Booleans.{and-left, or-second, or-none}
 use Rattle.parts.specs.declared.command.Command.{Command}
 use Rattle.parts.specs.declared.command.Command.the-variants.{Individual, Calibration, Global, Configuration}
-use Rattle.frames.specs.Frames.{fieldCount, fieldBits, slicesBits, frameBits, frameOf, frameLength, allSame, tailHigh, toldRows}
+use Rattle.frames.specs.Frames.{fieldCount, fieldBits, slicesBits, frameBits, frameOf, frameLength, tailHigh, toldRows}
 use Rattle.frame_writer.specs.Writing.{settingsOf, settings, listWrong, valueHigh, writeTable, writeRefusal, written, writtenOut}
-use Rattle.frames.specs.Reading.{heldFields, roomShort, copyHigh, copiesDiffer, bodyRows, readTable, readRefusal, found, bytesFound, valuesFound, read, readBytes, readValues}
+use Rattle.frame_reader.specs.Reading.{heldFields, allSame, roomShort, copyHigh, copiesDiffer, bodyRows, readTable, readRefusal, found, bytesFound, valuesFound, read, readBytes, readValues}
 use Rattle.frames.specs.declared.told.Told.{Told}
 use Rattle.frames.specs.declared.told.Tail.{Tail}
-use Rattle.frames.specs.declared.told.Written.the-variants as W
-use Rattle.frames.specs.declared.told.Read.{Read}
-use Rattle.frames.specs.declared.told.Read.the-variants as R
+use Rattle.frame_writer.specs.declared.answer.Written.the-variants as W
+use Rattle.frame_reader.specs.declared.answer.Read.{Read}
+use Rattle.frame_reader.specs.declared.answer.Read.the-variants as R
 use Rattle.frames.proofs.Tests as tests
+use Rattle.frame_reader.proofs.Tests.{same-replicate, replicate-same}
 use Rattle.frames.proofs.Accepted as accepted
 use Rattle.frame_writer.proofs.Writable as writer
 use Rattle.frames.proofs.Lengths as lengths
@@ -49,7 +50,7 @@ settingsOf-low t Configuration byte bytes values e = refl
 
 replicate-first : (n b : ℕ) → allSame (replicate n b) (getD (replicate n b) 0 0) ≡ true
 replicate-first zero b = refl
-replicate-first (suc n) b = tests.same-replicate (suc n) b
+replicate-first (suc n) b = same-replicate (suc n) b
 
 settingsOf-same : (t : Told) (c : Command) (byte : ℕ) (bytes values : List ℕ) → copiesDiffer c (settingsOf t c byte bytes values) ≡ false
 settingsOf-same t Individual byte bytes values = refl
@@ -164,8 +165,8 @@ written-read t tail byte bytes values out n small smalls e xs ys short =
 held-settingsOf : (t : Told) (c : Command) (h : List ℕ) → length h ≡ fieldCount t → copiesDiffer c h ≡ false → settingsOf t c (getD h 0 0) h h ≡ h
 held-settingsOf t Individual h l e = refl
 held-settingsOf t Calibration h l e = refl
-held-settingsOf t Global h l e = ap (λ (n : ℕ). replicate n (getD h 0 0)) (sym l) ∙ tests.replicate-same h (getD h 0 0) (not-false _ e)
-held-settingsOf t Configuration h l e = ap (λ (n : ℕ). replicate n (getD h 0 0)) (sym l) ∙ tests.replicate-same h (getD h 0 0) (not-false _ e)
+held-settingsOf t Global h l e = ap (λ (n : ℕ). replicate n (getD h 0 0)) (sym l) ∙ replicate-same h (getD h 0 0) (not-false _ e)
+held-settingsOf t Configuration h l e = ap (λ (n : ℕ). replicate n (getD h 0 0)) (sym l) ∙ replicate-same h (getD h 0 0) (not-false _ e)
 
 list-right : (c : Command) (n l : ℕ) → l ≡ n → listWrong c n l l ≡ false
 list-right Individual n l e = rows.agrees refl refl e

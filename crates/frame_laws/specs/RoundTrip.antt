@@ -6,12 +6,12 @@ use lib.ListN.{length, take}
 use Rattle.bits.specs.Bits.{over}
 use Rattle.frames.specs.Frames.{fieldCount}
 use Rattle.frame_writer.specs.Writing.{written, writtenOut}
-use Rattle.frames.specs.Reading.{found, bytesFound, valuesFound, read, readBytes, readValues}
+use Rattle.frame_reader.specs.Reading.{found, bytesFound, valuesFound, read, readBytes, readValues}
 use Rattle.frames.specs.declared.told.Told.{Told}
 use Rattle.frames.specs.declared.told.Tail.{Tail}
-use Rattle.frames.specs.declared.told.Read.{Read}
-use Rattle.frames.specs.declared.told.Read.the-variants as R
-use Rattle.frames.specs.declared.told.Written.the-variants as W
+use Rattle.frame_reader.specs.declared.answer.Read.{Read}
+use Rattle.frame_reader.specs.declared.answer.Read.the-variants as R
+use Rattle.frame_writer.specs.declared.answer.Written.the-variants as W
 
 -- the reader, lent two lists, accepts a frame and gives the fields vs
 pub record ReadBack (t : Told) (tail : Tail) (frame vs bytes values : List ℕ) : Type 0 where

@@ -13,8 +13,8 @@ use Rattle.parts.specs.declared.command.Command.the-variants.{Individual, Calib
 use Rattle.frames.specs.Frames.{fieldCount, frameOf, frameLength, tailHigh, toldRows}
 use Rattle.frames.specs.declared.told.Told.{Told}
 use Rattle.frames.specs.declared.told.Tail.{Tail}
-use Rattle.frames.specs.declared.told.Written.{Written}
-use Rattle.frames.specs.declared.told.Written.the-variants as W
+use Rattle.frame_writer.specs.declared.answer.Written.{Written}
+use Rattle.frame_writer.specs.declared.answer.Written.the-variants as W
 
 -- the fields that a command is given: its list, or one byte again and again
 abbrev pub settingsOf : Told → Command → ℕ → List ℕ → List ℕ → List ℕ

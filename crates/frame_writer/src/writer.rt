@@ -1,19 +1,20 @@
 // The frame writer.
 ghost use mathlib.Core.Path.{_≡_};
 ghost use mathlib.Core.Bool.{false};
-ghost use Prim.Native.Nat.{_+_, _<_, _≤_};
+ghost use Prim.Native.Nat.{_+_, _≤_};
 ghost use lib.ListN.{length};
 ghost use Rattle.bits.specs.Bits.{bytesFor, over, overAt};
 ghost use Rattle.tables.specs.Refusals.{first};
+ghost use Rattle.parts.specs.Parts.{mostDevices};
 ghost use Rattle.frames.specs.Frames.{fieldCount, slicesBits, frameOf};
 ghost use Rattle.frame_writer.specs.Writing.{settings, slicesOf, headerNumber, listWrong, valueHigh, writeRows, writeRefusal, written, writtenOut};
+use crate::answer::Written;
 use crate::put::put_bytes;
 use crate::put::put_number;
 use crate::put::put_same;
 use crate::put::put_values;
 use frames::Tail;
 use frames::Told;
-use frames::Written;
 use frames::is_tail_high;
 use frames::judge_told;
 use frames::told_fields;
@@ -53,7 +54,7 @@ fn judge_write(told: Told, tail: Tail, byte: u8, bytes: &[u8], values: &[u16], r
 
 // Numbers 4 to 6 of a writer, or 0.
 fn judge_settings(told: Told, tail: Tail, byte: u8, bytes: &[u8], values: &[u16], room: usize) -> u8
-    requires { ⌜ (told .devices < 1024) × (tail .length ≤ 64) ⌝ }
+    requires { ⌜ (told .devices ≤ mostDevices) × (tail .length ≤ 64) ⌝ }
     ensures { λ r. ⌜ r ≡ first (writeRows told tail byte (now (bytes .entry)) (now (values .entry)) room) ⌝ }
 {
     let command = told.command;
@@ -135,7 +136,7 @@ fn put_slices(
     at: usize,
 ) -> usize
     requires { ⌜
-        (told .devices < 1024)
+        (told .devices ≤ mostDevices)
         × (listWrong (told .command) (fieldCount told) (length (now bytes)) (length (now values)) ≡ false)
         × (at + bytesFor (slicesBits told) ≤ length (now out))
         ⌝ }

@@ -3,13 +3,14 @@ use mathlib.Core.Path.{_≡_, refl, sym, ap, _∙_}
 use Prim.Native.Nat.{ℕ, _+_, _*_, _/_, _%_, _<_, _≤_}
 use native.Mathlib.Nat.{mod-lt, mul-assoc, mul-left-comm, mul-mod-right, mul-le-mul-left, mul-le-mul-right}
 use native.Mathlib.Omega.{arith}
+use borrow.Author.Tests.{le-leb}
 use lib.ListN.{getD}
 use Rattle.bits.specs.Bits.{bytesFor}
-use Rattle.parts.specs.Parts.{max6974, max6975, partOf, multiplex, glb4, subframes, fieldWidth, sliceFields, sliceBits}
+use Rattle.parts.specs.Parts.{mostDevices, max6974, max6975, partOf, multiplex, glb4, subframes, fieldWidth, sliceFields, sliceBits}
 use Rattle.parts.proofs.Laws.{each-row}
 use Rattle.parts.specs.declared.command.Command.{Command}
 use Rattle.parts.specs.declared.command.Command.the-variants.{Individual, Calibration, Global, Configuration}
-use Rattle.frames.specs.Frames.{fieldCount, fieldBits, slicesBits, frameLength}
+use Rattle.frames.specs.Frames.{fieldCount, fieldBits, slicesBits, frameLength, toldFields, toldBits, toldLength}
 use Rattle.frames.specs.declared.told.Told.{Told}
 use Rattle.frames.specs.declared.told.Tail.{Tail}
 use Rattle.frames.proofs.Tests.{below-all}
@@ -40,15 +41,13 @@ module _ (t : Told) where
       × (sliceFields (partOf (t .part)) (t .command) (multiplex (t .configuration)) ≤ 48)
   fields-small = slice-small (t .part) (t .command) (multiplex (t .configuration)) (mod-lt (t .configuration) (omega arith))
 
-  pub count-small : t .devices < 1024 → fieldCount t ≤ 1023 * 48
-  count-small h = omega (arith, mul-le-mul-left (t .devices) (fields-small .1), mul-le-mul-right 48 (at-most h)) where
-    at-most : {n : ℕ} → n < 1024 → n ≤ 1023
-    at-most l = omega arith
+  pub count-small : t .devices ≤ mostDevices → fieldCount t ≤ mostDevices * 48
+  count-small h = omega (arith, mul-le-mul-left (t .devices) (fields-small .1), mul-le-mul-right 48 h)
 
   pub count-some : 0 < t .devices → 0 < fieldCount t
   count-some h = omega (arith, mul-le-mul-left (t .devices) (fields-small .0))
 
-  pub bits-small : t .devices < 1024 → slicesBits t ≤ 1023 * 48 * 14
+  pub bits-small : t .devices ≤ mostDevices → slicesBits t ≤ mostDevices * 48 * 14
   bits-small h = omega (arith, mul-le-mul-left (fieldCount t) (width-small (t .part) (t .command) .1), mul-le-mul-right 14 (count-small h))
 
   pub bits-slices : t .devices * sliceBits (partOf (t .part)) (t .command) (multiplex (t .configuration)) ≡ slicesBits t
@@ -71,6 +70,20 @@ module _ (t : Told) where
   -- a frame of the right length has all its bits
   pub frame-holds : (tail : Tail) (l : ℕ) → l ≡ frameLength t tail → (3 + fieldCount t ≤ l) × (24 + slicesBits t + tail .length ≤ 8 * l)
   frame-holds tail l e = (omega (arith, bytes-more, frame-room tail), omega arith)
+
+-- ---- the sizes of a told frame whose N, and whose tail, is not over its limit
+module _ (t : Told) (few : t .devices ≤ mostDevices) where
+  pub told-fields : toldFields t ≡ fieldCount t
+  unfolding toldFields
+  told-fields = rw (le-leb (t .devices) mostDevices few)
+
+  pub told-bits : toldBits t ≡ slicesBits t
+  unfolding toldBits
+  told-bits = rw (le-leb (t .devices) mostDevices few)
+
+  pub told-length : (tail : Tail) → tail .length ≤ 64 → toldLength t tail ≡ frameLength t tail
+  unfolding toldLength
+  told-length tail short = rw (le-leb (t .devices) mostDevices few, le-leb (tail .length) 64 short)
 
 -- subframes fit into a byte
 pub subframes-small : (n g : ℕ) → subframes (partOf n) g < 256

@@ -1,9 +1,8 @@
--- What the functions' proofs cite: tests, loops that copy, lengths, the answers of `bits`, what an accepted call knows, the
--- pieces of a frame, and the cases of an answer.
+-- What the functions' proofs cite, here and in the crates that write and read: tests, loops that copy, lengths, the pieces of a frame, what
+-- is judged of any bytes, and what an accepted call knows.
 pub mod Tests
 pub mod Copies
 pub mod Lengths
-pub mod Answers
-pub mod Accepted
 pub mod Pieces
-pub mod Cases
+pub mod Judged
+pub mod Accepted

@@ -1,19 +1,17 @@
 -- The laws of tests: of one number, of each number of a list, and of a tail's bits. Assumes nothing.
-use mathlib.Core.Path.{_≡_, refl, sym, ap, ap₂, _∙_}
+use mathlib.Core.Path.{_≡_, refl, sym, ap, _∙_}
 use mathlib.Core.Bool.{Bool, true, false, not, _&&_}
 use mathlib.Core.List.{List, [], _∷_}
-use Prim.Native.Nat.{ℕ, zero, suc, _+_, _*_, _/_, _^_, _<_, _≤_}
+use Prim.Native.Nat.{ℕ, zero, suc, _*_, _/_, _^_, _<_, _≤_}
 use native.Mathlib.Nat.{div-lt-iff-lt-mul, div-eq-of-lt}
-use native.Mathlib.Numerals.{add-one}
 use native.Mathlib.Omega.{arith}
-use lib.Dec.{ltb, eqb, leb}
+use lib.Dec.{ltb, leb}
 use lib.Pow.{pow-pos}
-use lib.ListN.{length, getD, drop, replicate, length-replicate, getD-replicate}
-use lib.Seq.{drop-cons}
-use borrow.Author.Tests.{le-leb, lt-leb, lt-ltb, le-ltb, ltb-true, ltb-false, eqb-true, eq-eqb}
+use lib.ListN.{length, getD, replicate, length-replicate, getD-replicate}
+use borrow.Author.Tests.{le-leb, lt-leb, lt-ltb, le-ltb, ltb-true, ltb-false}
 use Rattle.tables.specs.Lists.{allBelow}
 use Rattle.tables.proofs.Booleans.{and-left, and-right}
-use Rattle.frames.specs.Frames.{allSame, tailHigh}
+use Rattle.frames.specs.Frames.{tailHigh}
 use Rattle.frames.specs.declared.told.Tail.{Tail}
 
 pub leb-not : (a b : ℕ) → leb a b ≡ not (ltb b a)
@@ -23,20 +21,6 @@ leb-not a b = at (ltb b a) refl where
   at false e = le-leb a b (ltb-false b a e) ∙ sym (ap not e)
 
 -- ---- a test of each number
-
--- the rest of a list is its next byte and what comes after
-pub allSame-drop : (xs : List ℕ) (b i : ℕ) → i < length xs → allSame (drop i xs) b ≡ (eqb (getD xs i 0) b && allSame (drop (i + 1) xs) b)
-allSame-drop xs b i h = rw (add-one, drop-cons xs i 0)
-
-pub same-replicate : (n b : ℕ) → allSame (replicate n b) b ≡ true
-same-replicate zero b = refl
-same-replicate (suc n) b = ap (λ (d : Bool). d && allSame (replicate n b) b) (eq-eqb b b refl) ∙ same-replicate n b
-
--- a list of one byte is that byte again and again
-pub replicate-same : (l : List ℕ) (b : ℕ) → allSame l b ≡ true → replicate (length l) b ≡ l
-replicate-same [] b e = refl
-replicate-same (x ∷ l) b e =
-    ap₂ (λ (y : ℕ) (r : List ℕ). y ∷ r) (sym (eqb-true x b (and-left (eqb x b) (allSame l b) e))) (replicate-same l b (and-right (eqb x b) (allSame l b) e))
 
 -- past the end stands 0
 pub getD-past : (s : List ℕ) (i : ℕ) → length s ≤ i → getD s i 0 ≡ 0

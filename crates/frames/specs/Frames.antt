@@ -1,14 +1,14 @@
 -- A frame by what is told of it: one list of bits for all four commands, header, slices, tail. Every command's slices are fields of
 -- one width with no gap: values, or bytes. Then the tests and the rows of refusals that more than one operation has.
--- What each operation answers is in Reading, Returns and, of the writer, in frame_writer/specs/Writing. docs/RULES.md, "The set and the wire" and "Refusal numbers".
+-- What each operation answers is in frame_reader/specs/Reading, return_reader/specs/Returns and frame_writer/specs/Writing. docs/RULES.md, "The set and the wire" and "Refusal numbers".
 use Prim.Native.Nat.{ℕ, _+_, _*_, _^_}
-use mathlib.Core.Bool.{Bool, true, not, _&&_}
+use mathlib.Core.Bool.{Bool, not, _&&_, cond}
 use mathlib.Core.List.{List, [], _∷_}
-use lib.Dec.{eqb, ltb}
-use lib.ListN.{take, drop}
+use lib.Dec.{eqb, ltb, leb}
+use lib.ListN.{length, take, drop}
 use Rattle.bits.specs.Bits.{bits, number, fields, bytesOf, bytesFor}
 use Rattle.tables.specs.Refusals.{Row, _when_}
-use Rattle.parts.specs.Parts.{known, isCount, partOf, multiplex, code, fieldWidth, sliceFields}
+use Rattle.parts.specs.Parts.{known, isCount, mostDevices, partOf, multiplex, code, fieldWidth, sliceFields}
 use Rattle.parts.specs.Wire.{frame}
 use Rattle.parts.specs.declared.command.Command.{Command}
 use Rattle.frames.specs.declared.told.Told.{Told}
@@ -59,12 +59,21 @@ frameOf t tail vs = bytesOf (frameBits t tail vs)
 abbrev pub frameLength : Told → Tail → ℕ
 frameLength t tail = bytesFor (24 + slicesBits t + tail .length)
 
--- ---- tests
+-- ---- its sizes, for any N and any tail
 
--- each byte is b
-abbrev pub allSame : List ℕ → ℕ → Bool
-allSame [] b = true
-allSame (x ∷ xs) b = eqb x b && allSame xs b
+-- the fields of all slices: 0 where N is over its limit
+unfoldable pub toldFields : Told → ℕ
+toldFields t = cond (leb (t .devices) mostDevices) (fieldCount t) 0
+
+-- bits of all slices: 0 where N is over its limit
+unfoldable pub toldBits : Told → ℕ
+toldBits t = cond (leb (t .devices) mostDevices) (slicesBits t) 0
+
+-- the bytes that a frame has: 0 where N is over its limit, or the tail has over 64 bits
+unfoldable pub toldLength : Told → Tail → ℕ
+toldLength t tail = cond (leb (t .devices) mostDevices && leb (tail .length) 64) (frameLength t tail) 0
+
+-- ---- tests
 
 -- tail bits stand above its length
 abbrev pub tailHigh : Tail → Bool
@@ -73,6 +82,10 @@ tailHigh tail = not (ltb (tail .number) (2 ^ tail .length))
 -- n bits from the bit `at` on, as a number
 abbrev pub field : ℕ → ℕ → List Bool → ℕ
 field at n bs = number (take n (drop at bs))
+
+-- the same of a frame's bytes: 0 where n is over 64, or the frame has not so many bits
+unfoldable pub fieldAt : ℕ → ℕ → List ℕ → ℕ
+fieldAt at n frame = cond (leb n 64 && leb (at + n) (8 * length frame)) (field at n (fields 8 frame)) 0
 
 -- ---- rows that more than one operation has
 
@@ -94,3 +107,16 @@ endRows at tail bs =
     (11 when not (eqb (number (drop (at + tail .length) bs)) 0))
     ∷ (12 when not (eqb (field at (tail .length) bs) (tail .number)))
     ∷ []
+
+-- ---- the same of any bytes: a frame of another length is refused first
+
+-- 7 and 8, of a frame that has a header
+unfoldable pub headTable : Command → List ℕ → List Row
+headTable c frame = (4 when ltb (length frame) 3) ∷ headRows c (fields 8 frame)
+
+-- 11 and 12, of a tail of up to 64 bits, and of a frame that ends with the byte of its last bit
+unfoldable pub endTable : ℕ → Tail → List ℕ → List Row
+endTable at tail frame =
+    (3 when ltb 64 (tail .length))
+    ∷ (4 when not (eqb (length frame) (bytesFor (at + tail .length))))
+    ∷ endRows at tail (fields 8 frame)

@@ -1,4 +1,2 @@
--- What a frame is, and what the reader and the return reader answer, for any input.
+-- What a frame is, and what is judged of every frame.
 pub mod Frames
-pub mod Reading
-pub mod Returns

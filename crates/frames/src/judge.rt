@@ -1,11 +1,8 @@
 // Refusals that more than one operation gives. Each judge answers the lowest number of its rows that applies, or 0.
 ghost use mathlib.Core.Path.{_≡_};
-ghost use Prim.Native.Nat.{_+_, _*_, _<_, _≤_};
-ghost use lib.ListN.{length};
-ghost use Rattle.bits.specs.Bits.{fields, bytesFor};
 ghost use Rattle.tables.specs.Refusals.{first};
-ghost use Rattle.frames.specs.Frames.{tailHigh, toldRows, headRows, endRows};
-use crate::take::field_at;
+ghost use Rattle.frames.specs.Frames.{tailHigh, toldRows, headTable, endTable};
+use crate::field::field_at;
 use crate::told::Tail;
 use parts::Command;
 
@@ -35,11 +32,13 @@ pub fn judge_told(part: u16, devices: usize, tail: Tail) -> u8
     0
 }
 
-// Numbers 7 and 8.
+// Numbers 7 and 8, of a frame that has a header.
 pub fn judge_head(frame: &[u8], command: Command) -> u8
-    requires { ⌜ 3 ≤ length (now frame) ⌝ }
-    ensures { λ r. ⌜ r ≡ first (headRows command (fields 8 (now (frame .entry)))) ⌝ }
+    ensures { λ r. ⌜ r ≡ first (headTable command (now (frame .entry))) ⌝ }
 {
+    if frame.len() < 3 {
+        return 4;
+    }
     if field_at(frame, 0, 8) != 0xE8 {
         return 7;
     }
@@ -49,17 +48,23 @@ pub fn judge_head(frame: &[u8], command: Command) -> u8
     0
 }
 
-// Numbers 11 and 12, of a tail from the bit `at` on.
-pub fn judge_end(frame: &[u8], at: usize, tail: Tail) -> u8
-    requires { ⌜ (at < 1_000_000) × (tail .length ≤ 64) × (length (now frame) ≡ bytesFor (at + tail .length)) ⌝ }
-    ensures { λ r. ⌜ r ≡ first (endRows at tail (fields 8 (now (frame .entry)))) ⌝ }
+// Numbers 11 and 12, of a tail from the bit `at` on and of a frame that ends with it.
+pub fn judge_end(frame: &[u8], at: u32, tail: Tail) -> u8
+    ensures { λ r. ⌜ r ≡ first (endTable at tail (now (frame .entry))) ⌝ }
 {
-    let end = at + (tail.length as usize);
+    if tail.length > 64 {
+        return 3;
+    }
+    let start = at as usize;
+    let end = start + (tail.length as usize);
+    if frame.len() != (end + 7) / 8 {
+        return 4;
+    }
     let unused = ((8 - end % 8) % 8) as u32;
     if field_at(frame, end, unused) != 0 {
         return 11;
     }
-    if field_at(frame, at, tail.length) != tail.number {
+    if field_at(frame, start, tail.length) != tail.number {
         return 12;
     }
     0

@@ -1,21 +1,17 @@
-// Frames: what is told of one and how long it then is, frames read back, and returned headers read. What a frame is and what each operation
-// answers is in specs/; frames are written by the crate frame_writer.
+// Frames: what is told of one and how long it then is, and what is judged of every frame. What a frame is is in specs/Frames; the crates
+// frame_writer, frame_reader and return_reader write frames, read them back, and read returned headers.
+mod field; // a number out of a frame
 mod judge; // refusals that more than one operation gives
-mod lists; // tests of lists
-mod reader; // the frame reader
-mod returns; // the return reader
 mod sizes; // how long a told frame is
-mod take; // pieces of a frame taken out of it
-mod told; // what is told, and what is answered
+mod told; // what is told
 
+pub use field::field_at;
 pub use judge::is_tail_high;
+pub use judge::judge_end;
+pub use judge::judge_head;
 pub use judge::judge_told;
-pub use reader::read;
-pub use returns::read_return;
+pub use sizes::told_bits;
 pub use sizes::told_fields;
 pub use sizes::told_length;
-pub use told::Read;
-pub use told::ReturnRead;
 pub use told::Tail;
 pub use told::Told;
-pub use told::Written;

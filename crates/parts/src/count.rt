@@ -2,7 +2,8 @@
 ghost use mathlib.Core.Path.{_≡_};
 ghost use Rattle.parts.specs.Parts.{isCount};
 
-const MOST_DEVICES: usize = 1023;
+// The most devices of a chain.
+pub const MOST_DEVICES: usize = 1023;
 
 pub fn is_count(devices: usize) -> bool
     ensures { λ r. ⌜ r ≡ isCount devices ⌝ }

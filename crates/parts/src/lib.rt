@@ -9,6 +9,7 @@ pub use command::Command;
 pub use command::command_of;
 pub use command::number_of;
 pub use command::pairs_of;
+pub use count::MOST_DEVICES;
 pub use count::is_count;
 pub use part::Constants;
 pub use part::Max6974;

@@ -15,8 +15,8 @@ use Rattle.bits.specs.Bits.{over, overAt}
 use Rattle.bits.proofs.Laws as bits
 use Rattle.parts.specs.declared.command.Command.{Command}
 use Rattle.parts.specs.declared.command.Command.the-variants.{Individual, Calibration, Global, Configuration}
-use Rattle.frames.specs.declared.told.Read.{Read}
-use Rattle.frames.specs.declared.told.Read.the-variants as R
+use Rattle.frame_reader.specs.declared.answer.Read.{Read}
+use Rattle.frame_reader.specs.declared.answer.Read.the-variants as R
 use Rattle.report.specs.Lines.{digitsIn, decimal, labelled, newline, devicesText, multiplexedText, nameText, ending, refusedLine, partLine, frameLine, Put}
 
 pub paste-overAt : (d : List ℕ) (at : ℕ) (s : List ℕ) → paste d at s (length s) ≡ overAt at s d

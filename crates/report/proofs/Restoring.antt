@@ -17,11 +17,11 @@ use Rattle.bits.proofs.Laws as bits
 use Rattle.parts.specs.Parts.{multiplex}
 use Rattle.parts.specs.declared.command.Command.{Command}
 use Rattle.parts.specs.declared.command.Command.the-variants.{Individual, Configuration}
-use Rattle.frames.specs.declared.told.Read.{Read}
-use Rattle.frames.specs.declared.told.Read.the-variants as R
+use Rattle.frame_reader.specs.declared.answer.Read.{Read}
+use Rattle.frame_reader.specs.declared.answer.Read.the-variants as R
 use Rattle.frames.specs.Frames.{toldOf}
-use Rattle.frames.proofs.told.Read.{the-type}
-use Rattle.frames.proofs.Cases.{read-no-byte}
+use Rattle.frame_reader.proofs.answer.Read.{the-type}
+use Rattle.frame_reader.proofs.Cases.{read-no-byte}
 use Rattle.arguments.specs.declared.judging.Asked.{Asked}
 use Rattle.arguments.specs.declared.judging.Asked.the-variants as A
 use Rattle.report.specs.Lines.{trailingLine, partLine, frameLine}

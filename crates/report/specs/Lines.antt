@@ -8,8 +8,8 @@ use lib.ListN.{length}
 use Rattle.bits.specs.Bits.{overAt}
 use Rattle.parts.specs.declared.command.Command.{Command}
 use Rattle.parts.specs.declared.command.Command.the-variants.{Individual, Calibration, Global, Configuration}
-use Rattle.frames.specs.declared.told.Read.{Read}
-use Rattle.frames.specs.declared.told.Read.the-variants as R
+use Rattle.frame_reader.specs.declared.answer.Read.{Read}
+use Rattle.frame_reader.specs.declared.answer.Read.the-variants as R
 
 -- a number in decimal, in at most so many digits
 unfoldable pub digitsIn : ℕ → ℕ → List ℕ

@@ -11,10 +11,10 @@ use Rattle.parts.specs.Parts.{multiplex, restoreOrder}
 use Rattle.parts.specs.declared.command.Command.{Command}
 use Rattle.parts.specs.declared.command.Command.the-variants.{Configuration}
 use Rattle.frames.specs.Frames.{toldOf, noTail, slicesBits}
-use Rattle.frames.specs.Reading.{read}
+use Rattle.frame_reader.specs.Reading.{read}
 use Rattle.frames.specs.declared.told.Told.{Told}
-use Rattle.frames.specs.declared.told.Read.{Read}
-use Rattle.frames.specs.declared.told.Read.the-variants as R
+use Rattle.frame_reader.specs.declared.answer.Read.{Read}
+use Rattle.frame_reader.specs.declared.answer.Read.the-variants as R
 use Rattle.arguments.specs.declared.judging.Asked.{Asked}
 use Rattle.arguments.specs.declared.judging.Asked.the-variants as A
 use Rattle.report.specs.Lines.{refusedLine, trailingLine, partLine, frameLine}

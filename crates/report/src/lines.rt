@@ -4,7 +4,7 @@ ghost use lib.ListN.{length};
 ghost use Rattle.report.specs.Lines.{nameText, labelled, refusedLine, trailingLine, partLine, ending, frameLine, Put};
 use crate::text::put;
 use crate::text::put_labelled;
-use frames::Read;
+use frame_reader::Read;
 use parts::Command;
 
 // The line of the chain.

@@ -4,7 +4,7 @@ ghost use Prim.Native.Nat.{_<_};
 ghost use lib.ListN.{getD, take, drop};
 ghost use Rattle.parts.specs.declared.command.Command.the-variants as C;
 ghost use Rattle.report.specs.Report.{frameSize, answerOf, isRefused, laterCommands};
-use frames::Read;
+use frame_reader::Read;
 use frames::Tail;
 use frames::Told;
 use parts::Command;
@@ -32,7 +32,7 @@ pub fn read_front(told: Told, input: &[u8]) -> Read
         length: 0,
     };
     let long = (frame_size(told) + 7) / 8;
-    frames::read(told, tail, front(input, long), &mut bytes, &mut values)
+    frame_reader::read(told, tail, front(input, long), &mut bytes, &mut values)
 }
 
 // The frames behind the configuration frame, in restore order.

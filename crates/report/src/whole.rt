@@ -15,7 +15,7 @@ use crate::reading::frame_size;
 use crate::reading::is_refused;
 use crate::reading::read_front;
 use arguments::Asked;
-use frames::Read;
+use frame_reader::Read;
 use frames::Told;
 use parts::Command;
 

@@ -4,10 +4,10 @@ use cases::least;
 use cases::no_tail;
 use cases::same_values;
 use cases::tail_of;
-use frames::Read;
+use frame_reader::Read;
+use frame_writer::Written;
 use frames::Tail;
 use frames::Told;
-use frames::Written;
 use parts::Command;
 
 // a to f.
@@ -132,7 +132,7 @@ fn is_read_back(
 ) -> bool {
     let mut read_bytes = [0u8; 3];
     let mut read_values = [0u16; 24];
-    let read = frames::read(told, tail, frame, &mut read_bytes, &mut read_values);
+    let read = frame_reader::read(told, tail, frame, &mut read_bytes, &mut read_values);
     let bytes_back = check::same(&read_bytes, bytes);
     let values_back = same_values(&read_values, values);
     let back = is_back(read, byte, bytes_back, values_back);

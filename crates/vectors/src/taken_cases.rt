@@ -2,12 +2,12 @@
 use cases::frame_of;
 use cases::no_tail;
 use cases::tail_of;
-use frames::Read;
-use frames::ReturnRead;
+use frame_reader::Read;
+use frame_writer::Written;
 use frames::Tail;
 use frames::Told;
-use frames::Written;
 use parts::Command;
+use return_reader::ReturnRead;
 
 pub fn run() {
     count_cases();
@@ -136,7 +136,7 @@ fn write_refusal(told: Told, tail: Tail, byte: u8, values: &[u16]) -> u8 {
 fn read_refusal(told: Told, tail: Tail, frame: &[u8]) -> u8 {
     let mut bytes = [0u8; 3];
     let mut values = [0u16; 24];
-    let read = frames::read(told, tail, frame, &mut bytes, &mut values);
+    let read = frame_reader::read(told, tail, frame, &mut bytes, &mut values);
     if let Read::Refused(number) = read {
         number
     } else {
@@ -145,7 +145,7 @@ fn read_refusal(told: Told, tail: Tail, frame: &[u8]) -> u8 {
 }
 
 fn return_refusal(devices: usize, tail: Tail, frame: &[u8]) -> u8 {
-    match frames::read_return(6974, devices, Command::Configuration, tail, frame) {
+    match return_reader::read_return(6974, devices, Command::Configuration, tail, frame) {
         ReturnRead::Count(_) => 0,
         ReturnRead::Refused(number) => number,
     }

@@ -6,7 +6,7 @@ use cases::least;
 use cases::no_tail;
 use cases::same_values;
 use device::Device;
-use frames::Written;
+use frame_writer::Written;
 use parts::Command;
 use three::fresh_three;
 use three::load_three;

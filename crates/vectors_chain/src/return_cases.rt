@@ -5,9 +5,9 @@ use cases::least;
 use cases::no_tail;
 use cases::tail_of;
 use device::Device;
-use frames::ReturnRead;
 use frames::Tail;
 use parts::Command;
+use return_reader::ReturnRead;
 use serial::Converted;
 use three::fault_three;
 use three::fresh_three;
@@ -120,7 +120,7 @@ fn return_case(
 // The return is read, and gives the count.
 fn is_counted(devices: usize, command: Command, tail: Tail, frame: &[u8], count: u16) -> bool {
     cases::text(b", count");
-    match frames::read_return(6974, devices, command, tail, frame) {
+    match return_reader::read_return(6974, devices, command, tail, frame) {
         ReturnRead::Count(n) => {
             cases::count(n as u64);
             n == count

@@ -1,6 +1,6 @@
 -- `capi_frames::listed` meets its contract. Assumes nothing.
 use mathlib.Core.Path.{_≡_, refl}
-use Rattle.frames.proofs.Cases.{read-no-list}
+use Rattle.frame_reader.proofs.Cases.{read-no-list}
 use Rattle.capi_frames.specs.FrameAnswers.{listed}
 use borrow.Author.Needs.{needs}
 use Rattle.capi_frames.proofs.wire.listed.Statement.{statement}

@@ -1,6 +1,6 @@
 -- `capi_frames::of_read` meets its contract. Assumes nothing.
 use mathlib.Core.Path.{_≡_, refl, ap, _∙_}
-use Rattle.frames.proofs.Cases.{read-no-refusal}
+use Rattle.frame_reader.proofs.Cases.{read-no-refusal}
 use Rattle.answers.specs.Answers.{accepted}
 use Rattle.capi_frames.specs.FrameAnswers.{valueGiven, ofRead}
 use borrow.Author.Needs.{needs}

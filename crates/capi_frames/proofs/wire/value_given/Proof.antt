@@ -1,6 +1,6 @@
 -- `capi_frames::value_given` meets its contract. Assumes nothing.
 use mathlib.Core.Path.{_≡_, refl, _∙_}
-use Rattle.frames.proofs.Cases.{read-no-byte}
+use Rattle.frame_reader.proofs.Cases.{read-no-byte}
 use Rattle.capi_frames.specs.FrameAnswers.{valueGiven, listed}
 use borrow.Author.Needs.{needs}
 use Rattle.capi_frames.proofs.wire.value_given.Statement.{statement}

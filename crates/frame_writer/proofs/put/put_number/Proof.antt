@@ -12,7 +12,7 @@ use Rattle.bits.specs.Bits.{bytesOf, bytesFor, overAt}
 use Rattle.bits.proofs.Laws as bit
 use mathlib.Core.Bool.{Bool}
 use Rattle.bits.proofs.Answers.{roomFits-within, packedOut-roomFits}
-use Rattle.frames.proofs.Answers as answers
+use Rattle.frame_writer.proofs.Answers as answers
 
 pack-number-requires : tie.Need-pack-number-requires
 pack-number-requires c κs = search needs
@@ -38,7 +38,8 @@ add-result c =
     let pack-number = c .before .before .before .before .before .pack-number in
     let s = c .before .before .before .before .before .before .before .before in
     let a = s .args in
-    omega (arith, one-mul (a .width), answers.packed-bytes 64 (a .width) 1 (a .at) (length (a .out .now)) (s .pre .0) (omega (arith, one-mul (a .width))) (pack-number .ensures .0) (c .before .n .given .1))
+    let room = length (a .out .now) in
+    omega (arith, one-mul (a .width), answers.packed-bytes 64 (a .width) 1 (a .at) room (s .pre .0) (omega (arith, one-mul (a .width))) (pack-number .ensures .0) (c .before .n .given .1))
 
 same-length-2 : tie.Need-same-length-2
 same-length-2 c = search needs

@@ -7,7 +7,7 @@ use mathlib.Core.Path.{ap, _∙_}
 use native.Mathlib.Omega.{arith}
 use lib.ListN.{length}
 use Rattle.bits.proofs.Answers.{roomFits-within, packedOut-roomFits}
-use Rattle.frames.proofs.Answers as answers
+use Rattle.frame_writer.proofs.Answers as answers
 
 pack-requires : tie.Need-pack-requires
 pack-requires c κs = search needs

@@ -1,7 +1,8 @@
 -- Row by row; the last has two tests.
-use borrow.Author.Tests.{lt-ltb, le-ltb, le-leb}
+use borrow.Author.Tests.{lt-ltb, le-ltb}
 use mathlib.Core.Path.{_≡_, refl, sym, _∙_}
 use Rattle.frames.specs.Frames.{fieldCount, frameLength}
+use Rattle.frames.proofs.Lengths as lengths
 use Rattle.tables.proofs.Rows as rows
 use Rattle.tables.proofs.Booleans.{or-first, or-second}
 use borrow.Author.Needs.{needs}
@@ -10,13 +11,14 @@ use Rattle.frame_writer.proofs.writer.judge_settings.Tie as tie
 
 -- the sizes, of an N and a tail that are not refused
 count : (c : tie.After-told-fields) → c .told-fields .result ≡ fieldCount (c .before .before .before .args .told)
-count c = c .told-fields .ensures ∙ rw (lt-ltb _ _ (c .before .before .before .pre .0))
+count c = let entry = c .before .before .before in
+    c .told-fields .ensures ∙ lengths.told-fields (entry .args .told) (entry .pre .0)
 
 long : (c : tie.After-told-length)
     → c .told-length .result ≡ frameLength (c .before .before .before .before .before .before .args .told) (c .before .before .before .before .before .before .args .tail)
 long c =
     let entry = c .before .before .before .before .before .before in
-    c .told-length .ensures ∙ rw (lt-ltb _ _ (entry .pre .0), le-leb _ _ (entry .pre .1))
+    c .told-length .ensures ∙ lengths.told-length (entry .args .told) (entry .pre .0) (entry .args .tail) (entry .pre .1)
 
 told-fields-requires : tie.Need-told-fields-requires
 told-fields-requires c κs = search needs

@@ -14,7 +14,9 @@ judge-told-requires c κs = search needs
 returns : tie.Need-returns
 unfolding writeRefusal
 returns c = let a = c .before .before .before .before .args in
-    rows.sooner (toldRows (a .told .part) (a .told .devices) (a .tail)) (writeRows (a .told) (a .tail) (a .byte) (a .bytes .now) (a .values .now) (a .room)) (c .before .judge-told .ensures) (c .if1 .taken)
+    let told = toldRows (a .told .part) (a .told .devices) (a .tail) in
+    let settings = writeRows (a .told) (a .tail) (a .byte) (a .bytes .now) (a .values .now) (a .room) in
+    rows.sooner told settings (c .before .judge-told .ensures) (c .if1 .taken)
 
 judge-settings-requires : tie.Need-judge-settings-requires
 judge-settings-requires c κs = let a = c .before .before .before .before .args in
@@ -27,7 +29,9 @@ unfolding writeRefusal
 returns-2 c =
     let judge-told = c .before .before .judge-told in
     let a = c .before .before .before .before .before .args in
-    rows.later (toldRows (a .told .part) (a .told .devices) (a .tail)) (writeRows (a .told) (a .tail) (a .byte) (a .bytes .now) (a .values .now) (a .room)) refl (judge-told .ensures) (c .before .if1 .left) (c .judge-settings .ensures)
+    let told = toldRows (a .told .part) (a .told .devices) (a .tail) in
+    let settings = writeRows (a .told) (a .tail) (a .byte) (a .bytes .now) (a .values .now) (a .room) in
+    rows.later told settings refl (judge-told .ensures) (c .before .if1 .left) (c .judge-settings .ensures)
 
 pub judge-write-spec : {M : Type 1} → statement M
 judge-write-spec =

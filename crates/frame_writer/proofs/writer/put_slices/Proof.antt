@@ -5,7 +5,6 @@ use Rattle.frame_writer.proofs.writer.put_slices.Tie as tie
 use Prim.Native.Nat.{ℕ, _+_}
 use mathlib.Core.Path.{_≡_, refl, sym, ap, _∙_}
 use native.Mathlib.Omega.{arith}
-use borrow.Author.Tests.{lt-ltb}
 use lib.ListN.{replicate, length-replicate}
 use Rattle.parts.specs.Parts.{partOf, fieldWidth}
 use Rattle.parts.specs.declared.command.Command.{Command}
@@ -17,7 +16,8 @@ use Rattle.frame_writer.proofs.Pieces as pieces
 
 -- the number of fields, of an N that is not refused
 count : (c : tie.After-told-fields) → c .told-fields .result ≡ fieldCount (c .before .before .before .before .args .told)
-count c = c .told-fields .ensures ∙ rw (lt-ltb _ _ (c .before .before .before .before .pre .0))
+count c = let entry = c .before .before .before .before in
+    c .told-fields .ensures ∙ lengths.told-fields (entry .args .told) (entry .pre .0)
 
 told-fields-requires : tie.Need-told-fields-requires
 told-fields-requires c κs = search needs
@@ -113,7 +113,8 @@ returns-2 c =
     let e = enum-told2 .given .1 in
     let ew : 8 ≡ fieldBits t = sym (ap (λ (k : Command). fieldWidth (partOf (t .part)) k) e) in
     let ev : a .bytes .now ≡ settings t (a .byte) (a .bytes .now) (a .values .now) = sym (ap (λ (k : Command). settingsOf t k (a .byte) (a .bytes .now) (a .values .now)) e) in
-    pieces.put-whole t (a .byte) (a .bytes .now) (a .values .now) list ev ew refl (λ i. c .before .before .before .before .before .before .before .before .before .before .shared-slice-known .given i .fits) (a .at) (a .out .now) (put-bytes .ensures)
+    let known = c .before .before .before .before .before .before .before .before .before .before .shared-slice-known in
+    pieces.put-whole t (a .byte) (a .bytes .now) (a .values .now) list ev ew refl (λ i. known .given i .fits) (a .at) (a .out .now) (put-bytes .ensures)
 
 same-length-3 : tie.Need-same-length-3
 same-length-3 c = search needs
@@ -128,7 +129,8 @@ returns-3 c =
     let ew : 8 ≡ fieldBits t = sym (ap (λ (k : Command). fieldWidth (partOf (t .part)) k) e) in
     let n = c .before .before .before .before .before .before .before .told-fields .result in
     let ev : replicate n (a .byte) ≡ settings t (a .byte) (a .bytes .now) (a .values .now)
-    = ap (λ (k : ℕ). replicate k (a .byte)) (count (c .before .before .before .before .before .before .before)) ∙ sym (ap (λ (k : Command). settingsOf t k (a .byte) (a .bytes .now) (a .values .now)) e) in
+    = ap (λ (k : ℕ). replicate k (a .byte)) (count (c .before .before .before .before .before .before .before))
+    ∙ sym (ap (λ (k : Command). settingsOf t k (a .byte) (a .bytes .now) (a .values .now)) e) in
     let small = tests.below-replicate n (a .byte) 256 (omega arith) (omega arith) in
     pieces.put-whole t (a .byte) (a .bytes .now) (a .values .now) list ev ew refl small (a .at) (a .out .now)
     (c .before .before .put-same .ensures .0, c .before .before .put-same .ensures .1 ∙ ap (λ (k : ℕ). a .at + k) (sym (length-replicate n (a .byte))))
@@ -146,7 +148,8 @@ returns-4 c =
     let ew : 8 ≡ fieldBits t = sym (ap (λ (k : Command). fieldWidth (partOf (t .part)) k) e) in
     let n = c .before .before .before .before .before .before .before .told-fields .result in
     let ev : replicate n (a .byte) ≡ settings t (a .byte) (a .bytes .now) (a .values .now)
-    = ap (λ (k : ℕ). replicate k (a .byte)) (count (c .before .before .before .before .before .before .before)) ∙ sym (ap (λ (k : Command). settingsOf t k (a .byte) (a .bytes .now) (a .values .now)) e) in
+    = ap (λ (k : ℕ). replicate k (a .byte)) (count (c .before .before .before .before .before .before .before))
+    ∙ sym (ap (λ (k : Command). settingsOf t k (a .byte) (a .bytes .now) (a .values .now)) e) in
     let small = tests.below-replicate n (a .byte) 256 (omega arith) (omega arith) in
     pieces.put-whole t (a .byte) (a .bytes .now) (a .values .now) list ev ew refl small (a .at) (a .out .now)
     (c .before .before .put-same2 .ensures .0, c .before .before .put-same2 .ensures .1 ∙ ap (λ (k : ℕ). a .at + k) (sym (length-replicate n (a .byte))))

@@ -8,7 +8,7 @@ use Rattle.bits.specs.Bits.{over}
 use Rattle.tables.proofs.Rows as rows
 use Rattle.frames.specs.Frames.{frameOf}
 use Rattle.frame_writer.specs.Writing.{settings, written, writtenOut}
-use Rattle.frames.specs.declared.told.Written.the-variants.{Bytes, Refused}
+use Rattle.frame_writer.specs.declared.answer.Written.the-variants.{Bytes, Refused}
 
 judge-write-requires : tie.Need-judge-write-requires
 judge-write-requires c κs = search needs

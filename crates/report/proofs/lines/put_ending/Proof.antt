@@ -3,7 +3,7 @@ use mathlib.Core.Path.{_≡_, refl, sym, ap}
 use mathlib.Core.List.{_∷_}
 use native.Mathlib.Omega.{arith}
 use Rattle.report.specs.Lines.{labelled, refusedText, newline, acceptedText, ending}
-use Rattle.frames.proofs.Cases.{read-no-refusal}
+use Rattle.frame_reader.proofs.Cases.{read-no-refusal}
 use Rattle.report.proofs.Putting as laws
 use borrow.Author.Needs.{needs}
 use Rattle.report.proofs.lines.put_ending.Statement.{statement}

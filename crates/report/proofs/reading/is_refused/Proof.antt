@@ -1,7 +1,7 @@
 -- `report::is_refused` meets its contract. Assumes nothing.
 use mathlib.Core.Path.{_≡_, refl}
 use mathlib.Core.Bool.{false}
-use Rattle.frames.proofs.Cases.{read-no-refusal}
+use Rattle.frame_reader.proofs.Cases.{read-no-refusal}
 use Rattle.report.specs.Report.{isRefused}
 use borrow.Author.Needs.{needs}
 use Rattle.report.proofs.reading.is_refused.Statement.{statement}

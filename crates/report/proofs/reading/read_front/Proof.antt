@@ -5,7 +5,7 @@ use Prim.Native.Nat.{ℕ, _+_, _/_}
 use native.Mathlib.Omega.{arith}
 use lib.ListN.{take}
 use Rattle.frames.specs.Frames.{noTail}
-use Rattle.frames.specs.Reading.{read}
+use Rattle.frame_reader.specs.Reading.{read}
 use Rattle.report.specs.Report.{answerOf}
 use borrow.Author.Needs.{needs}
 use Rattle.report.proofs.reading.read_front.Statement.{statement}

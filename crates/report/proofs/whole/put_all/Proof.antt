@@ -4,7 +4,7 @@ use mathlib.Core.Path.{sym, ap, _∙_}
 use Prim.Native.Nat.{_%_}
 use native.Mathlib.Omega.{arith}
 use Rattle.parts.specs.declared.command.Command.the-variants.{Configuration}
-use Rattle.frames.specs.declared.told.Read.the-variants as R
+use Rattle.frame_reader.specs.declared.answer.Read.the-variants as R
 use Rattle.report.specs.Lines.{frameLine, partLine}
 use Rattle.report.specs.Report.{allLines}
 use Rattle.report.proofs.Putting as put

@@ -1,0 +1,26 @@
+-- The laws of the test that each byte of a list is the same. Assumes nothing.
+use mathlib.Core.Path.{_≡_, refl, sym, ap, ap₂, _∙_}
+use mathlib.Core.Bool.{Bool, true, _&&_}
+use mathlib.Core.List.{List, [], _∷_}
+use Prim.Native.Nat.{ℕ, zero, suc, _+_, _<_}
+use native.Mathlib.Numerals.{add-one}
+use lib.Dec.{eqb}
+use lib.ListN.{length, getD, drop, replicate}
+use lib.Seq.{drop-cons}
+use borrow.Author.Tests.{eqb-true, eq-eqb}
+use Rattle.tables.proofs.Booleans.{and-left, and-right}
+use Rattle.frame_reader.specs.Reading.{allSame}
+
+-- the rest of a list is its next byte and what comes after
+pub allSame-drop : (xs : List ℕ) (b i : ℕ) → i < length xs → allSame (drop i xs) b ≡ (eqb (getD xs i 0) b && allSame (drop (i + 1) xs) b)
+allSame-drop xs b i h = rw (add-one, drop-cons xs i 0)
+
+pub same-replicate : (n b : ℕ) → allSame (replicate n b) b ≡ true
+same-replicate zero b = refl
+same-replicate (suc n) b = ap (λ (d : Bool). d && allSame (replicate n b) b) (eq-eqb b b refl) ∙ same-replicate n b
+
+-- a list of one byte is that byte again and again
+pub replicate-same : (l : List ℕ) (b : ℕ) → allSame l b ≡ true → replicate (length l) b ≡ l
+replicate-same [] b e = refl
+replicate-same (x ∷ l) b e =
+    ap₂ (λ (y : ℕ) (r : List ℕ). y ∷ r) (sym (eqb-true x b (and-left (eqb x b) (allSame l b) e))) (replicate-same l b (and-right (eqb x b) (allSame l b) e))

@@ -1,0 +1,2 @@
+-- What the frame reader answers, for any input.
+pub mod Reading

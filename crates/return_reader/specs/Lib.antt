@@ -1,0 +1,2 @@
+-- What the return reader answers, for any input.
+pub mod Returns

@@ -9,8 +9,8 @@ use lib.ListN.{length, take, drop}
 use lib.Seq.{take-add, take-all}
 use Rattle.tables.specs.Lists.{allBelow}
 use Rattle.tables.proofs.Booleans.{and-assoc}
-use Rattle.registers.specs.Held.{strided}
-use Rattle.registers.proofs.Lists.{strided-take}
+use Rattle.storing.specs.Stored.{strided}
+use Rattle.storing.proofs.Lists.{strided-take}
 use Rattle.widths.specs.Widths.{pairBelow}
 
 allBelow-append : (xs ys : List ℕ) (m : ℕ) → allBelow (xs ++ ys) m ≡ (allBelow xs m && allBelow ys m)

@@ -51,7 +51,7 @@ fn all24_below(values: [u16; 24], limit: u16) -> bool
 fn all48_below(values: [u16; 48], limit: u16) -> bool
     ensures { λ r. ⌜ r ≡ allBelow values limit ⌝ }
 {
-    let low = registers::first_half(values);
-    let high = registers::second_half(values);
+    let low = storing::first_half(values);
+    let high = storing::second_half(values);
     pair_below(low, high, limit)
 }

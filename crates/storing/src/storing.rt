@@ -36,20 +36,6 @@ fn every(slice: [u16; 48], first: usize, stride: usize) -> [u16; 24]
     values
 }
 
-// The first 24 values of the slice.
-pub fn first_half(slice: [u16; 48]) -> [u16; 24]
-    ensures { λ r. ⌜ r ≡ strided slice 0 1 24 ⌝ }
-{
-    every(slice, 0, 1)
-}
-
-// The last 24 values of the slice.
-pub fn second_half(slice: [u16; 48]) -> [u16; 24]
-    ensures { λ r. ⌜ r ≡ strided slice 24 1 24 ⌝ }
-{
-    every(slice, 24, 1)
-}
-
 // The 24 values become MUX0, and MUX1 stays; multiplexed, of the 48 values each second one becomes MUX0, and the others MUX1.
 fn store_values(registers: Registers) -> Registers
     ensures { λ r. ⌜ r ≡ storedValues registers ⌝ }
@@ -57,7 +43,7 @@ fn store_values(registers: Registers) -> Registers
     let slice = registers.slice;
     let mut next = registers;
     if next.configuration % 2 == 0 {
-        let values = first_half(slice);
+        let values = every(slice, 0, 1);
         next.waiting0 = values;
         next
     } else {

@@ -8,7 +8,8 @@ use Rattle.parts.specs.Parts.{partOf, multiplex, fieldWidth, fieldLimit, sliceB
 use Rattle.parts.specs.Wire.{header, statesOf}
 use Rattle.parts.specs.declared.command.Command.{Command}
 use Rattle.phases.specs.Phases.{placeOf, phaseOf, heard, rising, opening, counting}
-use Rattle.registers.specs.Held.{took, stored, fault, raised, activated, flagged, zeros}
+use Rattle.registers.specs.Held.{took, fault, raised, activated, flagged, zeros}
+use Rattle.storing.specs.Stored.{stored}
 use Rattle.phases.specs.declared.phase.Phase.{Phase}
 use Rattle.phases.specs.declared.phase.Phase.the-variants.{Hunting, Opening, Counting, Slice, Passing, Lost}
 use Rattle.phases.specs.declared.phase.Sent.{Sent}

@@ -153,7 +153,7 @@ fn collect(registers: Registers, command: Command, count: u16, taken: u16, bit: 
         return sending(next, more, Sent::Nothing);
     }
     let count = registers::raise(count, next.fault_of(command));
-    let stored = next.store(command);
+    let stored = storing::store(next, command);
     sending(stored, Phase::Passing, Sent::Header { command, count })
 }
 

@@ -15,7 +15,8 @@ use Rattle.parts.proofs.Laws.{each-row}
 use Rattle.parts.specs.declared.command.Command.{Command}
 use Rattle.parts.specs.declared.command.Command.the-variants.{Individual, Calibration, Global, Configuration}
 use Rattle.phases.specs.Phases.{pushed}
-use Rattle.registers.specs.Held.{withSlice, stored, fault, raised}
+use Rattle.registers.specs.Held.{withSlice, fault, raised}
+use Rattle.storing.specs.Stored.{stored}
 use Rattle.device.specs.Step.{at, moved, sending, sliceLength}
 use Rattle.tables.proofs.Booleans.{cond-both}
 use Rattle.registers.proofs.Fields.{field-width-pos, field-width-le}

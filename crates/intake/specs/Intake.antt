@@ -6,7 +6,8 @@ use mathlib.Core.List.{List, [], _∷_}
 use lib.Dec.{ltb, leb}
 use Rattle.parts.specs.declared.command.Command.{Command}
 use Rattle.phases.specs.Phases.{pushed, inHeader, headed}
-use Rattle.registers.specs.Held.{withSlice, stored, fault, raised}
+use Rattle.registers.specs.Held.{withSlice, fault, raised}
+use Rattle.storing.specs.Stored.{stored}
 use Rattle.device.specs.Step.{step, at}
 use Rattle.phases.specs.declared.phase.Phase.{Phase}
 use Rattle.phases.specs.declared.phase.Phase.the-variants.{Slice, Passing}

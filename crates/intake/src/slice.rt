@@ -142,7 +142,7 @@ fn whole(registers: Registers, slice: [u16; 48], command: Command, count: u16, f
     let mut held = registers;
     held.slice = slice;
     let raised = registers::raise(count, held.fault_of(command));
-    let stored = held.store(command);
+    let stored = storing::store(held, command);
     Taken {
         device: Device {
             registers: stored,

@@ -9,14 +9,15 @@ use Rattle.parts.specs.Parts.{partOf, multiplex, fieldWidth, fieldLimit}
 use Rattle.parts.specs.declared.command.Command.{Command}
 use Rattle.parts.specs.declared.command.Command.the-variants.{Individual, Calibration, Global, Configuration}
 use Rattle.phases.specs.Phases.{phaseOf}
-use Rattle.registers.specs.Held.{holding, showing, took, stored, copies}
+use Rattle.registers.specs.Held.{holding, showing, took}
+use Rattle.storing.specs.Stored.{stored, copies}
 use Rattle.device.specs.Step.{freshDevice, bounded, faulted, sliceLength, stepHigh}
 use Rattle.phases.specs.declared.phase.Phase.{Phase}
 use Rattle.phases.specs.declared.phase.Phase.the-variants.{Hunting, Opening, Counting, Slice, Passing, Lost}
 use Rattle.registers.specs.declared.registers.Registers.{Registers}
 use Rattle.device.specs.declared.device.Device.{Device}
 use Rattle.device.specs.declared.device.Stepped.{Stepped}
-use Rattle.registers.proofs.Lists.{length-strided}
+use Rattle.storing.proofs.Lists.{length-strided}
 use Rattle.tables.proofs.Booleans.{cond-both}
 use Rattle.device.specs.Run.{stepRecord}
 use Rattle.link.specs.View.{Sizes, Arrays}

@@ -14,7 +14,8 @@ use Rattle.parts.specs.Wire.{low, high, stateAt, header}
 use Rattle.parts.specs.declared.command.Command.{Command}
 use Rattle.parts.specs.declared.command.Command.the-variants.{Individual, Calibration, Global, Configuration}
 use Rattle.phases.specs.Phases.{phaseOf, windowOf, heard, rising, opened, opening, counting}
-use Rattle.registers.specs.Held.{holding, took, stored, copies}
+use Rattle.registers.specs.Held.{holding, took}
+use Rattle.storing.specs.Stored.{stored, copies}
 use Rattle.device.specs.Step.{moved, sliceLength, step, stepHigh}
 use Rattle.device.specs.Judgement.{placeFits, fits}
 use Rattle.phases.specs.declared.phase.Phase.{Phase}

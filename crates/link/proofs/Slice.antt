@@ -16,13 +16,14 @@ use Rattle.parts.specs.Wire.{low, high, stateAt, header, clocked}
 use Rattle.parts.proofs.Laws.{banks-three}
 use Rattle.parts.specs.declared.command.Command.{Command}
 use Rattle.parts.specs.declared.command.Command.the-variants.{Individual, Calibration, Global, Configuration}
-use Rattle.registers.specs.Held.{holding, took, strided, stored, fault, raised, byteAt}
+use Rattle.registers.specs.Held.{holding, took, fault, raised}
+use Rattle.storing.specs.Stored.{strided, stored, byteAt}
 use Rattle.device.specs.Step.{sentStates, at, moved, sending, sliceLength, collected}
 use Rattle.phases.specs.declared.phase.Phase.the-variants.{Slice, Passing}
 use Rattle.phases.specs.declared.phase.Sent.the-variants.{Nothing, One, Header}
 use Rattle.registers.specs.declared.registers.Registers.{Registers}
 use Rattle.registers.proofs.Fields.{field-width-pos}
-use Rattle.registers.proofs.Lists.{strided-take}
+use Rattle.storing.proofs.Lists.{strided-take}
 use Rattle.widths.proofs.Below.{Below, below-head, took-below}
 use Rattle.model.specs.Device.{slice, stepDevice, load, counted, evens, odds, headerStates}
 use Rattle.model.specs.Device as model

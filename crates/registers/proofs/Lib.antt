@@ -1,3 +1,2 @@
 -- Laws of what a device holds.
-pub mod Lists
 pub mod Fields

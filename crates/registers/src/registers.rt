@@ -3,7 +3,7 @@ ghost use mathlib.Core.Path.{_≡_};
 ghost use Prim.Native.Nat.{_+_, _*_, _/_, _<_};
 ghost use Rattle.parts.specs.Parts.{partOf, fieldWidth, fieldLimit};
 ghost use Rattle.phases.specs.Phases.{pushed};
-ghost use Rattle.registers.specs.Held.{byteAt, took, strided, copies, stored, storedValues, storedCalibration, storedGlobal, storedConfiguration, fault, raised, activated, flagged, zeros};
+ghost use Rattle.registers.specs.Held.{took, fault, raised, activated, flagged, zeros};
 use parts::Command;
 
 #[repr(C)]
@@ -21,51 +21,6 @@ pub struct Registers {
     pub active1: [u16; 24],
     // The slice that is coming in, field by field.
     pub slice: [u16; 48],
-}
-
-// The low byte of a field of the slice.
-fn byte_at(slice: [u16; 48], at: usize) -> u8
-    requires { ⌜ at < 48 ⌝ }
-    ensures { λ r. ⌜ r ≡ byteAt slice at ⌝ }
-{
-    (slice[at] % 256) as u8
-}
-
-// The three bytes of a slice are the same.
-fn same_copies(slice: [u16; 48]) -> bool
-    ensures { λ r. ⌜ r ≡ copies slice ⌝ }
-{
-    let first = byte_at(slice, 0);
-    first == byte_at(slice, 1) && first == byte_at(slice, 2)
-}
-
-// 24 values of the slice, from a first one on, each a stride after the last.
-fn every(slice: [u16; 48], first: usize, stride: usize) -> [u16; 24]
-    requires { ⌜ first + stride * 23 < 48 ⌝ }
-    ensures { λ r. ⌜ r ≡ strided slice first stride 24 ⌝ }
-{
-    let mut values = [0u16; 24];
-    let mut i: usize = 0;
-    while i < 24 {
-        let at = first + stride * i;
-        values[i] = slice[at];
-        i += 1;
-    }
-    values
-}
-
-// The first 24 values of the slice.
-pub fn first_half(slice: [u16; 48]) -> [u16; 24]
-    ensures { λ r. ⌜ r ≡ strided slice 0 1 24 ⌝ }
-{
-    every(slice, 0, 1)
-}
-
-// The last 24 values of the slice.
-pub fn second_half(slice: [u16; 48]) -> [u16; 24]
-    ensures { λ r. ⌜ r ≡ strided slice 24 1 24 ⌝ }
-{
-    every(slice, 24, 1)
 }
 
 // The count sent on.
@@ -116,77 +71,6 @@ impl Registers {
         let width = parts::field_width(command, part) as u16;
         let below = parts::field_limit(command, part);
         take_at(self, (taken / width) as usize, bit, below)
-    }
-
-    fn store_values(self) -> Registers
-        ensures { λ r. ⌜ r ≡ storedValues self ⌝ }
-    {
-        let slice = self.slice;
-        let mut next = self;
-        if next.configuration % 2 == 0 {
-            let values = every(slice, 0, 1);
-            next.waiting0 = values;
-            next
-        } else {
-            let even = every(slice, 0, 2);
-            let odd = every(slice, 1, 2);
-            next.waiting0 = even;
-            next.waiting1 = odd;
-            next
-        }
-    }
-
-    fn store_calibration(self) -> Registers
-        ensures { λ r. ⌜ r ≡ storedCalibration self ⌝ }
-    {
-        let slice = self.slice;
-        let blue = byte_at(slice, 0);
-        let green = byte_at(slice, 1);
-        let red = byte_at(slice, 2);
-        let bytes = [blue, green, red];
-        let mut next = self;
-        next.calibration = bytes;
-        next
-    }
-
-    fn store_global(self) -> Registers
-        ensures { λ r. ⌜ r ≡ storedGlobal self ⌝ }
-    {
-        let slice = self.slice;
-        if same_copies(slice) {
-            let byte = byte_at(slice, 0);
-            let mut next = self;
-            next.waiting = byte;
-            next
-        } else {
-            self
-        }
-    }
-
-    fn store_configuration(self) -> Registers
-        ensures { λ r. ⌜ r ≡ storedConfiguration self ⌝ }
-    {
-        let slice = self.slice;
-        if same_copies(slice) {
-            let byte = byte_at(slice, 0);
-            let mut next = self;
-            next.configuration = byte;
-            next
-        } else {
-            self
-        }
-    }
-
-    // The last bit of a slice stores it.
-    pub fn store(self, command: Command) -> Registers
-        ensures { λ r. ⌜ r ≡ stored self command ⌝ }
-    {
-        match command {
-            Command::Individual => self.store_values(),
-            Command::Calibration => self.store_calibration(),
-            Command::Global => self.store_global(),
-            Command::Configuration => self.store_configuration(),
-        }
     }
 
     // The fault flag of a command's kind.

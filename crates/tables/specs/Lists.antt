@@ -2,6 +2,7 @@
 use Prim.Native.Nat.{ℕ}
 use mathlib.Core.Bool.{Bool, true, _&&_}
 use mathlib.Core.List.{List, [], _∷_}
+use lib.Bits.{bitOr}
 use lib.Dec.{ltb}
 
 -- each passes a test
@@ -13,3 +14,8 @@ every f (x ∷ xs) = f x && every f xs
 abbrev pub allBelow : List ℕ → ℕ → Bool
 allBelow [] m = true
 allBelow (x ∷ xs) m = ltb x m && allBelow xs m
+
+-- the bits of a number and of each of a list
+abbrev pub orAll : List ℕ → ℕ → ℕ
+orAll [] bits = bits
+orAll (x ∷ xs) bits = orAll xs (bitOr bits x)

@@ -2,4 +2,5 @@
 mod lists;
 
 pub use lists::bytes_below;
+pub use lists::or_all;
 pub use lists::values_below;

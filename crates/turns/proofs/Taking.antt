@@ -15,7 +15,8 @@ use Rattle.machine.proofs.Machine.{run-nil}
 use Rattle.parts.specs.Parts.{partOf, fieldWidth, fieldLimit}
 use Rattle.parts.specs.declared.command.Command.{Command}
 use Rattle.phases.specs.Phases.{phaseOf, heard, headed}
-use Rattle.registers.specs.Held.{took, stored, fault, raised}
+use Rattle.registers.specs.Held.{took, fault, raised}
+use Rattle.storing.specs.Stored.{stored}
 use Rattle.device.specs.Step.{step, stepHigh, moved, sending, sliceLength, sentStates, at}
 use Rattle.device.specs.Run.{stepRecord, run}
 use Rattle.phases.specs.declared.phase.Phase.{Phase}

@@ -14,7 +14,8 @@ use Rattle.parts.specs.declared.command.Command.{Command}
 use Rattle.parts.specs.declared.command.Command.the-variants.{Individual, Calibration, Global, Configuration}
 use Rattle.phases.specs.Phases.{pushed}
 use Rattle.tables.proofs.Booleans.{and-both, both-and, cond-both}
-use Rattle.registers.specs.Held.{holding, showing, took, stored, strided, copies}
+use Rattle.registers.specs.Held.{holding, showing, took}
+use Rattle.storing.specs.Stored.{stored, strided, copies}
 use Rattle.widths.specs.Widths.{flagsFit, valuesFit}
 use Rattle.registers.specs.declared.registers.Registers.{Registers}
 use Rattle.registers.proofs.Fields.{limit-pos, field-limit-pos, field-limit-le}

@@ -1,3 +1,3 @@
 -- Laws of values within their widths.
-pub mod Halves
+pub mod Together
 pub mod Below

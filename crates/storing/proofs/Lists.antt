@@ -7,7 +7,7 @@ use native.Mathlib.Nat.{mul-suc, mul-zero, add-zero, le-of-suc-le-suc, not-suc-l
 use native.Mathlib.Omega.{arith}
 use lib.ListN.{length, getD, take, drop, length-drop}
 use lib.Seq.{ext-getD, getD-take, getD-drop, length-take-le}
-use Rattle.registers.specs.Held.{strided}
+use Rattle.storing.specs.Stored.{strided}
 
 pub length-strided : (s : List ℕ) (a k n : ℕ) → length (strided s a k n) ≡ n
 unfolding strided

@@ -1,7 +1,7 @@
 use mathlib.Core.Path.{sym, _∙_}
 use borrow.Author.Needs.{needs}
-use Rattle.registers.proofs.registers.Registers.store_configuration.Statement.{statement}
-use Rattle.registers.proofs.registers.Registers.store_configuration.Tie as tie
+use Rattle.storing.proofs.storing.store_configuration.Statement.{statement}
+use Rattle.storing.proofs.storing.store_configuration.Tie as tie
 
 same-copies-requires : tie.Need-same-copies-requires
 same-copies-requires c κs = search needs

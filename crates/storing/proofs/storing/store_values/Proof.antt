@@ -1,7 +1,7 @@
 use borrow.Author.Tests.{eq-eqb, ne-eqb}
 use borrow.Author.Needs.{needs}
-use Rattle.registers.proofs.registers.Registers.store_values.Statement.{statement}
-use Rattle.registers.proofs.registers.Registers.store_values.Tie as tie
+use Rattle.storing.proofs.storing.store_values.Statement.{statement}
+use Rattle.storing.proofs.storing.store_values.Tie as tie
 
 every-requires : tie.Need-every-requires
 every-requires c κs = search needs

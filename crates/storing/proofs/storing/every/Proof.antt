@@ -6,9 +6,9 @@ use borrow.Author.Count.{below-more}
 use borrow.Author.Needs.{needs}
 use native.Mathlib.Omega.{arith}
 use Prim.Native.Nat.{ℕ, _+_, _≤_, _<_, _-_, _*_}
-use Rattle.registers.proofs.Lists.{length-strided, getD-strided}
-use Rattle.registers.proofs.registers.every.Statement.{statement}
-use Rattle.registers.proofs.registers.every.Tie as tie
+use Rattle.storing.proofs.Lists.{length-strided, getD-strided}
+use Rattle.storing.proofs.storing.every.Statement.{statement}
+use Rattle.storing.proofs.storing.every.Tie as tie
 
 abbrev Inv-loop : tie.InvT-loop
 Inv-loop first stride slice values₀ i₀ values i =

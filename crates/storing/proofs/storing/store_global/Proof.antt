@@ -1,7 +1,7 @@
 use mathlib.Core.Path.{sym, _∙_}
 use borrow.Author.Needs.{needs}
-use Rattle.registers.proofs.registers.Registers.store_global.Statement.{statement}
-use Rattle.registers.proofs.registers.Registers.store_global.Tie as tie
+use Rattle.storing.proofs.storing.store_global.Statement.{statement}
+use Rattle.storing.proofs.storing.store_global.Tie as tie
 
 same-copies-requires : tie.Need-same-copies-requires
 same-copies-requires c κs = search needs

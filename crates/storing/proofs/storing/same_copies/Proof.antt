@@ -1,8 +1,8 @@
 use mathlib.Core.Path.{sym, _∙_}
 use borrow.Author.Tests.{eq-eqb, ne-eqb}
 use borrow.Author.Needs.{needs}
-use Rattle.registers.proofs.registers.same_copies.Statement.{statement}
-use Rattle.registers.proofs.registers.same_copies.Tie as tie
+use Rattle.storing.proofs.storing.same_copies.Statement.{statement}
+use Rattle.storing.proofs.storing.same_copies.Tie as tie
 
 byte-at-requires : tie.Need-byte-at-requires
 byte-at-requires c κs = search needs

@@ -1,6 +1,6 @@
 use borrow.Author.Needs.{needs}
-use Rattle.registers.proofs.registers.Registers.store.Statement.{statement}
-use Rattle.registers.proofs.registers.Registers.store.Tie as tie
+use Rattle.storing.proofs.storing.store.Statement.{statement}
+use Rattle.storing.proofs.storing.store.Tie as tie
 
 enum-told : tie.Need-enum-told
 enum-told c = search needs

@@ -1,6 +1,6 @@
 use borrow.Author.Needs.{needs}
-use Rattle.registers.proofs.registers.Registers.store_calibration.Statement.{statement}
-use Rattle.registers.proofs.registers.Registers.store_calibration.Tie as tie
+use Rattle.storing.proofs.storing.store_calibration.Statement.{statement}
+use Rattle.storing.proofs.storing.store_calibration.Tie as tie
 
 byte-at-requires : tie.Need-byte-at-requires
 byte-at-requires c κs = search needs

@@ -1,0 +1,2 @@
+-- Laws of what a slice stores.
+pub mod Lists

@@ -1,0 +1,2 @@
+-- What a slice stores.
+pub mod Stored

@@ -162,7 +162,7 @@ pub edge-le : (part : ℕ) → partOf part .edge ≤ partOf part .clocks
 edge-le part = each-row (λ p. p .edge ≤ p .clocks) (lit≤ tt) (lit≤ tt) part
 
 -- a position that is not over is one of the part's
-pub position-within :
+position-within :
     (p : Part) (configuration output subframe clock phase : ℕ)
     → positionOver p configuration output subframe clock phase ≡ false
     → (output < 8 * p .banks) × (subframe < subframes p configuration) × (clock < p .clocks) × (phase ≤ multiplex configuration)

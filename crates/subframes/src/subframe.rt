@@ -35,7 +35,7 @@ fn level_of(part: u16, configuration: u8, global: u8) -> u64
 
 // The ON subframes before subframe s of a frame of n, at level g.
 fn on_first(n: u64, g: u64, s: u64) -> u64
-    requires { ⌜ (0 < n) × (g < 128) × (s ≤ 4294967296) ⌝ }
+    requires { ⌜ (0 < n) × (g < 128) × (s < 0x200000000) ⌝ }
     ensures { λ r. ⌜ r ≡ onFirst n g s ⌝ }
 {
     s * (g + 1) / n

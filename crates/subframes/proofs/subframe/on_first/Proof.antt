@@ -10,7 +10,7 @@ add-result c = search needs
 
 mul-result : tie.Need-mul-result
 mul-result c = let a = c .args in
-    let h : a .s ≤ 4294967296 = omega arith in
+    let h : a .s ≤ 0x200000000 = omega arith in
     let k : a .g + 1 ≤ 128 = omega arith in
     record { fits = omega (arith, mul-le-mul h k) }
 

@@ -6,8 +6,8 @@ use lib.IntN.{pos}
 use Rattle.bits.specs.Bits.{digit}
 use Rattle.tables.specs.Refusals.{Row, _when_, first, answer}
 use Rattle.parts.specs.Parts.{known, code, commandAt}
-use Rattle.bits.specs.declared.packing.Packed.{Packed}
-use Rattle.bits.specs.declared.packing.Packed.the-variants as P
+use Rattle.packing.specs.declared.packing.Packed.{Packed}
+use Rattle.packing.specs.declared.packing.Packed.the-variants as P
 use Rattle.serial.specs.declared.states.Converted.{Converted}
 use Rattle.serial.specs.declared.states.Converted.the-variants as L
 use Rattle.frames.specs.Frames.{toldOf}

@@ -1,4 +1,4 @@
--- What the functions' proofs cite: tests, loops that copy, lengths, the answers of `bits`, what an accepted call knows, the
+-- What the functions' proofs cite: tests, loops that copy, lengths, the answers of `unpacking`, what an accepted call knows, the
 -- pieces of a frame, and the cases of an answer.
 pub mod Tests
 pub mod Copies

@@ -4,14 +4,14 @@ ghost use Prim.Native.Nat.{_+_, _*_, _≤_};
 ghost use lib.ListN.{length, take, drop};
 ghost use Rattle.bits.specs.Bits.{fields, split, over};
 ghost use Rattle.frames.specs.Frames.{field};
-use bits::Number;
+use unpacking::Number;
 
 // The number of the `width` bits from the bit `at` on.
 pub fn field_at(frame: &[u8], at: usize, width: u32) -> u64
     requires { ⌜ (width ≤ 64) × (at + width ≤ 8 * length (now frame)) ⌝ }
     ensures { λ r. ⌜ r ≡ field at width (fields 8 (now (frame .entry))) ⌝ }
 {
-    let Number::Value(value) = bits::number_at(frame, at, width) else {
+    let Number::Value(value) = unpacking::number_at(frame, at, width) else {
         return 0;
     };
     value
@@ -22,7 +22,7 @@ pub fn take_values(frame: &[u8], n: usize, width: u32, values: &mut [u16])
     requires { ⌜ (width ≤ 16) × (24 + n * width ≤ 8 * length (now frame)) × (n ≤ length (now values)) ⌝ }
     ensures { λ _. ⌜ now (values .exit) ≡ over (split width n (fields 8 (drop 3 (now (frame .entry))))) (now (values .entry)) ⌝ }
 {
-    bits::unpack(frame, 3, width, &mut values[..n]);
+    unpacking::unpack(frame, 3, width, &mut values[..n]);
 }
 
 // The n bytes behind the header, to the front of the lent list.

@@ -1,4 +1,4 @@
--- The bits are there, so the answer of `bits` is never a refusal.
+-- The bits are there, so the answer of `unpacking` is never a refusal.
 use borrow.Author.Needs.{needs}
 use Rattle.frames.proofs.take.field_at.Statement.{statement}
 use Rattle.frames.proofs.take.field_at.Tie as tie

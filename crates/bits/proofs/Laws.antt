@@ -1,6 +1,6 @@
 -- The laws of the definitions of specs/Bits, each once and for any width: a number's bits, bits as a number, fields, bytes, and lists
 -- with a part replaced. "Each value is below 2 ^ w" is written `(i : ℕ) → getD vs i 0 < 2 ^ w`, the form in which a lent slice gives it.
--- What only this crate's writer and reader need is in Writing and Reading. Assumes nothing.
+-- The laws of what fits into bytes are in Fits. Assumes nothing.
 use mathlib.Core.Path.{_≡_, refl, sym, ap, ap₂, _∙_, subst}
 use mathlib.Core.Bool.{Bool, true, false}
 use mathlib.Core.List.{List, [], _∷_, _++_, append-assoc, append-nil}

@@ -1,6 +1,3 @@
--- Callers' proofs cite Laws, the laws of bits and bytes, and Answers, the laws of what packing answers.
--- What only this crate's writer and reader need is in Writing and Reading.
+-- Callers' proofs cite Laws, the laws of bits and bytes, and Fits, the laws of what fits into bytes.
 pub mod Laws
-pub mod Answers
-mod Writing
-mod Reading
+pub mod Fits

@@ -1,9 +1,10 @@
 -- Bits and bytes. A number's bits at any width, most significant first; the number that bits say; numbers as fields with no gap;
--- bits as bytes, with zeros in the unused bits of the last byte, and back. A bit is a Bool: `false` is 0 and `true` is 1.
--- What packing and unpacking answer is in Packing; the laws are in proofs/Laws. Assumes nothing.
+-- bits as bytes, with zeros in the unused bits of the last byte, and back; what fits into bytes. A bit is a Bool: `false` is 0 and
+-- `true` is 1. The laws are in proofs/Laws, and those of what fits in proofs/Fits. Assumes nothing.
 use Prim.Native.Nat.{ℕ, zero, suc, _+_, _-_, _*_, _/_, _%_, _^_}
-use mathlib.Core.Bool.{Bool, true, false}
+use mathlib.Core.Bool.{Bool, true, false, _&&_}
 use mathlib.Core.List.{List, [], _∷_, _++_}
+use lib.Dec.{leb}
 use lib.ListN.{length, take, drop, replicate}
 
 -- the bit that 0 or 1 is
@@ -47,6 +48,10 @@ bytesOf bs = split 8 (length (padded bs) / 8) (padded bs)
 -- the bytes that n bits take
 abbrev pub bytesFor : ℕ → ℕ
 bytesFor n = (n + 7) / 8
+
+-- n fields of w bits, w at most `widest`, fit into `room` bytes from the byte `at` on
+abbrev pub roomFits : ℕ → ℕ → ℕ → ℕ → ℕ → Bool
+roomFits widest w n at room = leb w widest && leb (at + bytesFor (n * w)) room
 
 -- a list with its first elements replaced by ys
 unfoldable pub over : List ℕ → List ℕ → List ℕ

@@ -1,5 +1,2 @@
--- Bits, and what packing and unpacking answer. Writing and Reading, for the private functions below them, are inside.
+-- Bits, bytes, and what fits into them.
 pub mod Bits
-pub mod Packing
-pub mod Writing
-pub mod Reading

@@ -1,6 +1,6 @@
 -- What packing answers in numbers.
-use Rattle.bits.specs.declared.packing.Packed.{Packed}
-use Rattle.bits.specs.declared.packing.Packed.the-variants as P
+use Rattle.packing.specs.declared.packing.Packed.{Packed}
+use Rattle.packing.specs.declared.packing.Packed.the-variants as P
 use Rattle.capi_bits.specs.declared.bytes.Packed.{Packed as Packing}
 
 -- packing: the bytes and 1 where it was done, and 0 where not

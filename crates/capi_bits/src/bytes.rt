@@ -2,7 +2,8 @@
 ghost use mathlib.Core.Path.{_≡_};
 ghost use lib.ListN.{length};
 ghost use Rattle.bits.specs.Bits.{digit};
-ghost use Rattle.bits.specs.Packing.{packed, packedOut, unpacked, unpackedOut};
+ghost use Rattle.packing.specs.Packing.{packed, packedOut};
+ghost use Rattle.unpacking.specs.Unpacking.{unpacked, unpackedOut};
 ghost use Rattle.capi_bits.specs.PackingAnswers.{ofPacked};
 
 // What packing gives: no number of the table of refusals. Where nothing was done both are 0.
@@ -21,14 +22,14 @@ pub extern "C" fn bb_pack(values: &[u16], width: u32, out: &mut [u8], at: usize)
         × (now (out .exit) ≡ packedOut 16 width (now (values .entry)) at (now (out .entry)))
         ⌝ }
 {
-    let packed = bits::pack(values, width, out, at);
+    let packed = packing::pack(values, width, out, at);
     of_packed(packed)
 }
 
-fn of_packed(packed: bits::Packed) -> Packed
+fn of_packed(packed: packing::Packed) -> Packed
     ensures { λ r. ⌜ r ≡ ofPacked packed ⌝ }
 {
-    let bits::Packed::Bytes(n) = packed else {
+    let packing::Packed::Bytes(n) = packed else {
         return Packed { bytes: 0, done: 0 };
     };
     Packed {
@@ -46,7 +47,7 @@ pub extern "C" fn bb_unpack(src: &[u8], at: usize, width: u32, values: &mut [u16
         × (now (values .exit) ≡ unpackedOut width (now (src .entry)) at (now (values .entry)))
         ⌝ }
 {
-    let done = bits::unpack(src, at, width, values);
+    let done = unpacking::unpack(src, at, width, values);
     of_done(done)
 }
 

@@ -9,7 +9,7 @@ pub fn take_values(frame: &[u8], n: usize, width: u32, values: &mut [u16])
     requires { ⌜ (width ≤ 16) × (24 + n * width ≤ 8 * length (now frame)) × (n ≤ length (now values)) ⌝ }
     ensures { λ _. ⌜ now (values .exit) ≡ over (split width n (fields 8 (drop 3 (now (frame .entry))))) (now (values .entry)) ⌝ }
 {
-    bits::unpack(frame, 3, width, &mut values[..n]);
+    unpacking::unpack(frame, 3, width, &mut values[..n]);
 }
 
 // The n bytes behind the header, to the front of the lent list.

@@ -1,12 +1,13 @@
--- Where there is room, a `let .. else` on an answer of `bits` takes its value and never its else. Assumes nothing.
+-- Where there is room, a `let .. else` on an answer of `packing` takes its value and never its else. Assumes nothing.
 use mathlib.Core.Path.{_≡_, sym, _∙_}
 use Prim.Native.Nat.{ℕ, _+_, _*_, _≤_}
 use native.Mathlib.Omega.{arith}
 use Rattle.bits.specs.Bits.{bytesFor}
-use Rattle.bits.specs.Packing.{packed}
-use Rattle.bits.specs.declared.packing.Packed.{Packed}
-use Rattle.bits.specs.declared.packing.Packed.the-variants as P
-use Rattle.bits.proofs.Answers.{roomFits-within, packed-roomFits}
+use Rattle.packing.specs.Packing.{packed}
+use Rattle.packing.specs.declared.packing.Packed.{Packed}
+use Rattle.packing.specs.declared.packing.Packed.the-variants as P
+use Rattle.bits.proofs.Fits.{roomFits-within}
+use Rattle.packing.proofs.Answers.{packed-roomFits}
 
 module _ (widest w n at room : ℕ) (narrow : w ≤ widest) (wide : at + bytesFor (n * w) ≤ room) {r : Packed} (e : r ≡ packed widest w n at room) where
   put : r ≡ P.Bytes (bytesFor (n * w))

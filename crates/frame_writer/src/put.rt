@@ -3,7 +3,7 @@ ghost use mathlib.Core.Path.{_≡_};
 ghost use Prim.Native.Nat.{_+_, _*_, _≤_};
 ghost use lib.ListN.{length, replicate};
 ghost use Rattle.bits.specs.Bits.{bits, fields, bytesOf, bytesFor, overAt};
-use bits::Packed;
+use packing::Packed;
 
 // The `width` low bits of a number, with zeros up to the last byte's end.
 pub fn put_number(value: u64, width: u32, out: &mut [u8], at: usize) -> usize
@@ -11,7 +11,7 @@ pub fn put_number(value: u64, width: u32, out: &mut [u8], at: usize) -> usize
     ensures { λ r.
         ⌜ (now (out .exit) ≡ overAt at (bytesOf (bits width value)) (now (out .entry))) × (r ≡ at + bytesFor width) ⌝ }
 {
-    let Packed::Bytes(n) = bits::pack_number(value, width, out, at) else {
+    let Packed::Bytes(n) = packing::pack_number(value, width, out, at) else {
         return at;
     };
     at + n
@@ -26,7 +26,7 @@ pub fn put_values(values: &[u16], width: u32, out: &mut [u8], at: usize) -> usiz
         × (r ≡ at + bytesFor (length (now (values .entry)) * width))
         ⌝ }
 {
-    let Packed::Bytes(n) = bits::pack(values, width, out, at) else {
+    let Packed::Bytes(n) = packing::pack(values, width, out, at) else {
         return at;
     };
     at + n

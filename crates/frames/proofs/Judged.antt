@@ -9,9 +9,9 @@ use lib.Dec.{leb}
 use lib.ListN.{length}
 use borrow.Author.Tests.{le-leb, le-ltb, eq-eqb}
 use Rattle.bits.specs.Bits.{fields, bytesFor}
-use Rattle.bits.specs.Packing.{numberAt}
-use Rattle.bits.specs.declared.packing.Number.{Number}
-use Rattle.bits.specs.declared.packing.Number.the-variants as N
+use Rattle.unpacking.specs.Unpacking.{numberAt}
+use Rattle.unpacking.specs.declared.unpacking.Number.{Number}
+use Rattle.unpacking.specs.declared.unpacking.Number.the-variants as N
 use Rattle.tables.specs.Refusals.{first}
 use Rattle.parts.specs.declared.command.Command.{Command}
 use Rattle.frames.specs.Frames.{field, fieldAt, headRows, endRows, headTable, endTable}

@@ -9,7 +9,8 @@ use lib.ListN.{length, take, drop}
 use lib.Seq.{length-take-le}
 use Rattle.bits.specs.Bits.{fields, split}
 use Rattle.bits.proofs.Laws as bit
-use Rattle.bits.proofs.Answers.{roomFits-within, unpackedOut-roomFits}
+use Rattle.bits.proofs.Fits.{roomFits-within}
+use Rattle.unpacking.proofs.Answers.{unpackedOut-roomFits}
 use Rattle.frames.proofs.Copies as copies
 
 slice-relend-prefix-unpack : tie.Need-slice-relend-prefix-unpack

@@ -1,4 +1,4 @@
--- There is room, so the answer of `bits` is never a refusal.
+-- There is room, so the answer of `packing` is never a refusal.
 use borrow.Author.Needs.{needs}
 use Rattle.frame_writer.proofs.put.put_number.Statement.{statement}
 use Rattle.frame_writer.proofs.put.put_number.Tie as tie
@@ -11,7 +11,8 @@ use lib.ListN.{length}
 use Rattle.bits.specs.Bits.{bytesOf, bytesFor, overAt}
 use Rattle.bits.proofs.Laws as bit
 use mathlib.Core.Bool.{Bool}
-use Rattle.bits.proofs.Answers.{roomFits-within, packedOut-roomFits}
+use Rattle.bits.proofs.Fits.{roomFits-within}
+use Rattle.packing.proofs.Answers.{packedOut-roomFits}
 use Rattle.frame_writer.proofs.Answers as answers
 
 pack-number-requires : tie.Need-pack-number-requires

@@ -1,4 +1,4 @@
--- There is room, so the answer of `bits` is never a refusal.
+-- There is room, so the answer of `packing` is never a refusal.
 use borrow.Author.Needs.{needs}
 use Rattle.frame_writer.proofs.put.put_values.Statement.{statement}
 use Rattle.frame_writer.proofs.put.put_values.Tie as tie
@@ -6,7 +6,8 @@ use Prim.Native.Nat.{ℕ, _+_}
 use mathlib.Core.Path.{ap, _∙_}
 use native.Mathlib.Omega.{arith}
 use lib.ListN.{length}
-use Rattle.bits.proofs.Answers.{roomFits-within, packedOut-roomFits}
+use Rattle.bits.proofs.Fits.{roomFits-within}
+use Rattle.packing.proofs.Answers.{packedOut-roomFits}
 use Rattle.frame_writer.proofs.Answers as answers
 
 pack-requires : tie.Need-pack-requires

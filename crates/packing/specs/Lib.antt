@@ -1,0 +1,3 @@
+-- What packing answers. Writing, for the private functions below it, is inside.
+pub mod Packing
+pub mod Writing

@@ -32,7 +32,7 @@ pub fn judge(chain: &[Device]) -> Judged
 }
 
 // Before the first record.
-pub fn judge_none() -> Judged
+fn judge_none() -> Judged
     ensures { λ r. ⌜ r ≡ unjudged ⌝ }
 {
     Judged {
@@ -45,7 +45,7 @@ pub fn judge_none() -> Judged
 }
 
 // One record more.
-pub fn judge_one(judged: Judged, device: Device) -> Judged
+fn judge_one(judged: Judged, device: Device) -> Judged
     ensures { λ r. ⌜ r ≡ judgedWith judged device ⌝ }
 {
     let part = device.registers.part;

@@ -92,10 +92,7 @@ fn states_fit(judged: Judged, states: &[u8]) -> bool
 fn fault_fits(judged: Judged, n: usize, device: usize, kind: u8) -> bool
     ensures { λ r. ⌜ r ≡ (isDevice n device && (ltb kind 2 && judged .fits)) ⌝ }
 {
-    if !is_device(n, device) {
-        return false;
-    }
-    kind < 2 && judged.fits
+    is_device(n, device) && (kind < 2 && judged.fits)
 }
 
 fn is_device(n: usize, device: usize) -> bool

@@ -2,11 +2,11 @@
 -- stored there, and the index grows by one. It holds for any function that has such a loop, whatever its locals: `Locals` says which of them the
 -- loop uses. How the record is made is the function's own part (`sweeps`'s `make`); where it is made of the record that stands there, `read`
 -- walks the reading.
-use Rattle.calls.proofs.Walk.{_≡_, refl, sym, _∙_, ap, subst, ℕ, zero, suc, _+_, _*_, _<_, _^_, arith, Bool, true, List, [], _∷_, length, getD, set, URA, fullShare, Ty}
-use Rattle.calls.proofs.Walk.{named, erased, mut, imm, w64, tyBool, tyPtr, tyRef, vbool, vint, vptr, Val, SProp, ent, Lft, GName, Share, fat, Heap, Out, Env, Wp, Tables}
-use Rattle.calls.proofs.Walk.{afterTurn, Atoms, Given, Item, ‵, ⋆, anyQ, _$_, _∵_, !, qed, by, rewrite, whole, sub, look-in, look, look-raw, store, store-raw, init}
-use Rattle.calls.proofs.Walk.{forget, stop, hop, fld, from, load, lit, of-opd, bin, assigns, assigns-last, stays, leaves-loop, exec, pointee, Is, sliceTy, sliceVal, Room}
-use Rattle.calls.proofs.Walk.{row, word, loop}
+use Rattle.judgement.proofs.Walk.{_≡_, refl, sym, _∙_, ap, subst, ℕ, zero, suc, _+_, _*_, _<_, _^_, arith, Bool, true, List, [], _∷_, length, getD, set, URA, fullShare, Ty}
+use Rattle.judgement.proofs.Walk.{named, erased, mut, imm, w64, tyBool, tyPtr, tyRef, vbool, vint, vptr, Val, SProp, ent, Lft, GName, Share, fat, Heap, Out, Env, Wp, Tables}
+use Rattle.judgement.proofs.Walk.{afterTurn, Atoms, Given, Item, ‵, ⋆, anyQ, _$_, _∵_, !, qed, by, rewrite, whole, sub, look-in, look, look-raw, store, store-raw, init}
+use Rattle.judgement.proofs.Walk.{forget, stop, hop, fld, from, load, lit, of-opd, bin, assigns, assigns-last, stays, leaves-loop, exec, pointee, Is, sliceTy, sliceVal, Room}
+use Rattle.judgement.proofs.Walk.{row, word, loop}
 use package.mir.Syntax.{Step as PStep, deref, field, place, copy, int, rvOpd, op2, mul, add, lt, offset, unsigned, Body, skip, seq, assign, block, cond, switch, exit, return, call}
 use prog.Wp.{Spot, spotOf, exits}
 use types.Run.{Walks, Finds}
@@ -15,11 +15,11 @@ use denote.Struct.Laws as LL
 use Rattle.device.specs.declared.device.Device.{Device}
 use Rattle.device.proofs.device.Device.Laws.{mir as dev}
 use Rattle.calls.specs.Chain.{blank}
-use Rattle.calls.specs.declared.changes.Span.{Span}
-use Rattle.calls.proofs.changes.Span as Sp
-use Rattle.calls.proofs.changes.Span.Laws as Sp′
-use Rattle.calls.proofs.Dev.{D, val, vals, lawful, place-fits, place-at, size, out, into, back}
-use Rattle.calls.proofs.Lent.{Open, hold, free, Again, again, loops}
+use Rattle.changes.specs.declared.changes.Span.{Span}
+use Rattle.changes.proofs.changes.Span as Sp
+use Rattle.changes.proofs.changes.Span.Laws as Sp′
+use Rattle.judgement.proofs.Dev.{D, val, vals, lawful, place-fits, place-at, size, out, into, back}
+use Rattle.judgement.proofs.Lent.{Open, hold, free, Again, again, loops}
 use Rattle.chain.proofs.Sweep.{sweep, sweep-next, length-sweep, turnsOf, Within, at-next}
 
 abbrev pub sliceD : Ty

@@ -17,8 +17,8 @@ use Rattle.device.specs.Step.{freshDevice, bounded, faulted}
 use Rattle.device.specs.declared.device.Device.{Device}
 use Rattle.calls.specs.Chain.{allFit, blank}
 use Rattle.calls.specs.Calls.{freshRefusal, freshAfter, boundaryRefusal, boundaryAfter, faultTable, faultRefusal, faultAfter}
-use Rattle.calls.specs.declared.changes.Span.{Span}
-use Rattle.calls.specs.Changes.{span}
+use Rattle.changes.specs.declared.changes.Span.{Span}
+use Rattle.changes.specs.Changes.{span}
 
 unfoldable pub sweep : (Device → Device) → ℕ → ℕ → List Device → List Device
 sweep f from zero xs = xs

@@ -1,5 +1,5 @@
 // The four calls on a lent chain of device records, changed in place, for C and Rust. Each function here walks the records; what it does
-// with one of them is by value, in the crates device, calls and turns.
+// with one of them is by value, in the crates device, judgement, changes and turns.
 ghost use mathlib.Core.Path.{_≡_};
 ghost use mathlib.Core.Bool.{not};
 ghost use lib.Dec.{eqb};
@@ -14,7 +14,7 @@ use device::Device;
 pub extern "C" fn bb_fresh(chain: &mut [Device], part: u16) -> u8
     ensures { λ r. ⌜ (r ≡ freshRefusal part (length (now (chain .entry)))) × (now (chain .exit) ≡ freshAfter part (now (chain .entry))) ⌝ }
 {
-    let span = calls::fresh_span(part, chain.len());
+    let span = changes::fresh_span(part, chain.len());
     let mut i = span.from;
     while i < span.to {
         chain[i] = Device::fresh(part);
@@ -29,7 +29,7 @@ pub extern "C" fn bb_fresh(chain: &mut [Device], part: u16) -> u8
 pub extern "C" fn bb_run(chain: &mut [Device], states: &[u8], returned: &mut [u8]) -> Ran
     ensures { λ r. ⌜ (r ≡ runAnswer (now (chain .entry)) (now (states .entry)) (length (now (returned .entry)))) × (now (chain .exit) ≡ runAfter (now (chain .entry)) (now (states .entry)) (length (now (returned .entry)))) × (now (returned .exit) ≡ runRoom (now (chain .entry)) (now (states .entry)) (now (returned .entry))) ⌝ }
 {
-    let judged = calls::judge(chain);
+    let judged = judgement::judge(chain);
     let entry = cursor::enter(judged, chain.len(), states, returned.len());
     let mut cursor = entry.cursor;
     while cursor.going {
@@ -47,8 +47,8 @@ pub extern "C" fn bb_run(chain: &mut [Device], states: &[u8], returned: &mut [u8
 pub extern "C" fn bb_boundary(chain: &mut [Device]) -> u8
     ensures { λ r. ⌜ (r ≡ boundaryRefusal (now (chain .entry))) × (now (chain .exit) ≡ boundaryAfter (now (chain .entry))) ⌝ }
 {
-    let judged = calls::judge(chain);
-    let span = calls::boundary_span(judged, chain.len());
+    let judged = judgement::judge(chain);
+    let span = changes::boundary_span(judged, chain.len());
     let mut i = span.from;
     while i < span.to {
         chain[i] = chain[i].boundary();
@@ -63,11 +63,11 @@ pub extern "C" fn bb_boundary(chain: &mut [Device]) -> u8
 pub extern "C" fn bb_set_fault(chain: &mut [Device], device: usize, kind: u8, flag: u8) -> u8
     ensures { λ r. ⌜ (r ≡ faultRefusal (now (chain .entry)) device kind) × (now (chain .exit) ≡ faultAfter (now (chain .entry)) device kind (not (eqb flag 0))) ⌝ }
 {
-    let judged = calls::judge(chain);
-    let span = calls::fault_span(judged, chain.len(), device, kind);
+    let judged = judgement::judge(chain);
+    let span = changes::fault_span(judged, chain.len(), device, kind);
     let mut i = span.from;
     while i < span.to {
-        chain[i] = calls::with_fault(chain[i], kind, flag);
+        chain[i] = changes::with_fault(chain[i], kind, flag);
         i += 1;
     }
     span.refusal

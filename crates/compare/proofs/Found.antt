@@ -20,7 +20,7 @@ use Rattle.tables.proofs.Rows.{clear}
 use Rattle.device.specs.declared.device.Device.{Device}
 use Rattle.calls.specs.Chain.{blank}
 use Rattle.model.specs.Set.{Set, Own, ownFrom, owned}
-use Rattle.calls.specs.Judging.{unjudged, judgedFrom}
+use Rattle.judgement.specs.Judging.{unjudged, judgedFrom}
 use Rattle.compare.specs.declared.compared.Compared.{Compared}
 use Rattle.compare.specs.declared.compared.SetNumbers.{SetNumbers}
 use Rattle.compare.specs.declared.compared.Search.{Search}

@@ -14,9 +14,9 @@ use Rattle.device.specs.declared.device.Device.{Device}
 use Rattle.calls.specs.Chain.{hasPart, allKnown}
 use Rattle.parts.specs.Parts.{isCount}
 use Rattle.tables.specs.Lists.{every}
-use Rattle.calls.specs.declared.judging.Judged.{Judged}
-use Rattle.calls.specs.Judging.{unjudged, judgedWith, judgedFrom}
-use Rattle.calls.proofs.Judged.{known-found, fits-found, same-found}
+use Rattle.judgement.specs.declared.judging.Judged.{Judged}
+use Rattle.judgement.specs.Judging.{unjudged, judgedWith, judgedFrom}
+use Rattle.judgement.proofs.Judged.{known-found, fits-found, same-found}
 use Rattle.compare.specs.declared.compared.SetNumbers.{SetNumbers}
 use Rattle.compare.specs.Compare.{rowsOf, lengthsFit, settingsFit, sameChain, compareRefusal}
 use Rattle.compare.specs.Search.{setBy, chainFits, rowsBy}

@@ -11,7 +11,7 @@ use Rattle.tables.specs.Refusals.{Row, first}
 use Rattle.parts.specs.declared.command.Command.the-variants.{Individual, Calibration}
 use Rattle.device.specs.declared.device.Device.{Device}
 use Rattle.model.specs.Set.{Set, Own}
-use Rattle.calls.specs.declared.judging.Judged.{Judged}
+use Rattle.judgement.specs.declared.judging.Judged.{Judged}
 use Rattle.compare.specs.declared.compared.Compared.{Compared}
 use Rattle.compare.specs.declared.compared.SetNumbers.{SetNumbers}
 use Rattle.compare.specs.declared.compared.Search.{Search}

@@ -8,7 +8,7 @@ ghost use Rattle.tables.specs.Refusals.{first};
 ghost use Rattle.compare.specs.Compare.{lengthsFit, settingsFit};
 ghost use Rattle.compare.specs.Search.{chainFits, rowsBy};
 use crate::compared::SetNumbers;
-use calls::Judged;
+use judgement::Judged;
 use parts::Command;
 
 // The number under which a comparison is refused, or 0, by the set and by what was found in the records.

@@ -6,8 +6,8 @@ ghost use Rattle.compare.specs.Search.{setNumbers, OwnInLists, beginSear
 use crate::compared::Compared;
 use crate::compared::Search;
 use crate::compared::SetNumbers;
-use calls::Judged;
 use device::Device;
+use judgement::Judged;
 use parts::Command;
 
 // Where the search begins. A refused one is at its end.

@@ -1,11 +1,11 @@
 // Where a run begins, and its answer.
 ghost use mathlib.Core.Path.{_≡_};
 ghost use Rattle.tables.specs.Refusals.{first};
-ghost use Rattle.calls.specs.Judging.{runRows};
+ghost use Rattle.refusals.specs.Rows.{runRows};
 ghost use Rattle.cursor.specs.Answer.{ran};
 ghost use Rattle.cursor.specs.Entry.{entryUnder};
 use crate::cursor::Cursor;
-use calls::Judged;
+use judgement::Judged;
 
 // The refusal's number, or 0, and where the run begins: a refused one is at its end.
 pub struct Entry {
@@ -24,7 +24,7 @@ pub struct Ran {
 pub fn enter(judged: Judged, n: usize, states: &[u8], room: usize) -> Entry
     ensures { λ r. ⌜ r ≡ entryUnder (first (runRows judged n (now (states .entry)) room)) n (now (states .entry)) ⌝ }
 {
-    enter_under(calls::run_refusal(judged, n, states, room), n, states)
+    enter_under(refusals::run_refusal(judged, n, states, room), n, states)
 }
 
 fn enter_under(refusal: u8, n: usize, states: &[u8]) -> Entry

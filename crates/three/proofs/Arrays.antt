@@ -6,7 +6,7 @@ use denote.Array.{array-vals}
 use denote.Steps.{only}
 use Rattle.device.specs.declared.device.Device.{Device}
 use Rattle.device.proofs.device.Device.Laws.{mir as dev}
-use Rattle.calls.proofs.Dev.{vals}
+use Rattle.judgement.proofs.Dev.{vals}
 
 abbrev pub arr : Ty
 arr = tyArray dev 3

@@ -1,44 +1,44 @@
 -- `chain::bb_boundary` meets its contract: a walk of its MIR, by hand. Records are judged once; the loop is proofs/Loop's, each record is made by
 -- `boundary` of the one that stands there.
-use Rattle.calls.proofs.Walk.{_≡_, refl, sym, _∙_, ap, subst, ℕ, _<_, _^_, List, [], _∷_, length, URA, fullShare, named, w8, w64, tyBool, tyPtr, vint, Val, SProp, ent}
-use Rattle.calls.proofs.Walk.{emp, via, fst∗, Lft, GName, Share, ftrue, fat, flft, Memory, Routine, Heap, Out, Env, Wp, WpFn, Tables, afterSeq, afterBlock, afterTurn}
-use Rattle.calls.proofs.Walk.{atReturn, Atoms, fmOf, Given, Item, ‵, _⊛_, ⋆, anyQ, atRet, _$_, _∵_, !, qed, by, move, drop, split, join, rewrite, fsplit, fjoin, suffices}
-use Rattle.calls.proofs.Walk.{frame, done, whole, sub, look-in, agg, look, init, forget, stop, hop, fld, from, load, of-opd, and-then, no-more, addr, assigns, land, exec}
-use Rattle.calls.proofs.Walk.{returns, enter, alloc1, alloc0, params1, pass1, pass0, Fun, givenOf, tables, tablesOf, owns, Is, uint-makes, RefT, sliceTy, sliceVal}
-use Rattle.calls.proofs.Walk.{MutSlice, Room, finally, slice-vals, mut-slice-tells, row, plain, u8, onEntry, tripleOf, Contract, Triple, cited, nothing, owned, heard}
-use Rattle.calls.proofs.Walk.{says, Stays, gave-slice, walkOf, ends-at, walked, goes-gave-slice, word, byte, loop, id⊢}
+use Rattle.judgement.proofs.Walk.{_≡_, refl, sym, _∙_, ap, subst, ℕ, _<_, _^_, List, [], _∷_, length, URA, fullShare, named, w8, w64, tyBool, tyPtr, vint, Val, SProp, ent}
+use Rattle.judgement.proofs.Walk.{emp, via, fst∗, Lft, GName, Share, ftrue, fat, flft, Memory, Routine, Heap, Out, Env, Wp, WpFn, Tables, afterSeq, afterBlock, afterTurn}
+use Rattle.judgement.proofs.Walk.{atReturn, Atoms, fmOf, Given, Item, ‵, _⊛_, ⋆, anyQ, atRet, _$_, _∵_, !, qed, by, move, drop, split, join, rewrite, fsplit, fjoin, suffices}
+use Rattle.judgement.proofs.Walk.{frame, done, whole, sub, look-in, agg, look, init, forget, stop, hop, fld, from, load, of-opd, and-then, no-more, addr, assigns, land, exec}
+use Rattle.judgement.proofs.Walk.{returns, enter, alloc1, alloc0, params1, pass1, pass0, Fun, givenOf, tables, tablesOf, owns, Is, uint-makes, RefT, sliceTy, sliceVal}
+use Rattle.judgement.proofs.Walk.{MutSlice, Room, finally, slice-vals, mut-slice-tells, row, plain, u8, onEntry, tripleOf, Contract, Triple, cited, nothing, owned, heard}
+use Rattle.judgement.proofs.Walk.{says, Stays, gave-slice, walkOf, ends-at, walked, goes-gave-slice, word, byte, loop, id⊢}
 use denote.Struct.Laws as LL
 use Rattle.device.specs.declared.device.Device.{Device}
 use Rattle.device.proofs.device.Device.Laws.{mir as dev}
 use Rattle.device.specs.Step.{bounded}
 use Rattle.calls.specs.Calls.{boundaryRefusal, boundaryAfter}
-use Rattle.calls.specs.Changes.{span, boundarySpan}
-use Rattle.calls.proofs.Judged.{boundary-refusal-found}
+use Rattle.changes.specs.Changes.{span, boundarySpan}
+use Rattle.refusals.proofs.Found.{boundary-refusal-found}
 use Rattle.chain.proofs.Sweep.{boundary-within, boundary-swept}
-use Rattle.calls.specs.declared.judging.Judged.{Judged}
-use Rattle.calls.proofs.judging.Judged as J
-use Rattle.calls.proofs.judging.Judged.Laws as J′
-use Rattle.calls.proofs.Judges.{jvals, jmade, JudgeC, judges}
-use Rattle.calls.specs.declared.changes.Span.{Span}
-use Rattle.calls.proofs.Dev.{D, val, vals, tells, made, lawful}
-use Rattle.calls.proofs.Lent.{ref, sl, opened, final, free, calls-plain, free-all, closes}
+use Rattle.judgement.specs.declared.judging.Judged.{Judged}
+use Rattle.judgement.proofs.judging.Judged as J
+use Rattle.judgement.proofs.judging.Judged.Laws as J′
+use Rattle.judgement.proofs.Judges.{jvals, jmade, JudgeC, judges}
+use Rattle.changes.specs.declared.changes.Span.{Span}
+use Rattle.judgement.proofs.Dev.{D, val, vals, tells, made, lawful}
+use Rattle.judgement.proofs.Lent.{ref, sl, opened, final, free, calls-plain, free-all, closes}
 use Rattle.chain.proofs.Sweep.{sweep-none, length-sweep, turnsOf, Within, at-first}
 use Rattle.chain.proofs.Loop.{sliceD, refI, sval, SIs, Locals, Source, local, Swept, found-at, Goes, rest-of, Reading, At, Tested, Read, Unread, Stores, Leaves, read, sweeps}
 use package.mir.Syntax.{Body}
-use Rattle.calls.proofs.changes.Span as Sp
-use Rattle.calls.proofs.changes.Span.Laws as Sp′
+use Rattle.changes.proofs.changes.Span as Sp
+use Rattle.changes.proofs.changes.Span.Laws as Sp′
 use Rattle.device.proofs.device.Device.boundary as step
 use Rattle.device.proofs.device.Device.boundary.Symbol as step-def
 use Rattle.device.proofs.device.Device.boundary.Symbol.{name as #step}
 use Rattle.device.proofs.device.Device.boundary.Met as step-thm
-use Rattle.calls.proofs.judge as judge
-use Rattle.calls.proofs.judge.Symbol as judge-def
-use Rattle.calls.proofs.judge.Symbol.{name as #judge}
-use Rattle.calls.proofs.judge.Met as judge-thm
-use Rattle.calls.proofs.boundary_span as spans
-use Rattle.calls.proofs.boundary_span.Symbol as spans-def
-use Rattle.calls.proofs.boundary_span.Symbol.{name as #spans}
-use Rattle.calls.proofs.boundary_span.Met as spans-thm
+use Rattle.judgement.proofs.judge as judge
+use Rattle.judgement.proofs.judge.Symbol as judge-def
+use Rattle.judgement.proofs.judge.Symbol.{name as #judge}
+use Rattle.judgement.proofs.judge.Met as judge-thm
+use Rattle.changes.proofs.boundary_span as spans
+use Rattle.changes.proofs.boundary_span.Symbol as spans-def
+use Rattle.changes.proofs.boundary_span.Symbol.{name as #spans}
+use Rattle.changes.proofs.boundary_span.Met as spans-thm
 use Rattle.chain.proofs.bb_boundary.Key.{name as #bb-boundary}
 use Rattle.chain.proofs.bb_boundary as bb-boundary
 use Rattle.chain.proofs.bb_boundary.Statement as stated
@@ -176,6 +176,6 @@ bb-boundary-spec 𝓤 H 𝓜 𝓖 𝓡 =
     (λ κs qs bounds a g are. via 𝓤 _ (fst∗ 𝓤 _ (emp 𝓤))
     (walk 𝓤 H (𝓖 .A) W (𝓜 .mem) (𝓡 .run) (κs .0) (qs .0) (a .0 .ptr .0) (a .0 .ptr .1) (a .0 .name) (a .0 .now) 𝓣
     (cited 𝓤 H (StepC 𝓤 H (𝓖 .A) (𝓜 .mem) (𝓡 .run)) 𝓜 𝓡 code.env #step step-def.routine code.calls-device·device·Device·boundary (step-thm.met 𝓤 H 𝓜 𝓖 𝓡))
-    (cited 𝓤 H (JudgeC 𝓤 H (𝓖 .A) (𝓜 .mem) (𝓡 .run)) 𝓜 𝓡 code.env #judge judge-def.routine code.calls-calls·judge (judge-thm.met 𝓤 H 𝓜 𝓖 𝓡))
-    (cited 𝓤 H (SpansC 𝓤 H (𝓖 .A) (𝓜 .mem) (𝓡 .run)) 𝓜 𝓡 code.env #spans spans-def.routine code.calls-calls·boundary-span (spans-thm.met 𝓤 H 𝓜 𝓖 𝓡))
+    (cited 𝓤 H (JudgeC 𝓤 H (𝓖 .A) (𝓜 .mem) (𝓡 .run)) 𝓜 𝓡 code.env #judge judge-def.routine code.calls-judgement·judge (judge-thm.met 𝓤 H 𝓜 𝓖 𝓡))
+    (cited 𝓤 H (SpansC 𝓤 H (𝓖 .A) (𝓜 .mem) (𝓡 .run)) 𝓜 𝓡 code.env #spans spans-def.routine code.calls-changes·boundary-span (spans-thm.met 𝓤 H 𝓜 𝓖 𝓡))
     (are .0 .0 .1))))

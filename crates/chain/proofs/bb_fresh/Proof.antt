@@ -1,36 +1,36 @@
 -- `chain::bb_fresh` meets its contract: a walk of its MIR, by hand. The loop is proofs/Loop's; each record is made by `fresh`, whatever was there.
-use Rattle.calls.proofs.Walk.{_≡_, refl, sym, _∙_, ap, subst, ℕ, _<_, _^_, List, [], _∷_, length, URA, fullShare, named, w8, w16, w64, tyInt, tyBool, tyPtr, vint, Val}
-use Rattle.calls.proofs.Walk.{SProp, ent, emp, via, fst∗, Lft, GName, Share, ftrue, fat, flft, Memory, Routine, Heap, Out, Env, Wp, WpFn, Tables, afterSeq, afterBlock}
-use Rattle.calls.proofs.Walk.{afterTurn, atReturn, Atoms, fmOf, Given, Item, ‵, _⊛_, ⋆, anyQ, atRet, _$_, _∵_, !, qed, by, move, drop, split, join, rewrite, fsplit}
-use Rattle.calls.proofs.Walk.{fjoin, suffices, frame, done, whole, sub, look-in, look, init, forget, stop, fld, from, load, of-opd, and-then, no-more, assigns, land}
-use Rattle.calls.proofs.Walk.{exec, returns, enter, alloc1, alloc0, params1, pass1, pass0, Fun, givenOf, tables, tablesOf, yes, owns, Is, uint-vals, uint-tells}
-use Rattle.calls.proofs.Walk.{uint-makes, RefT, sliceVal, MutSlice, Room, finally, slice-vals, mut-slice-tells, row, plain, u8, u16, onEntry, tripleOf, Contract, Triple}
-use Rattle.calls.proofs.Walk.{cited, nothing, owned, heard, says, Stays, gave-slice, stay-dropped, walkOf, ends-at, walked, goes-gave-slice, goes-dropped, word, byte}
-use Rattle.calls.proofs.Walk.{loop, id⊢}
+use Rattle.judgement.proofs.Walk.{_≡_, refl, sym, _∙_, ap, subst, ℕ, _<_, _^_, List, [], _∷_, length, URA, fullShare, named, w8, w16, w64, tyInt, tyBool, tyPtr, vint, Val}
+use Rattle.judgement.proofs.Walk.{SProp, ent, emp, via, fst∗, Lft, GName, Share, ftrue, fat, flft, Memory, Routine, Heap, Out, Env, Wp, WpFn, Tables, afterSeq, afterBlock}
+use Rattle.judgement.proofs.Walk.{afterTurn, atReturn, Atoms, fmOf, Given, Item, ‵, _⊛_, ⋆, anyQ, atRet, _$_, _∵_, !, qed, by, move, drop, split, join, rewrite, fsplit}
+use Rattle.judgement.proofs.Walk.{fjoin, suffices, frame, done, whole, sub, look-in, look, init, forget, stop, fld, from, load, of-opd, and-then, no-more, assigns, land}
+use Rattle.judgement.proofs.Walk.{exec, returns, enter, alloc1, alloc0, params1, pass1, pass0, Fun, givenOf, tables, tablesOf, yes, owns, Is, uint-vals, uint-tells}
+use Rattle.judgement.proofs.Walk.{uint-makes, RefT, sliceVal, MutSlice, Room, finally, slice-vals, mut-slice-tells, row, plain, u8, u16, onEntry, tripleOf, Contract, Triple}
+use Rattle.judgement.proofs.Walk.{cited, nothing, owned, heard, says, Stays, gave-slice, stay-dropped, walkOf, ends-at, walked, goes-gave-slice, goes-dropped, word, byte}
+use Rattle.judgement.proofs.Walk.{loop, id⊢}
 use denote.Struct.Laws as LL
 use Rattle.device.specs.declared.device.Device.{Device}
 use Rattle.device.proofs.device.Device.Laws.{mir as dev}
 use Rattle.device.specs.Step.{freshDevice}
 use Rattle.calls.specs.Calls.{freshRefusal, freshAfter}
-use Rattle.calls.specs.Changes.{span, freshSpan}
-use Rattle.calls.proofs.Judged.{fresh-refusal-found}
+use Rattle.changes.specs.Changes.{span, freshSpan}
+use Rattle.refusals.proofs.Found.{fresh-refusal-found}
 use Rattle.chain.proofs.Sweep.{fresh-within, fresh-swept}
-use Rattle.calls.specs.declared.changes.Span.{Span}
-use Rattle.calls.proofs.Dev.{D, val, tells, lawful}
-use Rattle.calls.proofs.Lent.{ref, sl, opened, final, hold, free, calls-plain, free-all, closes}
+use Rattle.changes.specs.declared.changes.Span.{Span}
+use Rattle.judgement.proofs.Dev.{D, val, tells, lawful}
+use Rattle.judgement.proofs.Lent.{ref, sl, opened, final, hold, free, calls-plain, free-all, closes}
 use Rattle.chain.proofs.Sweep.{sweep-none, length-sweep, turnsOf, Within, at-first}
 use Rattle.chain.proofs.Loop.{sliceD, sval, SIs, Locals, local, Swept, Goes, rest-of, At, Tested, Stores, Leaves, sweeps}
 use package.mir.Syntax.{Body}
-use Rattle.calls.proofs.changes.Span as Sp
-use Rattle.calls.proofs.changes.Span.Laws as Sp′
+use Rattle.changes.proofs.changes.Span as Sp
+use Rattle.changes.proofs.changes.Span.Laws as Sp′
 use Rattle.device.proofs.device.Device.fresh as step
 use Rattle.device.proofs.device.Device.fresh.Symbol as step-def
 use Rattle.device.proofs.device.Device.fresh.Symbol.{name as #step}
 use Rattle.device.proofs.device.Device.fresh.Met as step-thm
-use Rattle.calls.proofs.fresh_span as spans
-use Rattle.calls.proofs.fresh_span.Symbol as spans-def
-use Rattle.calls.proofs.fresh_span.Symbol.{name as #spans}
-use Rattle.calls.proofs.fresh_span.Met as spans-thm
+use Rattle.changes.proofs.fresh_span as spans
+use Rattle.changes.proofs.fresh_span.Symbol as spans-def
+use Rattle.changes.proofs.fresh_span.Symbol.{name as #spans}
+use Rattle.changes.proofs.fresh_span.Met as spans-thm
 use Rattle.chain.proofs.bb_fresh.Key.{name as #bb-fresh}
 use Rattle.chain.proofs.bb_fresh as bb-fresh
 use Rattle.chain.proofs.bb_fresh.Statement as stated
@@ -157,5 +157,5 @@ bb-fresh-spec 𝓤 H 𝓜 𝓖 𝓡 =
     (λ κs qs bounds a g are. via 𝓤 _ (fst∗ 𝓤 _ (emp 𝓤))
     (walk 𝓤 H (𝓖 .A) W (𝓜 .mem) (𝓡 .run) (κs .0) (qs .0) (a .0 .ptr .0) (a .0 .ptr .1) (a .0 .name) (a .0 .now) (a .1 .0) 𝓣
     (cited 𝓤 H (StepC 𝓤 H (𝓖 .A) (𝓜 .mem) (𝓡 .run)) 𝓜 𝓡 code.env #step step-def.routine code.calls-device·device·Device·fresh (step-thm.met 𝓤 H 𝓜 𝓖 𝓡))
-    (cited 𝓤 H (SpansC 𝓤 H (𝓖 .A) (𝓜 .mem) (𝓡 .run)) 𝓜 𝓡 code.env #spans spans-def.routine code.calls-calls·fresh-span (spans-thm.met 𝓤 H 𝓜 𝓖 𝓡))
+    (cited 𝓤 H (SpansC 𝓤 H (𝓖 .A) (𝓜 .mem) (𝓡 .run)) 𝓜 𝓡 code.env #spans spans-def.routine code.calls-changes·fresh-span (spans-thm.met 𝓤 H 𝓜 𝓖 𝓡))
     (are .0 .0 .1) (are .1 .0 .1))))

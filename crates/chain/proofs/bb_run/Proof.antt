@@ -1,14 +1,14 @@
 -- `chain::bb_run` meets its contract: a walk of its MIR, by hand. Records are judged once; each turn reads a record, calls `take_turn`
 -- and `turn_after` with the slices lent on, and stores the record and the cursor. What a turn does to the run is in turns/proofs/Whole.
-use Rattle.calls.proofs.Walk.{_≡_, refl, sym, _∙_, ap, subst, ℕ, zero, suc, _*_, _<_, _^_, arith, Bool, true, false, List, [], _∷_, length, getD, set, URA, fullShare, Ty}
-use Rattle.calls.proofs.Walk.{named, erased, mut, imm, w8, w64, tyBool, tyPtr, tyRef, vbool, vint, vptr, Val, SProp, ent, sep, emp, via, fst∗, Lft, GName, Share, ftrue}
-use Rattle.calls.proofs.Walk.{fat, flft, Memory, Routine, Heap, Out, Env, Wp, WpFn, Tables, afterSeq, afterBlock, afterTurn, atReturn, Atoms, sem, fmOf, Given, Item, ‵}
-use Rattle.calls.proofs.Walk.{raw, _⊛_, ⋆, anyQ, atRet, _$_, _∵_, !, qed, by, move, use1, drop, split, join, rewrite, fsplit, fjoin, suffices, frame, done, whole, sub}
-use Rattle.calls.proofs.Walk.{look-in, agg, look, look-raw, store, store-raw, init, forget, stop, hop, fld, from, load, lit, of-opd, and-then, no-more, bin, addr}
-use Rattle.calls.proofs.Walk.{assigns, assigns-last, land, stays, leaves-loop, exec, returns, enter, alloc1, alloc0, params1, pass1, pass0, Fun, givenOf, tables}
-use Rattle.calls.proofs.Walk.{tablesOf, yes, owns, pointee, Is, shows, uint-vals, uint-tells, uint-makes, uint-copy, RefT, now, sliceTy, sliceVal, MutSlice, ShrSlice}
-use Rattle.calls.proofs.Walk.{Room, finally, slice-vals, mut-slice-tells, shr-slice-tells, row, plain, shrSliceOf, u8, usize, onEntry, tripleOf, Contract, Triple, cited}
-use Rattle.calls.proofs.Walk.{nothing, owned, heard, says, Stays, gave-slice, stay-dropped, walkOf, ends-at, walked, goes-gave-slice, goes-dropped, word, byte, loop, id⊢}
+use Rattle.judgement.proofs.Walk.{_≡_, refl, sym, _∙_, ap, subst, ℕ, zero, suc, _*_, _<_, _^_, arith, Bool, true, false, List, [], _∷_, length, getD, set, URA, fullShare, Ty}
+use Rattle.judgement.proofs.Walk.{named, erased, mut, imm, w8, w64, tyBool, tyPtr, tyRef, vbool, vint, vptr, Val, SProp, ent, sep, emp, via, fst∗, Lft, GName, Share, ftrue}
+use Rattle.judgement.proofs.Walk.{fat, flft, Memory, Routine, Heap, Out, Env, Wp, WpFn, Tables, afterSeq, afterBlock, afterTurn, atReturn, Atoms, sem, fmOf, Given, Item, ‵}
+use Rattle.judgement.proofs.Walk.{raw, _⊛_, ⋆, anyQ, atRet, _$_, _∵_, !, qed, by, move, use1, drop, split, join, rewrite, fsplit, fjoin, suffices, frame, done, whole, sub}
+use Rattle.judgement.proofs.Walk.{look-in, agg, look, look-raw, store, store-raw, init, forget, stop, hop, fld, from, load, lit, of-opd, and-then, no-more, bin, addr}
+use Rattle.judgement.proofs.Walk.{assigns, assigns-last, land, stays, leaves-loop, exec, returns, enter, alloc1, alloc0, params1, pass1, pass0, Fun, givenOf, tables}
+use Rattle.judgement.proofs.Walk.{tablesOf, yes, owns, pointee, Is, shows, uint-vals, uint-tells, uint-makes, uint-copy, RefT, now, sliceTy, sliceVal, MutSlice, ShrSlice}
+use Rattle.judgement.proofs.Walk.{Room, finally, slice-vals, mut-slice-tells, shr-slice-tells, row, plain, shrSliceOf, u8, usize, onEntry, tripleOf, Contract, Triple, cited}
+use Rattle.judgement.proofs.Walk.{nothing, owned, heard, says, Stays, gave-slice, stay-dropped, walkOf, ends-at, walked, goes-gave-slice, goes-dropped, word, byte, loop, id⊢}
 use denote.Struct.Laws as LL
 use denote.Enum.Laws as EL
 use Rattle.tables.specs.Refusals.{first}
@@ -19,11 +19,11 @@ use Rattle.calls.specs.Calls.{runRefusal}
 use Rattle.cursor.specs.declared.cursor.Cursor.{Cursor}
 use Rattle.cursor.specs.declared.entry.Entry.{Entry}
 use Rattle.cursor.specs.declared.entry.Ran.{Ran}
-use Rattle.calls.specs.declared.judging.Judged.{Judged}
+use Rattle.judgement.specs.declared.judging.Judged.{Judged}
 use Rattle.phases.specs.declared.phase.Sent.{Sent}
 use Rattle.intake.specs.declared.taken.Taken.{Taken}
 use Rattle.turns.specs.Front.{Running, nowAt, turnTaken, cursorAfter, turned, turnedOut, turning, enough}
-use Rattle.calls.specs.Judging.{runRows}
+use Rattle.refusals.specs.Rows.{runRows}
 use Rattle.cursor.specs.Answer.{ran}
 use Rattle.cursor.specs.Entry.{entryUnder}
 use Rattle.turns.specs.Ending.{runEnd}
@@ -33,23 +33,22 @@ use Rattle.cursor.proofs.entry.Entry as B
 use Rattle.cursor.proofs.entry.Entry.Laws as B′
 use Rattle.cursor.proofs.entry.Ran as R
 use Rattle.cursor.proofs.entry.Ran.Laws as R′
-use Rattle.calls.proofs.judging.Judged as J
-use Rattle.calls.proofs.judging.Judged.Laws as J′
+use Rattle.judgement.proofs.judging.Judged as J
+use Rattle.judgement.proofs.judging.Judged.Laws as J′
 use Rattle.intake.proofs.taken.Taken as S
 use Rattle.intake.proofs.taken.Taken.Laws as S′
 use Rattle.phases.proofs.phase.Sent as N
 use Rattle.phases.proofs.phase.Sent.Laws as N′
-use Rattle.calls.proofs.Judged.{run-refusal-found}
+use Rattle.refusals.proofs.Found.{run-refusal-found}
 use Rattle.turns.proofs.Turns.{Good, turned-device, turned-cursor}
 use Rattle.turns.proofs.Whole.{Stands, stands-next, stands-zero, stands-end, stands-start, run-same}
-use Rattle.calls.proofs.Dev.{D, val, vals, tells, made, lawful, place-fits, place-at, size, out, into, back}
-use Rattle.calls.proofs.Lent.{ref, sl, Open, Seen, opened, final, looked, shut, lends, returned, lends-shared, returned-shared, hold, free, Again, again, loops}
-use Rattle.calls.proofs.Lent.{calls-val, calls-plain, free-all, closes}
-use Rattle.calls.proofs.Judges.{JIs, JudgeC, judges}
-use Rattle.calls.proofs.judge as judge
-use Rattle.calls.proofs.judge.Symbol as judge-def
-use Rattle.calls.proofs.judge.Symbol.{name as #judge}
-use Rattle.calls.proofs.judge.Met as judge-thm
+use Rattle.judgement.proofs.Dev.{D, val, vals, tells, made, lawful, place-fits, place-at, size, out, into, back}
+use Rattle.judgement.proofs.Lent.{ref, sl, Open, Seen, opened, final, looked, shut, lends, returned, lends-shared, returned-shared, hold, free, Again, again, loops, calls-val, calls-plain, free-all, closes}
+use Rattle.judgement.proofs.Judges.{JIs, JudgeC, judges}
+use Rattle.judgement.proofs.judge as judge
+use Rattle.judgement.proofs.judge.Symbol as judge-def
+use Rattle.judgement.proofs.judge.Symbol.{name as #judge}
+use Rattle.judgement.proofs.judge.Met as judge-thm
 use Rattle.cursor.proofs.enter as opening
 use Rattle.cursor.proofs.enter.Symbol as opening-def
 use Rattle.cursor.proofs.enter.Symbol.{name as #opening}
@@ -356,6 +355,6 @@ bb-run-spec 𝓤 H 𝓜 𝓖 𝓡 =
     (cited 𝓤 H (TakeC 𝓤 H (𝓖 .A) (𝓜 .mem) (𝓡 .run)) 𝓜 𝓡 code.env #take take-def.routine code.calls-turns·take-turn (take-thm.met 𝓤 H 𝓜 𝓖 𝓡))
     (cited 𝓤 H (AfterC 𝓤 H (𝓖 .A) (𝓜 .mem) (𝓡 .run)) 𝓜 𝓡 code.env #after after-def.routine code.calls-turns·turn-after (after-thm.met 𝓤 H 𝓜 𝓖 𝓡))
     (cited 𝓤 H (AnswerC 𝓤 H (𝓖 .A) (𝓜 .mem) (𝓡 .run)) 𝓜 𝓡 code.env #answer answer-def.routine code.calls-turns·answer (answer-thm.met 𝓤 H 𝓜 𝓖 𝓡))
-    (cited 𝓤 H (JudgeC 𝓤 H (𝓖 .A) (𝓜 .mem) (𝓡 .run)) 𝓜 𝓡 code.env #judge judge-def.routine code.calls-calls·judge (judge-thm.met 𝓤 H 𝓜 𝓖 𝓡))
+    (cited 𝓤 H (JudgeC 𝓤 H (𝓖 .A) (𝓜 .mem) (𝓡 .run)) 𝓜 𝓡 code.env #judge judge-def.routine code.calls-judgement·judge (judge-thm.met 𝓤 H 𝓜 𝓖 𝓡))
     (cited 𝓤 H (EnterC 𝓤 H (𝓖 .A) (𝓜 .mem) (𝓡 .run)) 𝓜 𝓡 code.env #opening opening-def.routine code.calls-turns·enter (opening-thm.met 𝓤 H 𝓜 𝓖 𝓡))
     (are .0 .0 .1) (are .1 .0 .0 .1) (are .1 .1 .0 .0 .1))))

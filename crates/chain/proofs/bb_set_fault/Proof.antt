@@ -1,46 +1,46 @@
 -- `chain::bb_set_fault` meets its contract: a walk of its MIR, by hand. Records are judged once; the loop is proofs/Loop's, and takes one turn, at
 -- the device named, or none. The record is made by `with_fault` of the one that stands there.
-use Rattle.calls.proofs.Walk.{_≡_, refl, sym, _∙_, ap, subst, ℕ, _-_, _<_, _^_, not, eqb, List, [], _∷_, length, URA, fullShare, named, w8, w64, tyBool, tyPtr, vint, Val}
-use Rattle.calls.proofs.Walk.{SProp, ent, emp, via, fst∗, Lft, GName, Share, ftrue, fat, flft, Memory, Routine, Heap, Out, Env, Wp, WpFn, Tables, afterSeq, afterBlock}
-use Rattle.calls.proofs.Walk.{afterTurn, atReturn, Atoms, fmOf, Given, Item, ‵, _⊛_, ⋆, anyQ, atRet, _$_, _∵_, !, qed, by, move, drop, split, join, rewrite, fsplit}
-use Rattle.calls.proofs.Walk.{fjoin, suffices, frame, done, whole, sub, look-in, agg, look, init, forget, stop, hop, fld, from, load, of-opd, and-then, no-more, addr}
-use Rattle.calls.proofs.Walk.{assigns, land, exec, returns, enter, alloc1, alloc0, params1, pass1, pass0, Fun, givenOf, tables, tablesOf, yes, owns, Is, uint-vals}
-use Rattle.calls.proofs.Walk.{uint-tells, uint-makes, RefT, sliceTy, sliceVal, MutSlice, Room, finally, slice-vals, mut-slice-tells, row, plain, u8, usize, onEntry}
-use Rattle.calls.proofs.Walk.{tripleOf, Contract, Triple, cited, nothing, owned, heard, says, Stays, gave-slice, stay-dropped, walkOf, ends-at, walked, goes-gave-slice}
-use Rattle.calls.proofs.Walk.{goes-dropped, word, byte, loop, id⊢}
+use Rattle.judgement.proofs.Walk.{_≡_, refl, sym, _∙_, ap, subst, ℕ, _-_, _<_, _^_, not, eqb, List, [], _∷_, length, URA, fullShare, named, w8, w64, tyBool, tyPtr, vint, Val}
+use Rattle.judgement.proofs.Walk.{SProp, ent, emp, via, fst∗, Lft, GName, Share, ftrue, fat, flft, Memory, Routine, Heap, Out, Env, Wp, WpFn, Tables, afterSeq, afterBlock}
+use Rattle.judgement.proofs.Walk.{afterTurn, atReturn, Atoms, fmOf, Given, Item, ‵, _⊛_, ⋆, anyQ, atRet, _$_, _∵_, !, qed, by, move, drop, split, join, rewrite, fsplit}
+use Rattle.judgement.proofs.Walk.{fjoin, suffices, frame, done, whole, sub, look-in, agg, look, init, forget, stop, hop, fld, from, load, of-opd, and-then, no-more, addr}
+use Rattle.judgement.proofs.Walk.{assigns, land, exec, returns, enter, alloc1, alloc0, params1, pass1, pass0, Fun, givenOf, tables, tablesOf, yes, owns, Is, uint-vals}
+use Rattle.judgement.proofs.Walk.{uint-tells, uint-makes, RefT, sliceTy, sliceVal, MutSlice, Room, finally, slice-vals, mut-slice-tells, row, plain, u8, usize, onEntry}
+use Rattle.judgement.proofs.Walk.{tripleOf, Contract, Triple, cited, nothing, owned, heard, says, Stays, gave-slice, stay-dropped, walkOf, ends-at, walked, goes-gave-slice}
+use Rattle.judgement.proofs.Walk.{goes-dropped, word, byte, loop, id⊢}
 use denote.Struct.Laws as LL
 use Rattle.device.specs.declared.device.Device.{Device}
 use Rattle.device.proofs.device.Device.Laws.{mir as dev}
 use Rattle.bits.specs.Bits.{digit}
 use Rattle.device.specs.Step.{faulted}
 use Rattle.calls.specs.Calls.{faultRefusal, faultAfter}
-use Rattle.calls.specs.Changes.{span, faultSpan}
-use Rattle.calls.proofs.Judged.{fault-refusal-found}
+use Rattle.changes.specs.Changes.{span, faultSpan}
+use Rattle.refusals.proofs.Found.{fault-refusal-found}
 use Rattle.chain.proofs.Sweep.{fault-within, fault-swept}
-use Rattle.calls.specs.declared.judging.Judged.{Judged}
-use Rattle.calls.proofs.judging.Judged as J
-use Rattle.calls.proofs.judging.Judged.Laws as J′
-use Rattle.calls.proofs.Judges.{jvals, jmade, JudgeC, judges}
-use Rattle.calls.specs.declared.changes.Span.{Span}
-use Rattle.calls.proofs.Dev.{D, val, vals, tells, made, lawful}
-use Rattle.calls.proofs.Lent.{ref, sl, opened, final, hold, free, calls-plain, free-all, closes}
+use Rattle.judgement.specs.declared.judging.Judged.{Judged}
+use Rattle.judgement.proofs.judging.Judged as J
+use Rattle.judgement.proofs.judging.Judged.Laws as J′
+use Rattle.judgement.proofs.Judges.{jvals, jmade, JudgeC, judges}
+use Rattle.changes.specs.declared.changes.Span.{Span}
+use Rattle.judgement.proofs.Dev.{D, val, vals, tells, made, lawful}
+use Rattle.judgement.proofs.Lent.{ref, sl, opened, final, hold, free, calls-plain, free-all, closes}
 use Rattle.chain.proofs.Sweep.{sweep-none, length-sweep, turnsOf, Within, at-first}
 use Rattle.chain.proofs.Loop.{sliceD, refI, sval, SIs, Locals, Source, local, Swept, found-at, Goes, rest-of, Reading, At, Tested, Read, Unread, Stores, Leaves, read, sweeps}
 use package.mir.Syntax.{Body}
-use Rattle.calls.proofs.changes.Span as Sp
-use Rattle.calls.proofs.changes.Span.Laws as Sp′
-use Rattle.calls.proofs.with_fault as step
-use Rattle.calls.proofs.with_fault.Symbol as step-def
-use Rattle.calls.proofs.with_fault.Symbol.{name as #step}
-use Rattle.calls.proofs.with_fault.Met as step-thm
-use Rattle.calls.proofs.judge as judge
-use Rattle.calls.proofs.judge.Symbol as judge-def
-use Rattle.calls.proofs.judge.Symbol.{name as #judge}
-use Rattle.calls.proofs.judge.Met as judge-thm
-use Rattle.calls.proofs.fault_span as spans
-use Rattle.calls.proofs.fault_span.Symbol as spans-def
-use Rattle.calls.proofs.fault_span.Symbol.{name as #spans}
-use Rattle.calls.proofs.fault_span.Met as spans-thm
+use Rattle.changes.proofs.changes.Span as Sp
+use Rattle.changes.proofs.changes.Span.Laws as Sp′
+use Rattle.changes.proofs.with_fault as step
+use Rattle.changes.proofs.with_fault.Symbol as step-def
+use Rattle.changes.proofs.with_fault.Symbol.{name as #step}
+use Rattle.changes.proofs.with_fault.Met as step-thm
+use Rattle.judgement.proofs.judge as judge
+use Rattle.judgement.proofs.judge.Symbol as judge-def
+use Rattle.judgement.proofs.judge.Symbol.{name as #judge}
+use Rattle.judgement.proofs.judge.Met as judge-thm
+use Rattle.changes.proofs.fault_span as spans
+use Rattle.changes.proofs.fault_span.Symbol as spans-def
+use Rattle.changes.proofs.fault_span.Symbol.{name as #spans}
+use Rattle.changes.proofs.fault_span.Met as spans-thm
 use Rattle.chain.proofs.bb_set_fault.Key.{name as #bb-set-fault}
 use Rattle.chain.proofs.bb_set_fault as bb-set-fault
 use Rattle.chain.proofs.bb_set_fault.Statement as stated
@@ -178,7 +178,7 @@ bb-set-fault-spec 𝓤 H 𝓜 𝓖 𝓡 =
     (walked 𝓤 H (𝓖 .A) bb-set-fault.ended stayed (bb-set-fault.clauses 𝓤 H (𝓖 .A) (𝓜 .mem) (𝓡 .run)) (WpFn 𝓤 H (𝓣 .C) (𝓣 .Λ) code.function) (λ κs. (slice-vals, (uint-vals w64, (uint-vals w8, (uint-vals w8, tt))))) (λ κs. (mut-slice-tells (named 0) (κs .0) D, (uint-tells w64, (uint-tells w8, (uint-tells w8, tt)))))
     (λ κs qs bounds a g are. via 𝓤 _ (fst∗ 𝓤 _ (emp 𝓤))
     (walk 𝓤 H (𝓖 .A) W (𝓜 .mem) (𝓡 .run) (κs .0) (qs .0) (a .0 .ptr .0) (a .0 .ptr .1) (a .0 .name) (a .0 .now) (a .1 .0) (a .1 .1 .0) (a .1 .1 .1 .0) 𝓣
-    (cited 𝓤 H (StepC 𝓤 H (𝓖 .A) (𝓜 .mem) (𝓡 .run)) 𝓜 𝓡 code.env #step step-def.routine code.calls-calls·with-fault (step-thm.met 𝓤 H 𝓜 𝓖 𝓡))
-    (cited 𝓤 H (JudgeC 𝓤 H (𝓖 .A) (𝓜 .mem) (𝓡 .run)) 𝓜 𝓡 code.env #judge judge-def.routine code.calls-calls·judge (judge-thm.met 𝓤 H 𝓜 𝓖 𝓡))
-    (cited 𝓤 H (SpansC 𝓤 H (𝓖 .A) (𝓜 .mem) (𝓡 .run)) 𝓜 𝓡 code.env #spans spans-def.routine code.calls-calls·fault-span (spans-thm.met 𝓤 H 𝓜 𝓖 𝓡))
+    (cited 𝓤 H (StepC 𝓤 H (𝓖 .A) (𝓜 .mem) (𝓡 .run)) 𝓜 𝓡 code.env #step step-def.routine code.calls-changes·with-fault (step-thm.met 𝓤 H 𝓜 𝓖 𝓡))
+    (cited 𝓤 H (JudgeC 𝓤 H (𝓖 .A) (𝓜 .mem) (𝓡 .run)) 𝓜 𝓡 code.env #judge judge-def.routine code.calls-judgement·judge (judge-thm.met 𝓤 H 𝓜 𝓖 𝓡))
+    (cited 𝓤 H (SpansC 𝓤 H (𝓖 .A) (𝓜 .mem) (𝓡 .run)) 𝓜 𝓡 code.env #spans spans-def.routine code.calls-changes·fault-span (spans-thm.met 𝓤 H 𝓜 𝓖 𝓡))
     (are .0 .0 .1) (are .1 .0 .1) (are .1 .1 .0 .1) (are .1 .1 .1 .0 .1))))

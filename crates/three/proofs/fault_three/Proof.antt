@@ -1,17 +1,17 @@
 -- `three::fault_three` meets its contract: a walk of its MIR, by hand. The array is taken apart into a row, lent to `bb_set_fault`, and read whole again.
-use Rattle.calls.proofs.Walk.{_≡_, refl, sym, _∙_, subst, ℕ, not, eqb, List, [], _∷_, length, lit<, URA, fullShare, named, erased, mut, w8, w64, tyRef, vint, Val, SProp}
-use Rattle.calls.proofs.Walk.{ent, emp, via, fst∗, GName, ftrue, fat, flft, Memory, Routine, Heap, WpFn, Tables, Atoms, fmOf, Given, Item, ‵, raw, _⊛_, ⋆, _$_, _∵_, ! }
-use Rattle.calls.proofs.Walk.{qed, by, move, use1, drop, split, join, rewrite, fsplit, fjoin, feqL, suffices, frame, done, agg, look, init, forget, stop, from, load, lit}
-use Rattle.calls.proofs.Walk.{of-opd, and-then, no-more, addr, assigns, land, returns, enter, alloc1, alloc0, params1, pass1, pass0, Fun, givenOf, tables}
-use Rattle.calls.proofs.Walk.{tablesOf, yes, owns, pointee, Is, uint-vals, uint-tells, uint-makes, sliceTy, sliceVal, MutSlice, Room, row, plain, u8, usize, onEntry}
-use Rattle.calls.proofs.Walk.{tripleOf, Contract, Triple, cited, nothing, owned, heard, says, Stays, stay-dropped, walkOf, ends-at, walked, goes-dropped, id⊢}
+use Rattle.judgement.proofs.Walk.{_≡_, refl, sym, _∙_, subst, ℕ, not, eqb, List, [], _∷_, length, lit<, URA, fullShare, named, erased, mut, w8, w64, tyRef, vint, Val, SProp}
+use Rattle.judgement.proofs.Walk.{ent, emp, via, fst∗, GName, ftrue, fat, flft, Memory, Routine, Heap, WpFn, Tables, Atoms, fmOf, Given, Item, ‵, raw, _⊛_, ⋆, _$_, _∵_, ! }
+use Rattle.judgement.proofs.Walk.{qed, by, move, use1, drop, split, join, rewrite, fsplit, fjoin, feqL, suffices, frame, done, agg, look, init, forget, stop, from, load, lit}
+use Rattle.judgement.proofs.Walk.{of-opd, and-then, no-more, addr, assigns, land, returns, enter, alloc1, alloc0, params1, pass1, pass0, Fun, givenOf, tables}
+use Rattle.judgement.proofs.Walk.{tablesOf, yes, owns, pointee, Is, uint-vals, uint-tells, uint-makes, sliceTy, sliceVal, MutSlice, Room, row, plain, u8, usize, onEntry}
+use Rattle.judgement.proofs.Walk.{tripleOf, Contract, Triple, cited, nothing, owned, heard, says, Stays, stay-dropped, walkOf, ends-at, walked, goes-dropped, id⊢}
 use types.Kit.{cut}
 use denote.Array.{Array, array-vals, array-tells, array-makes, array-lawful}
 use denote.Builtin.{ArrayOf}
 use Rattle.device.specs.declared.device.Device.{Device}
 use Rattle.calls.specs.Calls.{faultRefusal, faultAfter}
-use Rattle.calls.proofs.Dev.{D, vals, tells, made, lawful}
-use Rattle.calls.proofs.Lent.{ref, sl, lends, returned, apart, whole-again, calls-val, free-all, closes}
+use Rattle.judgement.proofs.Dev.{D, vals, tells, made, lawful}
+use Rattle.judgement.proofs.Lent.{ref, sl, lends, returned, apart, whole-again, calls-val, free-all, closes}
 use Rattle.chain.proofs.bb_set_fault as callee
 use Rattle.chain.proofs.bb_set_fault.Symbol as callee-def
 use Rattle.chain.proofs.bb_set_fault.Symbol.{name as #callee}

@@ -1,17 +1,17 @@
 -- `three::fresh_three` meets its contract: a walk of its MIR, by hand. The array is taken apart into a row, lent to `bb_fresh`, and read whole again.
-use Rattle.calls.proofs.Walk.{_≡_, refl, sym, _∙_, subst, ℕ, List, [], _∷_, length, lit<, URA, fullShare, named, erased, mut, w8, w16, tyRef, vint, Val, SProp, ent, emp}
-use Rattle.calls.proofs.Walk.{via, fst∗, GName, ftrue, fat, flft, Memory, Routine, Heap, WpFn, Tables, Atoms, fmOf, Given, Item, ‵, raw, _⊛_, ⋆, _$_, _∵_, !, qed, by}
-use Rattle.calls.proofs.Walk.{move, use1, drop, split, join, rewrite, fsplit, fjoin, feqL, suffices, frame, done, agg, look, init, forget, stop, from, load, lit, of-opd}
-use Rattle.calls.proofs.Walk.{and-then, no-more, addr, assigns, land, returns, enter, alloc1, alloc0, params1, pass1, pass0, Fun, givenOf, tables, tablesOf}
-use Rattle.calls.proofs.Walk.{yes, owns, pointee, Is, uint-vals, uint-tells, uint-makes, sliceTy, sliceVal, MutSlice, Room, row, plain, u16, onEntry, tripleOf, Contract}
-use Rattle.calls.proofs.Walk.{Triple, cited, nothing, owned, heard, says, Stays, stay-dropped, walkOf, ends-at, walked, goes-dropped, id⊢}
+use Rattle.judgement.proofs.Walk.{_≡_, refl, sym, _∙_, subst, ℕ, List, [], _∷_, length, lit<, URA, fullShare, named, erased, mut, w8, w16, tyRef, vint, Val, SProp, ent, emp}
+use Rattle.judgement.proofs.Walk.{via, fst∗, GName, ftrue, fat, flft, Memory, Routine, Heap, WpFn, Tables, Atoms, fmOf, Given, Item, ‵, raw, _⊛_, ⋆, _$_, _∵_, !, qed, by}
+use Rattle.judgement.proofs.Walk.{move, use1, drop, split, join, rewrite, fsplit, fjoin, feqL, suffices, frame, done, agg, look, init, forget, stop, from, load, lit, of-opd}
+use Rattle.judgement.proofs.Walk.{and-then, no-more, addr, assigns, land, returns, enter, alloc1, alloc0, params1, pass1, pass0, Fun, givenOf, tables, tablesOf}
+use Rattle.judgement.proofs.Walk.{yes, owns, pointee, Is, uint-vals, uint-tells, uint-makes, sliceTy, sliceVal, MutSlice, Room, row, plain, u16, onEntry, tripleOf, Contract}
+use Rattle.judgement.proofs.Walk.{Triple, cited, nothing, owned, heard, says, Stays, stay-dropped, walkOf, ends-at, walked, goes-dropped, id⊢}
 use types.Kit.{cut}
 use denote.Array.{Array, array-vals, array-tells, array-makes, array-lawful}
 use denote.Builtin.{ArrayOf}
 use Rattle.device.specs.declared.device.Device.{Device}
 use Rattle.calls.specs.Calls.{freshRefusal, freshAfter}
-use Rattle.calls.proofs.Dev.{D, vals, tells, made, lawful}
-use Rattle.calls.proofs.Lent.{ref, sl, lends, returned, apart, whole-again, calls-val, free-all, closes}
+use Rattle.judgement.proofs.Dev.{D, vals, tells, made, lawful}
+use Rattle.judgement.proofs.Lent.{ref, sl, lends, returned, apart, whole-again, calls-val, free-all, closes}
 use Rattle.chain.proofs.bb_fresh as callee
 use Rattle.chain.proofs.bb_fresh.Symbol as callee-def
 use Rattle.chain.proofs.bb_fresh.Symbol.{name as #callee}

@@ -1,11 +1,11 @@
 -- `three::run_three` meets its contract: a walk of its MIR, by hand. The array is lent to `bb_run`, and the two other slices are passed on at their own lifetimes.
-use Rattle.calls.proofs.Walk.{_≡_, refl, sym, _∙_, subst, ℕ, List, [], _∷_, length, lit<, URA, fullShare, named, erased, mut, tyRef, Val, SProp, ent, emp, via, fst∗, Lft}
-use Rattle.calls.proofs.Walk.{GName, Share, ftrue, fat, flft, Memory, Routine, Heap, WpFn, Tables, Atoms, fmOf, Given, Item, ‵, raw, _⊛_, ⋆, _$_, _∵_, !, qed, by, move}
-use Rattle.calls.proofs.Walk.{use1, drop, split, join, rewrite, fsplit, fjoin, feqL, suffices, frame, done, whole, sub, look-in, agg, look, init, forget, stop, hop, fld}
-use Rattle.calls.proofs.Walk.{from, load, lit, of-opd, and-then, no-more, addr, assigns, land, returns, enter, alloc1, alloc0, params1, pass1, pass0, Fun}
-use Rattle.calls.proofs.Walk.{givenOf, tables, tablesOf, yes, owns, pointee, Is, RefT, sliceTy, sliceVal, MutSlice, ShrSlice, Room, finally, slice-vals, mut-slice-tells}
-use Rattle.calls.proofs.Walk.{shr-slice-tells, row, plain, shrSliceOf, u8, onEntry, tripleOf, Contract, Triple, cited, nothing, owned, heard, says, Stays, gave-slice}
-use Rattle.calls.proofs.Walk.{stay-dropped, walkOf, ends-at, walked, goes-gave-slice, goes-dropped, id⊢}
+use Rattle.judgement.proofs.Walk.{_≡_, refl, sym, _∙_, subst, ℕ, List, [], _∷_, length, lit<, URA, fullShare, named, erased, mut, tyRef, Val, SProp, ent, emp, via, fst∗, Lft}
+use Rattle.judgement.proofs.Walk.{GName, Share, ftrue, fat, flft, Memory, Routine, Heap, WpFn, Tables, Atoms, fmOf, Given, Item, ‵, raw, _⊛_, ⋆, _$_, _∵_, !, qed, by, move}
+use Rattle.judgement.proofs.Walk.{use1, drop, split, join, rewrite, fsplit, fjoin, feqL, suffices, frame, done, whole, sub, look-in, agg, look, init, forget, stop, hop, fld}
+use Rattle.judgement.proofs.Walk.{from, load, lit, of-opd, and-then, no-more, addr, assigns, land, returns, enter, alloc1, alloc0, params1, pass1, pass0, Fun}
+use Rattle.judgement.proofs.Walk.{givenOf, tables, tablesOf, yes, owns, pointee, Is, RefT, sliceTy, sliceVal, MutSlice, ShrSlice, Room, finally, slice-vals, mut-slice-tells}
+use Rattle.judgement.proofs.Walk.{shr-slice-tells, row, plain, shrSliceOf, u8, onEntry, tripleOf, Contract, Triple, cited, nothing, owned, heard, says, Stays, gave-slice}
+use Rattle.judgement.proofs.Walk.{stay-dropped, walkOf, ends-at, walked, goes-gave-slice, goes-dropped, id⊢}
 use types.Kit.{cut}
 use denote.Array.{Array, array-vals, array-tells, array-lawful}
 use denote.Builtin.{ArrayOf}
@@ -16,8 +16,8 @@ use Rattle.cursor.specs.declared.entry.Ran.{Ran}
 use Rattle.cursor.specs.Answer.{runAnswer}
 use Rattle.cursor.proofs.entry.Ran as R
 use Rattle.cursor.proofs.entry.Ran.Laws as R′
-use Rattle.calls.proofs.Dev.{D, vals, tells, made, lawful}
-use Rattle.calls.proofs.Lent.{ref, sl, lends, returned, apart, whole-again, calls-val, free-all, closes}
+use Rattle.judgement.proofs.Dev.{D, vals, tells, made, lawful}
+use Rattle.judgement.proofs.Lent.{ref, sl, lends, returned, apart, whole-again, calls-val, free-all, closes}
 use Rattle.chain.proofs.bb_run as callee
 use Rattle.chain.proofs.bb_run.Symbol as callee-def
 use Rattle.chain.proofs.bb_run.Symbol.{name as #callee}

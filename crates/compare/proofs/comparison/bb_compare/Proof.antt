@@ -1,7 +1,7 @@
 -- `compare::bb_compare` meets its contract: a walk of its MIR, by hand. Records are judged once; each turn of the loop reads a record and calls
 -- `look` with the set's two lists lent on. What it comes to is in proofs/Found.
-use Rattle.calls.proofs.Walk.{_≡_, refl, _∙_, ap, subst, ℕ, zero, suc, _*_, _<_, _^_, arith, Bool, true, false, List, [], _∷_, length, getD, URA, fullShare, Ty, named, imm, w8, w64, tyBool, tyPtr, tyRef, vbool, vint, vptr, Val, SProp, ent, sep, emp, via, fst∗, Lft, GName, Share, ftrue, fat, flft, Memory, Routine, Heap, Out, Env, Wp, WpFn, Tables, afterSeq, afterBlock, afterTurn, atReturn, Atoms, sem, fmOf, Item, ‵, raw, _⊛_, ⋆, anyQ, atRet, _$_, _∵_, !, qed, by, move, use1, drop, split, join, rewrite, fsplit, fjoin, suffices, frame, done, whole, sub, look-in, look, look-raw, store, init, forget, stop, hop, fld, from, load, lit, of-opd, and-then, no-more, bin, assigns, assigns-last, land, stays, leaves-loop, exec, returns, enter, alloc1, alloc0, params1, pass1, pass0, free1, free0, Fun, givenOf, tables, tablesOf, yes, owns, pointee, Is, shows, uint-vals, uint-tells, uint-makes, uint-copy, RefT, sliceTy, sliceVal, ShrSlice, Room, slice-vals, shr-slice-tells, row, plain, shrSliceOf, u8, usize, onEntry, tripleOf, Contract, Triple, cited, nothing, owned, heard, says, Stays, stay-dropped, walkOf, ends-at, walked, goes-dropped, word, byte, loop, id⊢}
-use Rattle.calls.proofs.Walk as walk-names
+use Rattle.judgement.proofs.Walk.{_≡_, refl, _∙_, ap, subst, ℕ, zero, suc, _*_, _<_, _^_, arith, Bool, true, false, List, [], _∷_, length, getD, URA, fullShare, Ty, named, imm, w8, w64, tyBool, tyPtr, tyRef, vbool, vint, vptr, Val, SProp, ent, sep, emp, via, fst∗, Lft, GName, Share, ftrue, fat, flft, Memory, Routine, Heap, Out, Env, Wp, WpFn, Tables, afterSeq, afterBlock, afterTurn, atReturn, Atoms, sem, fmOf, Item, ‵, raw, _⊛_, ⋆, anyQ, atRet, _$_, _∵_, !, qed, by, move, use1, drop, split, join, rewrite, fsplit, fjoin, suffices, frame, done, whole, sub, look-in, look, look-raw, store, init, forget, stop, hop, fld, from, load, lit, of-opd, and-then, no-more, bin, assigns, assigns-last, land, stays, leaves-loop, exec, returns, enter, alloc1, alloc0, params1, pass1, pass0, free1, free0, Fun, givenOf, tables, tablesOf, yes, owns, pointee, Is, shows, uint-vals, uint-tells, uint-makes, uint-copy, RefT, sliceTy, sliceVal, ShrSlice, Room, slice-vals, shr-slice-tells, row, plain, shrSliceOf, u8, usize, onEntry, tripleOf, Contract, Triple, cited, nothing, owned, heard, says, Stays, stay-dropped, walkOf, ends-at, walked, goes-dropped, word, byte, loop, id⊢}
+use Rattle.judgement.proofs.Walk as walk-names
 use package.mir.Syntax.{w16, tyInt}
 use denote.Builtin.{u16}
 use denote.Struct.Laws as LL
@@ -9,17 +9,17 @@ use Rattle.parts.specs.Parts.{Part, partOf}
 use Rattle.device.specs.declared.device.Device.{Device}
 use Rattle.device.proofs.device.Device.Laws.{mir as dev}
 use Rattle.calls.specs.Chain.{blank}
-use Rattle.calls.specs.Judging.{unjudged, judgedFrom}
-use Rattle.calls.specs.declared.judging.Judged.{Judged}
-use Rattle.calls.proofs.judging.Judged as J
-use Rattle.calls.proofs.judging.Judged.Laws as J′
-use Rattle.calls.proofs.Judges.{jval, jvals, JIs, jtells, jmade, JudgeC, to-judge, asks-judge}
-use Rattle.calls.proofs.Dev.{D, vals, tells, made, lawful, copied, place-fits, place-at, size, out, back}
-use Rattle.calls.proofs.Lent.{ref, sl, Seen, looked, shut, lends-shared, returned-shared, hold, free, Again, again, loops, calls-val, closes}
-use Rattle.calls.proofs.judge as judge
-use Rattle.calls.proofs.judge.Symbol as judge-def
-use Rattle.calls.proofs.judge.Symbol.{name as #judge}
-use Rattle.calls.proofs.judge.Met as judge-thm
+use Rattle.judgement.specs.Judging.{unjudged, judgedFrom}
+use Rattle.judgement.specs.declared.judging.Judged.{Judged}
+use Rattle.judgement.proofs.judging.Judged as J
+use Rattle.judgement.proofs.judging.Judged.Laws as J′
+use Rattle.judgement.proofs.Judges.{jval, jvals, JIs, jtells, jmade, JudgeC, to-judge, asks-judge}
+use Rattle.judgement.proofs.Dev.{D, vals, tells, made, lawful, copied, place-fits, place-at, size, out, back}
+use Rattle.judgement.proofs.Lent.{ref, sl, Seen, looked, shut, lends-shared, returned-shared, hold, free, Again, again, loops, calls-val, closes}
+use Rattle.judgement.proofs.judge as judge
+use Rattle.judgement.proofs.judge.Symbol as judge-def
+use Rattle.judgement.proofs.judge.Symbol.{name as #judge}
+use Rattle.judgement.proofs.judge.Met as judge-thm
 use Rattle.compare.specs.declared.compared.Compared.{Compared}
 use Rattle.compare.specs.declared.compared.SetNumbers.{SetNumbers}
 use Rattle.compare.specs.declared.compared.Search.{Search}
@@ -280,5 +280,5 @@ bb-compare-spec 𝓤 H 𝓜 𝓖 𝓡 =
     (walk 𝓤 H (𝓖 .A) W (𝓜 .mem) (𝓡 .run) (κs .0) (κs .1 .0) (κs .1 .1 .0) (qs .0) (qs .1 .0) (qs .1 .1 .0) (a .0) (a .1 .0) (a .1 .1 .0) (a .1 .1 .1 .0 .ptr .0) (a .1 .1 .1 .0 .ptr .1) (a .1 .1 .1 .0 .name) (a .1 .1 .1 .0 .now) (a .1 .1 .1 .1 .0) (a .1 .1 .1 .1 .1 .0 .ptr .0) (a .1 .1 .1 .1 .1 .0 .ptr .1) (a .1 .1 .1 .1 .1 .0 .name) (a .1 .1 .1 .1 .1 .0 .now) (a .1 .1 .1 .1 .1 .1 .0 .ptr .0) (a .1 .1 .1 .1 .1 .1 .0 .ptr .1) (a .1 .1 .1 .1 .1 .1 .0 .name) (a .1 .1 .1 .1 .1 .1 .0 .now) 𝓣
     (cited 𝓤 H (LookC 𝓤 H (𝓖 .A) (𝓜 .mem) (𝓡 .run)) 𝓜 𝓡 code.env #looks looks-def.routine code.calls-compare·search·look (looks-thm.met 𝓤 H 𝓜 𝓖 𝓡))
     (cited 𝓤 H (BeginC 𝓤 H (𝓖 .A) (𝓜 .mem) (𝓡 .run)) 𝓜 𝓡 code.env #begin begin-def.routine code.calls-compare·search·begin (begin-thm.met 𝓤 H 𝓜 𝓖 𝓡))
-    (cited 𝓤 H (JudgeC 𝓤 H (𝓖 .A) (𝓜 .mem) (𝓡 .run)) 𝓜 𝓡 code.env #judge judge-def.routine code.calls-calls·judge (judge-thm.met 𝓤 H 𝓜 𝓖 𝓡))
+    (cited 𝓤 H (JudgeC 𝓤 H (𝓖 .A) (𝓜 .mem) (𝓡 .run)) 𝓜 𝓡 code.env #judge judge-def.routine code.calls-judgement·judge (judge-thm.met 𝓤 H 𝓜 𝓖 𝓡))
     (are .0 .1) (are .1 .0 .1) (are .1 .1 .0 .1) (are .1 .1 .1 .0 .0 .1) (are .1 .1 .1 .1 .0 .1) (are .1 .1 .1 .1 .1 .0 .0 .1) (are .1 .1 .1 .1 .1 .1 .0 .0 .1))))

@@ -1,0 +1,2 @@
+-- The records that a call changes.
+pub mod Changes

@@ -108,13 +108,13 @@ endRows at tail bs =
     ∷ (12 when not (eqb (field at (tail .length) bs) (tail .number)))
     ∷ []
 
--- ---- the same of any bytes: a frame of another length is refused first
+-- ---- the same of any bytes and any tail
 
--- 7 and 8, of a frame that has a header
+-- 4, 7 and 8: the frame is shorter than a header, and the rows of the header
 unfoldable pub headTable : Command → List ℕ → List Row
 headTable c frame = (4 when ltb (length frame) 3) ∷ headRows c (fields 8 frame)
 
--- 11 and 12, of a tail of up to 64 bits, and of a frame that ends with the byte of its last bit
+-- 3, 4, 11 and 12: the tail has over 64 bits, the frame does not end with it, and the rows of the end
 unfoldable pub endTable : ℕ → Tail → List ℕ → List Row
 endTable at tail frame =
     (3 when ltb 64 (tail .length))

@@ -32,7 +32,7 @@ pub fn judge_told(part: u16, devices: usize, tail: Tail) -> u8
     0
 }
 
-// Numbers 7 and 8, of a frame that has a header.
+// Numbers 7 and 8, and 4 of a frame that is shorter than a header.
 pub fn judge_head(frame: &[u8], command: Command) -> u8
     ensures { λ r. ⌜ r ≡ first (headTable command (now (frame .entry))) ⌝ }
 {
@@ -48,7 +48,7 @@ pub fn judge_head(frame: &[u8], command: Command) -> u8
     0
 }
 
-// Numbers 11 and 12, of a tail from the bit `at` on and of a frame that ends with it.
+// Numbers 11 and 12, of a tail from the bit `at` on; 3 of a tail of over 64 bits, and 4 of a frame that does not end with the tail.
 pub fn judge_end(frame: &[u8], at: u32, tail: Tail) -> u8
     ensures { λ r. ⌜ r ≡ first (endTable at tail (now (frame .entry))) ⌝ }
 {

@@ -16,12 +16,13 @@ use Rattle.model.specs.Lists.{All, Pairwise}
 use Rattle.model.specs.Set.{Set, Own, owned}
 use Rattle.model.proofs.Set.{length-owned}
 use Rattle.link.specs.View.{Arrays, Holds}
-use Rattle.compare.specs.declared.compared.Compared.{Compared}
-use Rattle.compare.specs.Compare.{differsAt, Pair, groups, inGroups, compared, same, difference, compareRefusal, comparison}
+use Rattle.differences.specs.declared.compared.Compared.{Compared}
+use Rattle.differences.specs.Groups.{differsAt, Pair, groups, inGroups, compared, same}
+use Rattle.compare.specs.Compare.{difference, compareRefusal, comparison}
 use Rattle.compare.specs.Search.{setNumbers}
 use Rattle.compare.specs.Differences.{ofSet, ofDevice, DiffersFirst, FirstDifference}
 use Rattle.claims.specs.Claims.{SameHolds, HoldsSame, Named}
-use Rattle.compare.proofs.Lists.{differs-first}
+use Rattle.differences.proofs.Lists.{differs-first}
 use Rattle.compare.proofs.Holding.{Sized, ownFrom-sized, sides, equal-holds, holds-groups, groups-equal, GroupAt, group-named, nowhere}
 use Rattle.compare.proofs.Found.{inGroups-none, begin-live}
 

@@ -37,8 +37,9 @@ use Rattle.device_light.specs.OfDevice.{deviceRows, deviceAnswer, deviceClocksA
 use Rattle.subframes.specs.declared.answer.Asked.the-variants as A
 use Rattle.subframes.specs.declared.answer.Lead.the-variants as D
 use Rattle.schedule.specs.declared.answer.Clocks.the-variants as K
-use Rattle.compare.specs.Compare.{Pair, _against_, differsAt, groups, inGroups, compared, difference, compareTable, compareRefusal, comparison}
-use Rattle.compare.specs.declared.compared.Compared.{Compared}
+use Rattle.differences.specs.Groups.{Pair, _against_, differsAt, groups, inGroups, compared}
+use Rattle.compare.specs.Compare.{difference, compareTable, compareRefusal, comparison}
+use Rattle.differences.specs.declared.compared.Compared.{Compared}
 use Rattle.arguments.specs.Arguments.{parsed, askedRows, judged}
 use Rattle.arguments.specs.declared.judging.Asked.the-variants as B
 use Rattle.answers.specs.Answers.{accepted, refused}

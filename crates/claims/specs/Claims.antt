@@ -55,9 +55,10 @@ use Rattle.device_light.specs.OfDevice.{isShown, shownRun, deviceRows, deviceAn
 use Rattle.subframes.specs.declared.answer.Asked.the-variants as A
 use Rattle.subframes.specs.declared.answer.Lead.the-variants as D
 use Rattle.schedule.specs.declared.answer.Clocks.the-variants as K
-use Rattle.compare.specs.Compare.{same, compared, difference, compareTable, compareRefusal, comparison}
+use Rattle.differences.specs.Groups.{same, compared}
+use Rattle.compare.specs.Compare.{difference, compareTable, compareRefusal, comparison}
 use Rattle.compare.specs.Differences.{FirstDifference}
-use Rattle.compare.specs.declared.compared.Compared.{Compared}
+use Rattle.differences.specs.declared.compared.Compared.{Compared}
 use Rattle.arguments.specs.Arguments.{parsed, valueOf, askedRows, asked}
 use Rattle.arguments.specs.declared.judging.Asked.the-variants as B
 use Rattle.answers.specs.Answers.{accepted, refused}

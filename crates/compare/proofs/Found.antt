@@ -3,7 +3,7 @@
 use mathlib.Core.Path.{_≡_, refl, ap, ap₂, sym, subst, _∙_}
 use mathlib.Core.Bool.{Bool, true, false, _&&_, cond, true≢false}
 use mathlib.Core.List.{List, [], _∷_}
-use Prim.Native.Nat.{ℕ, suc, _+_, _*_, _-_, _%_, _<_, _≤_}
+use Prim.Native.Nat.{ℕ, suc, _+_, _*_, _-_, _<_}
 use native.Mathlib.Numerals.{add-one}
 use native.Mathlib.Nat.{suc-mul, zero-add}
 use native.Mathlib.Omega.{arith}
@@ -14,19 +14,18 @@ use borrow.Author.Tests.{ltb-true, ltb-false, leb-true, eqb-true, ne-eqb, not-fa
 use Rattle.parts.specs.Parts.{Part, partOf, multiplex, sliceFields, isCount}
 use Rattle.tables.specs.Refusals.{answer}
 use Rattle.parts.specs.declared.command.Command.the-variants.{Individual}
-use Rattle.parts.proofs.Laws.{banks-three}
 use Rattle.tables.proofs.Booleans.{and-left, and-right}
 use Rattle.tables.proofs.Rows.{clear}
 use Rattle.device.specs.declared.device.Device.{Device}
 use Rattle.calls.specs.Chain.{blank}
 use Rattle.model.specs.Set.{Set, Own, ownFrom, owned}
 use Rattle.judgement.specs.Judging.{unjudged, judgedFrom}
-use Rattle.compare.specs.declared.compared.Compared.{Compared}
-use Rattle.compare.specs.declared.compared.SetNumbers.{SetNumbers}
-use Rattle.compare.specs.declared.compared.Search.{Search}
-use Rattle.compare.specs.Compare.{differsAt, Pair, _against_, groups, inGroups, compared, same, difference, lengthsFit, sameChain, compareTable, compareRefusal, comparison}
+use Rattle.differences.specs.declared.compared.Compared.{Compared}
+use Rattle.compare.specs.declared.judging.SetNumbers.{SetNumbers}
+use Rattle.compare.specs.declared.search.Search.{Search}
+use Rattle.differences.specs.Groups.{differsAt, Pair, _against_, groups, inGroups, compared, same}
+use Rattle.compare.specs.Compare.{difference, lengthsFit, sameChain, compareTable, compareRefusal, comparison}
 use Rattle.compare.specs.Search.{setBy, OwnInLists, onward, ended, lookedAt, beginSearchUnder, beginSearch}
-use Rattle.compare.proofs.Refusal.{fields-of}
 use Rattle.compare.proofs.Judged.{refusal-found}
 
 -- ---- where no group differs
@@ -71,9 +70,7 @@ module _ (p : Part) (bytes values : List ℕ) (ds : List Device) where
     pub left : s .index + t ≡ s .devices
     pub devices : s .devices ≡ length ds
     pub banks : s .banks ≡ p .banks
-    pub few : s .banks ≤ 3
     pub fields : s .fields ≡ sliceFields p Individual (multiplex (s .configuration))
-    pub wide : s .fields ≡ 24 * (1 + s .configuration % 2)
     pub bytesIn : s .bytes + t * s .banks ≡ length bytes
     pub valuesIn : s .values + t * s .fields ≡ length values
 
@@ -100,8 +97,6 @@ module _ (p : Part) (bytes values : List ℕ) (ds : List Device) where
     stands-ready =
         record {
           index = omega (arith, here .left);
-          banks = here .few;
-          fields = here .wide;
           bytesIn = omega (arith, sum-next (s .bytes) t (s .banks), here .bytesIn);
           valuesIn = omega (arith, sum-next (s .values) t (s .fields), here .valuesIn);
         }
@@ -176,9 +171,7 @@ module _ (p : Part) (bytes values : List ℕ) (ds : List Device) where
             left = omega (arith, here .left);
             devices = here .devices;
             banks = here .banks;
-            few = here .few;
             fields = here .fields;
-            wide = here .wide;
             bytesIn = sum-next (s .bytes) t (s .banks) ∙ here .bytesIn;
             valuesIn = sum-next (s .values) t (s .fields) ∙ here .valuesIn;
           },
@@ -224,9 +217,7 @@ module _ (g : SetNumbers) (bytes values : List ℕ) (ds : List Device) where
           left = zero-add (g .devices);
           devices = sym (eqb-true (length ds) (g .devices) (and-left _ _ sizes));
           banks = refl;
-          few = omega (arith, banks-three (g .part));
           fields = refl;
-          wide = fields-of (g .part) (g .configuration);
           bytesIn = zero-add allBytes ∙ sym (eqb-true (length bytes) allBytes (and-left _ _ fit));
           valuesIn = zero-add allValues ∙ sym (eqb-true (length values) allValues (and-right (eqb (length bytes) allBytes) (eqb (length values) allValues) fit));
         },

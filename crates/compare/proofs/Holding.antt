@@ -18,11 +18,11 @@ use Rattle.model.specs.Lists.{All}
 use Rattle.model.specs.Restore.{InUse}
 use Rattle.model.specs.Set.{Own, ownFrom}
 use Rattle.link.specs.View.{Arrays, Holds}
-use Rattle.compare.specs.declared.compared.Compared.{Compared}
-use Rattle.compare.specs.Compare.{differsAt, inTurns, activeValues, Pair, _against_, groups, inGroups, compared, same}
+use Rattle.differences.specs.declared.compared.Compared.{Compared}
+use Rattle.differences.specs.Groups.{differsAt, inTurns, activeValues, Pair, _against_, groups, inGroups, compared, same}
 use Rattle.compare.specs.Differences.{ofSet, ofDevice}
-use Rattle.compare.proofs.Lists.{differs-refl, differs-equal, length-inTurns, evens-inTurns, odds-inTurns, inTurns-halves}
-use Rattle.compare.proofs.Groups.{group-same, byte-same, no-group}
+use Rattle.differences.proofs.Lists.{differs-refl, differs-equal, length-inTurns, evens-inTurns, odds-inTurns, inTurns-halves}
+use Rattle.differences.proofs.Groups.{group-same, byte-same, no-group}
 
 -- ---- lengths
 

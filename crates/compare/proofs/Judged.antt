@@ -17,7 +17,7 @@ use Rattle.tables.specs.Lists.{every}
 use Rattle.judgement.specs.declared.judging.Judged.{Judged}
 use Rattle.judgement.specs.Judging.{unjudged, judgedWith, judgedFrom}
 use Rattle.judgement.proofs.Judged.{known-found, fits-found, same-found}
-use Rattle.compare.specs.declared.compared.SetNumbers.{SetNumbers}
+use Rattle.compare.specs.declared.judging.SetNumbers.{SetNumbers}
 use Rattle.compare.specs.Compare.{rowsOf, lengthsFit, settingsFit, sameChain, compareRefusal}
 use Rattle.compare.specs.Search.{setBy, chainFits, rowsBy}
 

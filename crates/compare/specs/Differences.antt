@@ -9,8 +9,8 @@ use Rattle.calls.specs.Chain.{blank}
 use Rattle.model.specs.Lists.{All, Pairwise}
 use Rattle.model.specs.Set.{Own}
 use Rattle.link.specs.View.{Holds}
-use Rattle.compare.specs.declared.compared.Compared.{Compared}
-use Rattle.compare.specs.Compare.{Pair, _against_, groups}
+use Rattle.differences.specs.declared.compared.Compared.{Compared}
+use Rattle.differences.specs.Groups.{Pair, _against_, groups}
 
 -- the two sides of what is compared
 abbrev pub ofSet : Pair → List ℕ

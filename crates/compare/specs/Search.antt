@@ -1,7 +1,6 @@
 -- Inside: the search for the first difference, device by device, and its refusal by what one pass over the records found. What is compared
 -- and answered is said in Compare; that the search comes to it is in proofs/Found.
-use Prim.Native.Nat.{ℕ, _+_, _*_, _%_, _<_, _≤_}
-use mathlib.Core.Path.{_≡_}
+use Prim.Native.Nat.{ℕ, _+_, _<_, _≤_}
 use mathlib.Core.Bool.{Bool, false, _&&_, cond}
 use mathlib.Core.List.{List}
 use lib.Dec.{eqb, ltb}
@@ -12,10 +11,11 @@ use Rattle.parts.specs.declared.command.Command.the-variants.{Individual, Calib
 use Rattle.device.specs.declared.device.Device.{Device}
 use Rattle.model.specs.Set.{Set, Own}
 use Rattle.judgement.specs.declared.judging.Judged.{Judged}
-use Rattle.compare.specs.declared.compared.Compared.{Compared}
-use Rattle.compare.specs.declared.compared.SetNumbers.{SetNumbers}
-use Rattle.compare.specs.declared.compared.Search.{Search}
-use Rattle.compare.specs.Compare.{setOf, compared, same, groups, inGroups, lengthsFit, settingsFit, rowsOf}
+use Rattle.differences.specs.declared.compared.Compared.{Compared}
+use Rattle.compare.specs.declared.judging.SetNumbers.{SetNumbers}
+use Rattle.compare.specs.declared.search.Search.{Search}
+use Rattle.compare.specs.Compare.{setOf, lengthsFit, settingsFit, rowsOf}
+use Rattle.differences.specs.Groups.{compared, same, groups, inGroups, ownOf}
 
 -- what is given of a set beside its lists, and with them
 abbrev pub setNumbers : ℕ → ℕ → ℕ → ℕ → SetNumbers
@@ -64,20 +64,13 @@ beginSearch g bytes individual j count = beginSearchUnder (first (rowsBy g bytes
 -- the next device's own bytes and values stand in the set's lists
 pub record OwnInLists (s : Search) (bytes values : ℕ) : Type 0 where
   pub index : s .index < s .devices
-  pub banks : s .banks ≤ 3
-  pub fields : s .fields ≡ 24 * (1 + s .configuration % 2)
   pub bytesIn : s .bytes + s .banks ≤ bytes
   pub valuesIn : s .values + s .fields ≤ values
 
 -- what of the set is the next device's own
 abbrev pub ownAt : Search → List ℕ → List ℕ → Own
 ownAt s bytes values =
-    record {
-      configuration = s .configuration;
-      calibration = take (s .banks) (drop (s .bytes) bytes);
-      global = s .global;
-      individual = take (s .fields) (drop (s .values) values);
-    }
+    ownOf (s .configuration) (take (s .banks) (drop (s .bytes) bytes)) (s .global) (take (s .fields) (drop (s .values) values))
 
 -- a device is the same: on to the next
 abbrev pub onward : Search → Compared → Search

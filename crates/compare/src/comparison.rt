@@ -1,11 +1,11 @@
 // The comparison over a lent chain, for C and Rust. It walks the records; what it does with one of them is by value.
 ghost use mathlib.Core.Path.{_≡_};
 ghost use Rattle.compare.specs.Compare.{setOf, comparison};
-use crate::compared::Compared;
 use crate::search::begin;
 use crate::search::look;
 use device::Device;
 use judgement::judge;
+use differences::Compared;
 
 // The first difference between a set and a lent chain, all 0 where they are the same, or the refusal's number. The set's part, number of
 // devices, configuration, calibration bytes, global byte and individual values.

@@ -7,9 +7,16 @@ ghost use lib.ListN.{length};
 ghost use Rattle.tables.specs.Refusals.{first};
 ghost use Rattle.compare.specs.Compare.{lengthsFit, settingsFit};
 ghost use Rattle.compare.specs.Search.{chainFits, rowsBy};
-use crate::compared::SetNumbers;
 use judgement::Judged;
 use parts::Command;
+
+// The set, but for its lists.
+pub struct SetNumbers {
+    pub part: u16,
+    pub devices: usize,
+    pub configuration: u8,
+    pub global: u8,
+}
 
 // The number under which a comparison is refused, or 0, by the set and by what was found in the records.
 pub fn refusal_of(

@@ -3,12 +3,28 @@ ghost use mathlib.Core.Path.{_≡_};
 ghost use Prim.Native.Nat.{_+_, _<_};
 ghost use lib.ListN.{length};
 ghost use Rattle.compare.specs.Search.{setNumbers, OwnInLists, beginSearch, beginSearchUnder, lookedAt};
-use crate::compared::Compared;
-use crate::compared::Search;
-use crate::compared::SetNumbers;
+use crate::judging::SetNumbers;
 use device::Device;
 use judgement::Judged;
+use differences::Compared;
 use parts::Command;
+
+// How far a search has come.
+pub struct Search {
+    pub configuration: u8,
+    pub global: u8,
+    pub devices: usize,
+    // Bytes and values of one device's slices.
+    pub banks: usize,
+    pub fields: usize,
+    // The next device, and where its own bytes and values begin.
+    pub index: usize,
+    pub bytes: usize,
+    pub values: usize,
+    // There is a next device, and none before it differs.
+    pub going: bool,
+    pub answer: Compared,
+}
 
 // Where the search begins. A refused one is at its end.
 pub fn begin(
@@ -62,13 +78,25 @@ pub fn look(device: Device, search: Search, calibration: &[u8], individual: &[u1
     requires { ⌜ OwnInLists search (length (now calibration)) (length (now individual)) ⌝ }
     ensures { λ r. ⌜ r ≡ lookedAt search (now (calibration .entry)) (now (individual .entry)) device ⌝ }
 {
-    let answer = crate::own::device_differs(device, search, calibration, individual);
+    let number = search.index + 1;
+    let bytes = search.bytes;
+    let bytes_end = bytes + search.banks;
+    let values = search.values;
+    let values_end = values + search.fields;
+    let answer = differences::device_differs(
+        device,
+        number,
+        search.configuration,
+        &calibration[bytes..bytes_end],
+        search.global,
+        &individual[values..values_end],
+    );
     let mut next = search;
     next.answer = answer;
     if answer.group == 0 {
         next.index = search.index + 1;
-        next.bytes = search.bytes + search.banks;
-        next.values = search.values + search.fields;
+        next.bytes = bytes_end;
+        next.values = values_end;
         next.going = search.index + 1 < search.devices;
         next
     } else {

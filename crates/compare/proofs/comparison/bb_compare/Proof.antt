@@ -20,16 +20,16 @@ use Rattle.judgement.proofs.judge as judge
 use Rattle.judgement.proofs.judge.Symbol as judge-def
 use Rattle.judgement.proofs.judge.Symbol.{name as #judge}
 use Rattle.judgement.proofs.judge.Met as judge-thm
-use Rattle.compare.specs.declared.compared.Compared.{Compared}
-use Rattle.compare.specs.declared.compared.SetNumbers.{SetNumbers}
-use Rattle.compare.specs.declared.compared.Search.{Search}
+use Rattle.differences.specs.declared.compared.Compared.{Compared}
+use Rattle.compare.specs.declared.judging.SetNumbers.{SetNumbers}
+use Rattle.compare.specs.declared.search.Search.{Search}
 use Rattle.compare.specs.Compare.{setOf, comparison}
 use Rattle.compare.specs.Search.{setNumbers, OwnInLists, beginSearch, lookedAt}
 use Rattle.compare.proofs.Found.{Stands, stands-zero, stands-end, stands-index, stands-ready, stands-next, stands-start}
-use Rattle.compare.proofs.compared.Compared as R
-use Rattle.compare.proofs.compared.Compared.Laws as R′
-use Rattle.compare.proofs.compared.Search as S
-use Rattle.compare.proofs.compared.Search.Laws as S′
+use Rattle.differences.proofs.compared.Compared as R
+use Rattle.differences.proofs.compared.Compared.Laws as R′
+use Rattle.compare.proofs.search.Search as S
+use Rattle.compare.proofs.search.Search.Laws as S′
 use Rattle.compare.proofs.search.begin as begin
 use Rattle.compare.proofs.search.begin.Symbol as begin-def
 use Rattle.compare.proofs.search.begin.Symbol.{name as #begin}

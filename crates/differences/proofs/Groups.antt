@@ -1,18 +1,13 @@
 -- One device, group by group: the first that differs is named, and where none does the answer goes on. Assumes nothing.
-use mathlib.Core.Path.{_≡_, refl, ap, sym, _∙_}
-use mathlib.Core.Bool.{Bool, cond}
+use mathlib.Core.Path.{_≡_, refl, sym, _∙_}
 use mathlib.Core.List.{List, [], _∷_}
-use Prim.Native.Nat.{ℕ, suc, _+_, _-_, _<_, _≤_}
-use native.Mathlib.Omega.{arith}
-use lib.Dec.{eqb}
-use lib.ListN.{length, take, drop, length-take, length-drop}
+use Prim.Native.Nat.{ℕ, suc, _<_, _≤_}
+use lib.ListN.{length}
 use borrow.Author.Tests.{lt-ltb, le-ltb, eq-eqb, ne-eqb}
 use Rattle.device.specs.declared.device.Device.{Device}
 use Rattle.model.specs.Set.{Own}
-use Rattle.compare.specs.declared.compared.Compared.{Compared}
-use Rattle.compare.specs.declared.compared.Search.{Search}
-use Rattle.compare.specs.Compare.{differsAt, activeValues, Pair, _against_, groups, inGroups, compared, same}
-use Rattle.compare.specs.Search.{ownAt, onward, ended, lookedAt}
+use Rattle.differences.specs.declared.compared.Compared.{Compared}
+use Rattle.differences.specs.Groups.{differsAt, activeValues, Pair, _against_, groups, inGroups, compared, same}
 
 -- ---- one group
 
@@ -68,22 +63,3 @@ module _ (n : ℕ) (o : Own) (d : Device) where
 
         pub none-differs : length (o .individual) ≤ value → same ≡ found
         none-differs k = sym (byte-same n 1 _ _ _ same e ∙ group-same n 2 _ _ _ same l ∙ byte-same n 3 _ _ _ same f ∙ group-same n 4 _ _ _ same k ∙ no-group n 5 same)
-
--- ---- a part of a list, as the code takes it
-
-pub part-of : (a n : ℕ) (l : List ℕ) → take (a + n - a) (drop a l) ≡ take n (drop a l)
-part-of a n l = let e : a + n - a ≡ n = omega arith in ap (λ (k : ℕ). take k (drop a l)) e
-
-pub length-part : (a n : ℕ) (l : List ℕ) → a + n ≤ length l → length (take n (drop a l)) ≡ n
-length-part a n l h = simp (length-take, length-drop) (omega arith)
-
--- ---- a turn of the search
-
-module _ (s : Search) (bytes values : List ℕ) (d : Device) (a : Compared) (e : a ≡ inGroups (s .index + 1) 1 (groups (ownAt s bytes values) d) same) where
-  pub looked-same : a .group ≡ 0 → onward s a ≡ lookedAt s bytes values d
-  unfolding lookedAt
-  looked-same z = ap (λ (b : Bool). cond b (onward s a) (ended s a)) (sym (eq-eqb (a .group) 0 z)) ∙ ap (λ (r : Compared). cond (eqb (r .group) 0) (onward s r) (ended s r)) e
-
-  pub looked-other : (a .group ≡ 0 → ⊥) → ended s a ≡ lookedAt s bytes values d
-  unfolding lookedAt
-  looked-other z = ap (λ (b : Bool). cond b (onward s a) (ended s a)) (sym (ne-eqb (a .group) 0 z)) ∙ ap (λ (r : Compared). cond (eqb (r .group) 0) (onward s r) (ended s r)) e

@@ -3,11 +3,11 @@ use mathlib.Core.Path.{_≡_}
 use Prim.Native.Nat.{_+_, _≤_, _-_, _<_}
 use native.Mathlib.Omega.{arith}
 use lib.ListN.{length, drop}
-use Rattle.compare.specs.Compare.{differsAt}
-use Rattle.compare.proofs.Differs.{differs-start, differs-end, differs-here, differs-next}
+use Rattle.differences.specs.Groups.{differsAt}
+use Rattle.differences.proofs.Differs.{differs-start, differs-end, differs-here, differs-next}
 use borrow.Author.Needs.{needs}
-use Rattle.compare.proofs.own.values_differ.Statement.{statement}
-use Rattle.compare.proofs.own.values_differ.Tie as tie
+use Rattle.differences.proofs.own.values_differ.Statement.{statement}
+use Rattle.differences.proofs.own.values_differ.Tie as tie
 
 abbrev Inv-loop : tie.InvT-loop
 Inv-loop values held i₀ i = (i ≤ length values) × (differsAt values held ≡ i + differsAt (drop i values) (drop i held))
@@ -40,7 +40,7 @@ returns : tie.Need-returns Inv-loop μ-loop
 returns c =
     let t = c .before .before in
     let p = t .before .before .args in
-    omega (arith, t .before .loop .inv .1, differs-here (p .values .now) (p .t2) (t .before .loop .i) (t .loop-test .taken) (within t) (c .if1 .taken))
+    (omega (arith, t .before .loop .inv .1, differs-here (p .values .now) (p .t2) (t .before .loop .i) (t .loop-test .taken) (within t) (c .if1 .taken)), search needs)
 
 add-i : tie.Need-add-i Inv-loop μ-loop
 add-i c = search needs
@@ -58,7 +58,7 @@ returns-2 : tie.Need-returns-2 Inv-loop μ-loop
 returns-2 c =
     let l = c .before .loop in
     let p = c .before .before .args in
-    omega (arith, l .inv .1, differs-end (p .values .now) (drop (l .i) (p .t2)) (l .i) (c .loop-test .left))
+    (omega (arith, l .inv .1, differs-end (p .values .now) (drop (l .i) (p .t2)) (l .i) (c .loop-test .left)), search needs)
 
 pub values-differ-spec : {M : Type 1} → statement M
 values-differ-spec =

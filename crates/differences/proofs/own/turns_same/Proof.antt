@@ -7,11 +7,11 @@ use lib.Dec.{eqb}
 use lib.ListN.{length, drop}
 use borrow.Author.Tests.{eq-eqb, ne-eqb}
 use Rattle.tables.proofs.Tests.{by-way}
-use Rattle.compare.specs.Compare.{differsAt, inTurns}
-use Rattle.compare.proofs.Differs.{turnsLeft, Turn, differs-end, turns-same}
+use Rattle.differences.specs.Groups.{differsAt, inTurns}
+use Rattle.differences.proofs.Differs.{turnsLeft, Turn, differs-end, turns-same}
 use borrow.Author.Needs.{needs}
-use Rattle.compare.proofs.own.turns_same.Statement.{statement}
-use Rattle.compare.proofs.own.turns_same.Tie as tie
+use Rattle.differences.proofs.own.turns_same.Statement.{statement}
+use Rattle.differences.proofs.own.turns_same.Tie as tie
 
 abbrev Inv-loop : tie.InvT-loop
 Inv-loop values mux0 mux1 same₀ i₀ same i =
@@ -69,8 +69,8 @@ loop-again c =
     let m : length (p .t2) ≡ 24 = search needs in
     let n : length (p .t3) ≡ 24 = search needs in
     let left : 48 - (i + i) ≡ suc (suc (48 - ((i + 1) + (i + 1)))) = omega (arith, test) in
-    let t : Turn (p .values .now) (p .t2) (p .t3) i = record { values = omega (arith, test); mux0 = omega (arith, test, m); mux1 = omega (arith, test, n) } in
-    let two = turns-same t (48 - ((i + 1) + (i + 1))) in (
+    let t : Turn (p .values .now) (p .t2) (p .t3) i = record { value = omega (arith, test); mux0 = omega (arith, test, m); mux1 = omega (arith, test, n) } in
+    let two = turns-same t (omega (arith, test)) (48 - ((i + 1) + (i + 1))) in (
       search needs,
       by-way (first .if1 .came)
           (λ v. by-way (c .if2 .came)

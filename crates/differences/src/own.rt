@@ -1,50 +1,45 @@
-// One device against its own part of the set.
+// One device against its own part of a set.
 ghost use mathlib.Core.Path.{_≡_};
-ghost use Prim.Native.Nat.{_+_, _*_, _%_, _<_, _≤_};
+ghost use Prim.Native.Nat.{_≤_};
 ghost use lib.Dec.{eqb};
 ghost use lib.ListN.{length};
-ghost use Rattle.compare.specs.Compare.{differsAt, inTurns, activeValues, inGroups, groups, compared, same};
-ghost use Rattle.compare.specs.Search.{OwnInLists, ownAt};
+ghost use Rattle.differences.specs.Groups.{differsAt, inTurns, ownOf, activeValues, groups, compared, same, inGroups};
 use crate::compared::Compared;
-use crate::compared::Search;
 use device::Device;
 
-// The first group and place at which a device differs from what is its own, or all 0.
+// The first group and place at which the device of a number differs from what is its own, or all 0: configuration, calibration bytes,
+// global byte and individual values.
 pub fn device_differs(
     device: Device,
-    search: Search,
+    number: usize,
+    configuration: u8,
     calibration: &[u8],
+    global: u8,
     individual: &[u16],
 ) -> Compared
-    requires { ⌜ OwnInLists search (length (now calibration)) (length (now individual)) ⌝ }
-    ensures { λ r. ⌜ r ≡ inGroups (search .index + 1) 1 (groups (ownAt search (now (calibration .entry)) (now (individual .entry))) device) same ⌝ }
+    ensures { λ r. ⌜ r ≡ inGroups number 1 (groups (ownOf configuration (now (calibration .entry)) global (now (individual .entry))) device) same ⌝ }
 {
     let registers = device.registers;
-    let number = search.index + 1;
-    if search.configuration != registers.configuration {
+    if configuration != registers.configuration {
         return differs(number, 1, 0);
     }
-    let banks = search.banks;
-    let from = search.bytes;
     let held = registers.calibration;
-    let byte = bytes_differ(&calibration[from..from + banks], held);
-    if byte < banks {
+    let byte = bytes_differ(calibration, held);
+    if byte < calibration.len() {
         return differs(number, 2, byte);
     }
-    if search.global != registers.active {
+    if global != registers.active {
         return differs(number, 3, 0);
     }
-    let fields = search.fields;
-    let at = search.values;
-    let value = active_differ(&individual[at..at + fields], search.configuration, device);
-    if value < fields {
+    let value = active_differ(individual, configuration, device);
+    if value < individual.len() {
         return differs(number, 4, value);
     }
     differs(0, 0, 0)
 }
 
 fn differs(device: usize, group: u8, place: usize) -> Compared
-    requires { ⌜ place < 48 ⌝ }
+    requires { ⌜ place ≤ 48 ⌝ }
     ensures { λ r. ⌜ r ≡ compared 0 device group place ⌝ }
 {
     Compared {
@@ -55,27 +50,31 @@ fn differs(device: usize, group: u8, place: usize) -> Compared
     }
 }
 
-// The first place at which values differ from a device's active ones, or their number.
+// The first place at which values differ from a device's active ones, or where the first of the two lists ends.
 fn active_differ(values: &[u16], configuration: u8, device: Device) -> usize
-    requires { ⌜ length (now values) ≡ 24 * (1 + configuration % 2) ⌝ }
-    ensures { λ r. ⌜ r ≡ differsAt (now (values .entry)) (activeValues configuration device) ⌝ }
+    ensures { λ r. ⌜ (r ≡ differsAt (now (values .entry)) (activeValues configuration device)) × (r ≤ 48) ⌝ }
 {
     let registers = device.registers;
     let mux0 = registers.active0;
     let mux1 = registers.active1;
     if configuration % 2 == 0 {
+        if values.len() > 24 {
+            return values_differ(&values[..24], mux0);
+        }
         return values_differ(values, mux0);
     }
     turns_differ(values, mux0, mux1)
 }
 
-// The first place at which bytes differ from a device's calibration, or their number.
+// The same of bytes and a device's calibration.
 fn bytes_differ(bytes: &[u8], held: [u8; 3]) -> usize
-    requires { ⌜ length (now bytes) ≤ 3 ⌝ }
-    ensures { λ r. ⌜ r ≡ differsAt (now (bytes .entry)) held ⌝ }
+    ensures { λ r. ⌜ (r ≡ differsAt (now (bytes .entry)) held) × (r ≤ 3) ⌝ }
 {
     let mut i: usize = 0;
-    while i < bytes.len() {
+    while i < 3 {
+        if i >= bytes.len() {
+            return i;
+        }
         if bytes[i] != held[i] {
             return i;
         }
@@ -84,10 +83,11 @@ fn bytes_differ(bytes: &[u8], held: [u8; 3]) -> usize
     i
 }
 
-// The same of the 24 values of a nonmultiplexed device.
+// The same of values and the 24 of a nonmultiplexed device. The loop goes by the values' number: one that always goes to 24 is unrolled,
+// and takes the quick pass of a multiplexed device apart.
 fn values_differ(values: &[u16], held: [u16; 24]) -> usize
     requires { ⌜ length (now values) ≤ 24 ⌝ }
-    ensures { λ r. ⌜ r ≡ differsAt (now (values .entry)) held ⌝ }
+    ensures { λ r. ⌜ (r ≡ differsAt (now (values .entry)) held) × (r ≤ 24) ⌝ }
 {
     let mut i: usize = 0;
     while i < values.len() {
@@ -99,23 +99,31 @@ fn values_differ(values: &[u16], held: [u16; 24]) -> usize
     i
 }
 
-// The same of the 48 values of a multiplexed device: each output's MUX0 value and then its MUX1 value. Where all are the same, one quick
-// pass says so.
+// The same of values and the 48 of a multiplexed device: each output's MUX0 value and then its MUX1 value. Where all are the same, one
+// quick pass says so.
 fn turns_differ(values: &[u16], mux0: [u16; 24], mux1: [u16; 24]) -> usize
-    requires { ⌜ length (now values) ≡ 48 ⌝ }
-    ensures { λ r. ⌜ r ≡ differsAt (now (values .entry)) (inTurns mux0 mux1) ⌝ }
+    ensures { λ r. ⌜ (r ≡ differsAt (now (values .entry)) (inTurns mux0 mux1)) × (r ≤ 48) ⌝ }
 {
-    if turns_same(values, mux0, mux1) {
-        return 48;
+    if values.len() == 48 {
+        if turns_same(values, mux0, mux1) {
+            return 48;
+        }
     }
     let mut i: usize = 0;
     while i < 24 {
         let even = i + i;
+        if even >= values.len() {
+            return even;
+        }
         if values[even] != mux0[i] {
             return even;
         }
-        if values[even + 1] != mux1[i] {
-            return even + 1;
+        let next = even + 1;
+        if next >= values.len() {
+            return next;
+        }
+        if values[next] != mux1[i] {
+            return next;
         }
         i += 1;
     }

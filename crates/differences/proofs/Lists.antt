@@ -8,7 +8,7 @@ use lib.Dec.{eqb}
 use lib.ListN.{length, take, getD}
 use borrow.Author.Tests.{eq-eqb, eqb-true, eqb-false}
 use Rattle.model.specs.Device.{evens, odds}
-use Rattle.compare.specs.Compare.{differsAt, inTurns}
+use Rattle.differences.specs.Groups.{differsAt, inTurns}
 
 pub differs-refl : (xs : List ℕ) → differsAt xs xs ≡ length xs
 unfolding differsAt

@@ -4,8 +4,8 @@ ghost use Rattle.compare.specs.Compare.{setOf, comparison};
 use crate::search::begin;
 use crate::search::look;
 use device::Device;
-use judgement::judge;
 use differences::Compared;
+use judgement::judge;
 
 // The first difference between a set and a lent chain, all 0 where they are the same, or the refusal's number. The set's part, number of
 // devices, configuration, calibration bytes, global byte and individual values.

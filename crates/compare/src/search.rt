@@ -5,8 +5,8 @@ ghost use lib.ListN.{length};
 ghost use Rattle.compare.specs.Search.{setNumbers, OwnInLists, beginSearch, beginSearchUnder, lookedAt};
 use crate::judging::SetNumbers;
 use device::Device;
-use judgement::Judged;
 use differences::Compared;
+use judgement::Judged;
 use parts::Command;
 
 // How far a search has come.

@@ -62,10 +62,14 @@ cast-bits : tie.Need-cast-bits Inv-loop μ-loop
 cast-bits c = search needs
 
 loop-holds : tie.Need-loop-holds Inv-loop μ-loop
-loop-holds c =
-    let b = c .before in
-    let l = b .before in
-    (l .before .field-width .ensures, l .field-limit .ensures, b .slice-bits .ensures, l .before .before .before .pre, search needs, refl)
+loop-holds c = (
+  c .before .before .before .field-width .ensures,
+  c .before .before .field-limit .ensures,
+  c .before .slice-bits .ensures,
+  c .before .before .before .before .before .pre,
+  search needs,
+  refl,
+)
 
 shared-slice-read-if1 : tie.Need-shared-slice-read-if1 Inv-loop μ-loop
 shared-slice-read-if1 c = search needs

@@ -30,5 +30,5 @@ pub extern "C" fn bb_slice_bits(command: u8, part: u16, configuration: u8) -> An
     ensures { λ r. ⌜ r ≡ ofPart part (sliceBits (partOf part) (commandAt command) (multiplex configuration)) ⌝ }
 {
     let named = parts::command_of(command);
-    of_part(part, parts::slice_bits(named, part, configuration))
+    of_part(part, slices::slice_bits(named, part, configuration))
 }

@@ -49,8 +49,12 @@ fn lists_fit(given: SetNumbers, bytes: usize, values: usize) -> bool
     ensures { λ r. ⌜ r ≡ lengthsFit (given .part) (given .devices) (given .configuration) bytes values ⌝ }
 {
     let devices = given.devices;
-    let banks = parts::slice_fields(Command::Calibration, given.part, 0) as usize;
-    let fields = parts::slice_fields(Command::Individual, given.part, given.configuration) as usize;
+    let banks = slices::slice_fields(Command::Calibration, given.part, 0) as usize;
+    let fields = slices::slice_fields(
+        Command::Individual,
+        given.part,
+        given.configuration,
+    ) as usize;
     bytes == devices * banks && values == devices * fields
 }
 

@@ -142,7 +142,7 @@ fn high(registers: Registers, phase: Phase, state: u8) -> Stepped
 fn collect(registers: Registers, command: Command, count: u16, taken: u16, bit: u8) -> Stepped
     ensures { λ r. ⌜ r ≡ collected registers command count taken bit ⌝ }
 {
-    let length = parts::slice_bits(command, registers.part, registers.configuration);
+    let length = slices::slice_bits(command, registers.part, registers.configuration);
     let next = registers.take_bit(command, taken, bit);
     if (taken as u32) + 1 < (length as u32) {
         let more = Phase::Slice {

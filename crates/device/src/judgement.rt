@@ -26,7 +26,7 @@ fn phase_fits(phase: Phase, registers: Registers) -> bool
             taken,
         } => {
             count < 1024
-                && taken < parts::slice_bits(command, registers.part, registers.configuration)
+                && taken < slices::slice_bits(command, registers.part, registers.configuration)
         }
         _ => true,
     }

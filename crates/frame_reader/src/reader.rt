@@ -176,7 +176,7 @@ fn take_fields(told: Told, frame: &[u8], bytes: &mut [u8], values: &mut [u16]) -
 {
     let command = told.command;
     let n = told_fields(told);
-    let width = parts::field_width(command, told.part);
+    let width = slices::field_width(command, told.part);
     match command {
         Command::Individual => {
             take_values(frame, n, width, values);

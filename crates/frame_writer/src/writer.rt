@@ -149,7 +149,7 @@ fn put_slices(
 {
     let command = told.command;
     let n = told_fields(told);
-    let width = parts::field_width(command, told.part);
+    let width = slices::field_width(command, told.part);
     match command {
         Command::Individual => put_values(values, width, out, at),
         Command::Calibration => put_bytes(bytes, out, at),

@@ -12,7 +12,7 @@ pub fn told_fields(told: Told) -> usize
         return 0;
     }
     let command = told.command;
-    told.devices * (parts::slice_fields(command, told.part, told.configuration) as usize)
+    told.devices * (slices::slice_fields(command, told.part, told.configuration) as usize)
 }
 
 // The bits of all slices: 0 where N is over its limit.
@@ -23,7 +23,7 @@ pub fn told_bits(told: Told) -> usize
         return 0;
     }
     let command = told.command;
-    told.devices * (parts::slice_bits(command, told.part, told.configuration) as usize)
+    told.devices * (slices::slice_bits(command, told.part, told.configuration) as usize)
 }
 
 // The bytes of the frame: 0 where N is over its limit, or the tail has over 64 bits.

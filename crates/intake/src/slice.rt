@@ -31,7 +31,7 @@ pub fn collect(
 ) -> Taken
     ensures { λ r. ⌜ r ≡ highTaken (at registers (Slice command count taken)) (drop from (now (states .entry))) from ⌝ }
 {
-    if taken < parts::slice_bits(command, registers.part, registers.configuration) {
+    if taken < slices::slice_bits(command, registers.part, registers.configuration) {
         return gather(registers, command, count, taken, states, from);
     }
     crate::taken::one(
@@ -59,9 +59,9 @@ fn gather(
     ensures { λ r. ⌜ r ≡ highTaken (at registers (Slice command count taken)) (drop from (now (states .entry))) from ⌝ }
 {
     let part = registers.part;
-    let width = parts::field_width(command, part) as usize;
-    let below = parts::field_limit(command, part);
-    let bits = parts::slice_bits(command, part, registers.configuration) as usize;
+    let width = slices::field_width(command, part) as usize;
+    let below = slices::field_limit(command, part);
+    let bits = slices::slice_bits(command, part, registers.configuration) as usize;
     let mut slice = registers.slice;
     let mut t = taken as usize;
     let mut i = from;

@@ -1,9 +1,8 @@
-// The parts, the four commands, the slices, and the number of devices. What they mean is in specs/Parts; frames as bits and as line
+// The parts, the four commands, and the number of devices. What they mean, and what slices are, is in specs/Parts; frames as bits and as line
 // states are in specs/Wire.
 mod command;
 mod count;
 mod part;
-mod slices;
 
 pub use command::Command;
 pub use command::command_of;
@@ -18,7 +17,3 @@ pub use part::constants_of;
 pub use part::is_known;
 pub use part::subframes_of;
 pub use part::value_limit;
-pub use slices::field_limit;
-pub use slices::field_width;
-pub use slices::slice_bits;
-pub use slices::slice_fields;

@@ -68,8 +68,8 @@ impl Registers {
             ⌝ }
     {
         let part = self.part;
-        let width = parts::field_width(command, part) as u16;
-        let below = parts::field_limit(command, part);
+        let width = slices::field_width(command, part) as u16;
+        let below = slices::field_limit(command, part);
         take_at(self, (taken / width) as usize, bit, below)
     }
 

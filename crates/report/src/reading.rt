@@ -16,7 +16,7 @@ pub fn frame_size(told: Told) -> usize
     ensures { λ r. ⌜ r < 4294967296 ⌝ }
 {
     let command = told.command;
-    let slice = parts::slice_bits(command, told.part, told.configuration);
+    let slice = slices::slice_bits(command, told.part, told.configuration);
     24 + told.devices * slice as usize
 }
 

@@ -1,13 +1,13 @@
 -- By the command; a part has three banks, so that no product is too large. Assumes nothing.
 use mathlib.Core.Path.{_≡_, refl, ap, _∙_}
 use Rattle.parts.specs.Parts.{partOf, multiplex, sliceFields}
 use Rattle.parts.specs.declared.part.Constants.{Constants}
 use native.Mathlib.Omega.{arith}
 use Rattle.parts.proofs.Laws.{banks-three}
 use Rattle.parts.proofs.Cases.{byte-command}
 use borrow.Author.Needs.{needs}
-use Rattle.parts.proofs.slices.slice_fields.Statement.{statement}
-use Rattle.parts.proofs.slices.slice_fields.Tie as tie
+use Rattle.slices.proofs.slices.slice_fields.Statement.{statement}
+use Rattle.slices.proofs.slices.slice_fields.Tie as tie
 
 constants-of-requires : tie.Need-constants-of-requires
 constants-of-requires c κs = search needs

@@ -1,9 +1,9 @@
 use mathlib.Core.Path.{_≡_, refl}
 use Rattle.parts.specs.Parts.{partOf, fieldLimit}
 use Rattle.parts.proofs.Cases.{byte-command}
 use borrow.Author.Needs.{needs}
-use Rattle.parts.proofs.slices.field_limit.Statement.{statement}
-use Rattle.parts.proofs.slices.field_limit.Tie as tie
+use Rattle.slices.proofs.slices.field_limit.Statement.{statement}
+use Rattle.slices.proofs.slices.field_limit.Tie as tie
 
 enum-told : tie.Need-enum-told
 enum-told c = search needs

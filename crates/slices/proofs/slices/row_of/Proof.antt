@@ -1,6 +1,6 @@
 use borrow.Author.Tests.{eq-eqb, ne-eqb}
-use Rattle.parts.proofs.slices.row_of.Statement.{statement}
-use Rattle.parts.proofs.slices.row_of.Tie as tie
+use Rattle.slices.proofs.slices.row_of.Statement.{statement}
+use Rattle.slices.proofs.slices.row_of.Tie as tie
 
 returns : tie.Need-returns
 returns c = simp (eq-eqb _ _ (c .if1 .taken))

@@ -1,11 +1,11 @@
 // Slices by command, part and configuration.
 ghost use mathlib.Core.Path.{_≡_};
 ghost use Rattle.parts.specs.Parts.{partOf, multiplex, fieldWidth, fieldLimit, sliceFields, sliceBits, rowIndex};
-use crate::command::Command;
-use crate::command::number_of;
-use crate::part::Max6974;
-use crate::part::constants_of;
-use crate::part::value_limit;
+use parts::Command;
+use parts::Max6974;
+use parts::constants_of;
+use parts::number_of;
+use parts::value_limit;
 
 // Bits of a slice, by command, part and multiplex bit: a row of four for each command, 6974 first, nonmultiplexed first.
 const SLICE_BITS: [u16; 16] = [

@@ -3,10 +3,10 @@ use mathlib.Core.Path.{ap₂, _∙_}
 use Prim.Native.Nat.{ℕ, _+_, _*_, _%_, _<_}
 use native.Mathlib.Omega.{arith}
 use lib.ListN.{getD}
 use Rattle.parts.proofs.Laws.{code-lt, row-index-lt, table, slice-table}
 use borrow.Author.Needs.{needs}
-use Rattle.parts.proofs.slices.slice_bits.Statement.{statement}
-use Rattle.parts.proofs.slices.slice_bits.Tie as tie
+use Rattle.slices.proofs.slices.slice_bits.Statement.{statement}
+use Rattle.slices.proofs.slices.slice_bits.Tie as tie
 
 number-of-requires : tie.Need-number-of-requires
 number-of-requires c κs = search needs

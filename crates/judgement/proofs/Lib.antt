@@ -2,6 +2,5 @@
 pub mod Judged
 pub mod Lent
 pub mod Dev
-pub mod Steps
 pub mod Walk
 pub mod Judges

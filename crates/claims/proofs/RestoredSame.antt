@@ -43,7 +43,8 @@ accepts s tail ds w h l =
     none (compareTable s ds) (
       ap not (both-and _ _ (h .knownPart) (every-all (λ d. d .registers .part ≡ s .part) (λ d. known (d .registers .part)) (λ d e. ap known e ∙ h .knownPart) ds (h .onePart))),
       (
-        ap not (both-and _ _ (both-and _ _ (le-leb 1 (s .devices) some) (le-leb (s .devices) 1023 few)) (both-and _ _ (le-leb 1 (length ds) (h .someDevice)) (le-leb (length ds) 1023 (h .fewDevices)))),
+        ap not (both-and _ _ (both-and _ _ (le-leb 1 (s .devices) some) (le-leb (s .devices) 1023 few))
+            (both-and _ _ (le-leb 1 (length ds) (h .someDevice)) (le-leb (length ds) 1023 (h .fewDevices)))),
         (
           ap not (both-and _ _ (both-and _ _ (eq-eqb _ _ (proper .calibrationLength)) (eq-eqb _ _ (proper .individualLength)))
               (both-and _ _ (eq-eqb (length ds) (s .devices) (sym l)) parts)),

@@ -2,5 +2,6 @@
 pub mod Judged
 pub mod Lent
 pub mod Dev
+pub mod Steps
 pub mod Walk
 pub mod Judges

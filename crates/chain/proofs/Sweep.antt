@@ -115,29 +115,65 @@ less-none n = omega arith
 whole : (f : Device → Device) (xs : List Device) → sweep f 0 (length xs - 0) xs ≡ map f xs
 whole f xs = ap (λ (n : ℕ). sweep f 0 n xs) (less-none (length xs)) ∙ sweep-all f xs
 
+-- what a call makes of the records: those of a span are changed one by one, and the last ones are what the call says
+pub record Change (xs : List Device) : Type 0 where
+  pub span : Span
+  pub change : Device → Device
+  pub last : List Device
+  pub within : Within span (length xs)
+  pub swept : sweep change (span .from) (turnsOf span) xs ≡ last
+
+pub length-last : (xs : List Device) (c : Change xs) → length (c .last) ≡ length xs
+length-last xs c = ap length (sym (c .swept)) ∙ length-sweep (c .change) (c .span .from) (turnsOf (c .span)) xs
+
 -- ---- the three calls
 
 replicated : (d : Device) (xs : List Device) → map (λ _. d) xs ≡ replicate (length xs) d
 replicated d [] = refl
 replicated d (x ∷ xs) = ap (λ (r : List Device). d ∷ r) (replicated d xs)
 
-pub fresh-within : (part : ℕ) (xs : List Device) → Within (span (freshRefusal part (length xs)) 0 (length xs)) (length xs)
-fresh-within part xs = within (freshRefusal part (length xs)) 0 (length xs) (length xs) (λ _. (omega arith, omega arith))
+-- all records, where the call is accepted
+abbrev pub all-of : ℕ → List Device → Span
+all-of number xs = span number 0 (length xs)
+
+pub all-within : (number : ℕ) (xs : List Device) → Within (all-of number xs) (length xs)
+all-within number xs = within number 0 (length xs) (length xs) (λ _. (omega arith, omega arith))
+
+pub all-swept : (number : ℕ) (f : Device → Device) (xs : List Device)
+    → sweep f (all-of number xs .from) (turnsOf (all-of number xs)) xs ≡ content number xs (map f xs)
+all-swept number f xs = swept f number 0 (length xs) xs (map f xs) (λ _. whole f xs)
+
+abbrev pub fresh-of : ℕ → List Device → Span
+fresh-of part xs = all-of (freshRefusal part (length xs)) xs
 
 pub fresh-swept : (part : ℕ) (xs : List Device)
-    → sweep (λ _. freshDevice part) (span (freshRefusal part (length xs)) 0 (length xs) .from) (turnsOf (span (freshRefusal part (length xs)) 0 (length xs))) xs ≡ freshAfter part xs
+    → sweep (λ _. freshDevice part) (fresh-of part xs .from) (turnsOf (fresh-of part xs)) xs ≡ freshAfter part xs
 fresh-swept part xs =
-    swept (λ _. freshDevice part) (freshRefusal part (length xs)) 0 (length xs) xs (replicate (length xs) (freshDevice part))
-    (λ _. whole (λ _. freshDevice part) xs ∙ replicated (freshDevice part) xs)
+    all-swept (freshRefusal part (length xs)) (λ _. freshDevice part) xs
+    ∙ ap (content (freshRefusal part (length xs)) xs) (replicated (freshDevice part) xs)
 
-pub boundary-within : (xs : List Device) → Within (span (boundaryRefusal xs) 0 (length xs)) (length xs)
-boundary-within xs = within (boundaryRefusal xs) 0 (length xs) (length xs) (λ _. (omega arith, omega arith))
+abbrev pub fresh-change : (part : ℕ) (xs : List Device) → Change xs
+fresh-change part xs = record {
+  span = fresh-of part xs;
+  change = λ _. freshDevice part;
+  last = freshAfter part xs;
+  within = all-within (freshRefusal part (length xs)) xs;
+  swept = fresh-swept part xs;
+}
 
-pub boundary-swept : (xs : List Device)
-    → sweep bounded (span (boundaryRefusal xs) 0 (length xs) .from) (turnsOf (span (boundaryRefusal xs) 0 (length xs))) xs ≡ boundaryAfter xs
-boundary-swept xs = swept bounded (boundaryRefusal xs) 0 (length xs) xs (map bounded xs) (λ _. whole bounded xs)
+abbrev pub boundary-change : (xs : List Device) → Change xs
+boundary-change xs = record {
+  span = all-of (boundaryRefusal xs) xs;
+  change = bounded;
+  last = boundaryAfter xs;
+  within = all-within (boundaryRefusal xs) xs;
+  swept = all-swept (boundaryRefusal xs) bounded xs;
+}
 
--- an accepted fault setting names a device of the chain
+-- one device, where a fault setting is accepted: it then names a device of the chain
+abbrev pub one-of : List Device → ℕ → ℕ → Span
+one-of xs device kind = span (faultRefusal xs device kind) (device - 1) device
+
 fault-named : (xs : List Device) (device kind : ℕ) → eqb (faultRefusal xs device kind) 0 ≡ true → (1 ≤ device) × (device ≤ length xs)
 unfolding faultRefusal
 fault-named xs device kind e =
@@ -146,18 +182,27 @@ fault-named xs device kind e =
     let one = and-both (leb 1 device) (leb device (length xs) && (ltb kind 2 && allFit xs)) t in
     (leb-true 1 device (one .0), leb-true device (length xs) (and-left (leb device (length xs)) (ltb kind 2 && allFit xs) (one .1)))
 
-pub fault-within : (xs : List Device) (device kind : ℕ) → Within (span (faultRefusal xs device kind) (device - 1) device) (length xs)
+pub fault-within : (xs : List Device) (device kind : ℕ) → Within (one-of xs device kind) (length xs)
 fault-within xs device kind =
     within (faultRefusal xs device kind) (device - 1) device (length xs) (λ e. (omega arith, fault-named xs device kind e .1))
 
 pub fault-swept : (xs : List Device) (device kind : ℕ) (flag : Bool)
-    → sweep (λ d. faulted d kind (digit flag)) (span (faultRefusal xs device kind) (device - 1) device .from) (turnsOf (span (faultRefusal xs device kind) (device - 1) device)) xs
-    ≡ faultAfter xs device kind flag
+    → sweep (λ d. faulted d kind (digit flag)) (one-of xs device kind .from) (turnsOf (one-of xs device kind)) xs ≡ faultAfter xs device kind flag
 fault-swept xs device kind flag =
-    swept (λ d. faulted d kind (digit flag)) (faultRefusal xs device kind) (device - 1) device xs _
-    (λ e. let h : 1 ≤ device = fault-named xs device kind e .0 in
+    let f : Device → Device = λ d. faulted d kind (digit flag) in
+    swept f (faultRefusal xs device kind) (device - 1) device xs _ (λ e.
+    let h : 1 ≤ device = fault-named xs device kind e .0 in
     let one : device - (device - 1) ≡ 1 = omega (arith, h) in
-    ap (λ (n : ℕ). sweep (λ d. faulted d kind (digit flag)) (device - 1) n xs) one ∙ sweep-one (λ d. faulted d kind (digit flag)) (device - 1) xs)
+    ap (λ (n : ℕ). sweep f (device - 1) n xs) one ∙ sweep-one f (device - 1) xs)
+
+abbrev pub fault-change : (xs : List Device) (device kind : ℕ) (flag : Bool) → Change xs
+fault-change xs device kind flag = record {
+  span = one-of xs device kind;
+  change = λ d. faulted d kind (digit flag);
+  last = faultAfter xs device kind flag;
+  within = fault-within xs device kind;
+  swept = fault-swept xs device kind flag;
+}
 
 -- ---- a turn of the loop: to antt the code's `i + 1` is not `suc i`
 

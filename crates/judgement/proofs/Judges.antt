@@ -1,7 +1,7 @@
 -- The call of `judge` in a walk: the judgement's values, what the callee's triple binds outside, and what it asks, made from the row that the
 -- caller lends. `judges` is the call as one step: the row is lent and comes back, and the answer is the judgement of the records.
-use Rattle.judgement.proofs.Walk.{_≡_, ℕ, List, [], _∷_, length, URA, fullShare, Val, SProp, ent, sep, id⊢, Share, GName, ftrue, flft, Memory, Routine, Heap, Env, Calls, Loops, Atoms, sem, Given, Item, ‵, raw, _⊛_}
-use Rattle.judgement.proofs.Walk.{_$_, _∵_, !, qed, move, use1, drop, split, join, fjoin, done, Fun, Is, Room, row, tripleOf, Contract, Triple, nothing, heard}
+use Rattle.judgement.proofs.Walk.{_≡_, ℕ, List, [], _∷_, length, URA, fullShare, Val, SProp, ent, sep, id⊢, Share, GName, flft, Memory, Routine, Heap, Env, Calls, Loops, Atoms, sem, Given, Item, ‵, raw}
+use Rattle.judgement.proofs.Walk.{_$_, _∵_, !, qed, move, join, fjoin, done, Fun, Is, Room, row, tripleOf, Contract, Triple, nothing, heard}
 use mir.Syntax.{Place, Opd as Operand, Body, seq, call}
 use sound.WpLaws.{FmC}
 use types.Kit.{Post, Seq, runs, lands}
@@ -13,8 +13,8 @@ use Rattle.judgement.specs.declared.judging.Judged.{Judged}
 use Rattle.judgement.proofs.judging.Judged as J
 use Rattle.judgement.proofs.judging.Judged.Laws as J′
 use Rattle.judgement.proofs.Dev.{D}
-use Rattle.judgement.proofs.Lent.{ref, sl, LentShared, AwayShared, lends-shared, returned-shared, calls-val}
-use Rattle.judgement.proofs.Steps.{Passed}
+use Rattle.judgement.proofs.Lent.{ref, sl, LentShared, AwayShared}
+use Rattle.judgement.proofs.Steps.{Passed, calls-lending}
 use Rattle.judgement.specs.Judging.{unjudged, judgedFrom}
 use Rattle.judgement.proofs.judging.judge as judge
 
@@ -48,23 +48,22 @@ module _ {M : Type 1} (𝓤 : URA M) (H : Heap 𝓤) (A : Atoms 𝓤) (mem : Mem
     abbrev pub to-judge : (ν : ℕ) (δ : GName) → JudgeC .Ghost
     to-judge ν δ = (((ν ∷ [], tt), (fullShare, tt), tt, (ref b o δ xs, tt), (sl b o (length xs), tt)), tt)
 
-module _ {M : Type 1} (𝓤 : URA M) (H : Heap 𝓤) (A : Atoms 𝓤) (W : Given 𝓤 H A) (mem : Memory → SProp 𝓤) (run : Routine → Fun 𝓤) (b o : ℕ) (xs : List Device) where
+module _ {M : Type 1} (𝓤 : URA M) (H : Heap 𝓤) (A : Atoms 𝓤) (W : Given 𝓤 H A) (mem : Memory → SProp 𝓤) (run : Routine → Fun 𝓤)
+    (b o : ℕ) (xs : List Device) where
   pub asks-judge : (ν : ℕ) (δ : GName) → ent 𝓤 (sep 𝓤 (sem 𝓤 H A (LentShared D (ν ∷ []) b o δ xs)) (A .lft (ν ∷ []) fullShare))
       (JudgeC 𝓤 H A mem run .pre (to-judge 𝓤 H A mem run b o xs ν δ))
   asks-judge ν δ =
       qed W (‵ (LentShared D (ν ∷ []) b o δ xs) ∷ ‵ (flft (ν ∷ []) fullShare) ∷ []) ∵
       nothing ! $ move ! (1 ∷ 0 ∷ []) $ fjoin ! $ nothing ! $ move ! (2 ∷ 0 ∷ []) $ join ! $ join ! $ nothing ! $ move ! (1 ∷ 0 ∷ []) $ done !
 
-module _ {M : Type 1} {𝓤 : URA M} {H : Heap 𝓤} {A : Atoms 𝓤} {K : Type 0} {W : Given 𝓤 H A} {Γ : List (Item 𝓤)} {E : Env 𝓤 H} {C : Calls 𝓤 H} {Λ : Loops 𝓤 H} {p : Post 𝓤 H} where
+module _ {M : Type 1} {𝓤 : URA M} {H : Heap 𝓤} {A : Atoms 𝓤} {K : Type 0} {W : Given 𝓤 H A} {Γ : List (Item 𝓤)}
+    {E : Env 𝓤 H} {C : Calls 𝓤 H} {Λ : Loops 𝓤 H} {p : Post 𝓤 H} where
   pub judges : {d : Place} {rest : Body} {os : List Operand} → K → FmC 𝓤 H (W .laws) C → (mem : Memory → SProp 𝓤) (run : Routine → Fun 𝓤)
       → Triple 𝓤 (C judge.Symbol.name) (JudgeC 𝓤 H A mem run) → (q : Share) (xs : List Device) (b o : ℕ) → Room D (length xs)
       → ((ν : ℕ) (δ : GName)
       → Opds K W (raw (JudgeC 𝓤 H A mem run .pre (to-judge 𝓤 H A mem run b o xs ν δ)) ∷ ‵ (AwayShared D ν q xs b o) ∷ Γ) E os (sl b o (length xs)))
       → ((j : Judged) → JIs j → j ≡ judgedFrom unjudged xs → Seq K W (‵ (row D q xs b o) ∷ Γ) (lands C Λ E d (jval j) rest p))
       → Seq K W (‵ (row D q xs b o) ∷ Γ) (runs C Λ E (seq (call judge.Symbol.name os d) rest) p)
-  judges t fm mem run known q xs b o g ops k = lends-shared t tt D q xs b o g (λ ν δ.
-      let at : JudgeC 𝓤 H A mem run .Ghost = to-judge 𝓤 H A mem run b o xs ν δ in
-      join t $ use1 W (raw (JudgeC 𝓤 H A mem run .pre at)) (asks-judge 𝓤 H A W mem run b o xs ν δ) $
-      calls-val t fm judge.ended (judge.clauses 𝓤 H A mem run) known at jval jtells (ops ν δ) (λ j zs j-is. heard t (j ≡ judgedFrom unjudged xs) (λ e.
-      use1 W (‵ (flft (ν ∷ []) fullShare) ⊛ ‵ ftrue) (id⊢ 𝓤 _) $ split t $ move t (1 ∷ []) $ drop t $ move t (1 ∷ []) $ drop t $
-      returned-shared t tt D q xs b o $ k j j-is e)))
+  judges t fm mem run known q xs b o g ops k =
+      calls-lending t fm judge.ended (judge.clauses 𝓤 H A mem run) known D q xs b o g (to-judge 𝓤 H A mem run b o xs) (asks-judge 𝓤 H A W mem run b o xs)
+      (λ ν δ. id⊢ 𝓤 _) (λ ν δ. jval) (λ ν δ. jtells) ops (λ ν δ j zs j-is. heard t (j ≡ judgedFrom unjudged xs) (λ e. k j j-is e))

@@ -201,24 +201,26 @@ contractOf {𝓤 = 𝓤} H A T c = tripleOf 𝓤 H A (T .signature) (closing �
 
 -- what stands once a call at y has returned r: what the contract ensures of r and of the last values ws, the tokens, and what says ws
 module _ {M : Type 1} {𝓤 : URA M} (H : Heap 𝓤) (A : Atoms 𝓤) (T : Ended) (c : Clauses 𝓤 T) (y : (x : Bound 𝓤 H A (T .signature)) × c (x .0) (x .3) .ghost) where
-  abbrev Result : RattleType
+  abbrev pub Result : RattleType
   Result = typeAt (T .signature .result) (y .0 .0)
 
-  abbrev Last : Type 0
+  abbrev pub Last : Type 0
   Last = Lasts T (y .0 .0) (y .0 .3)
 
-  abbrev Ensured : Result .Denot → Last → Item 𝓤
+  abbrev pub Ensured : Result .Denot → Last → Item 𝓤
   Ensured r ws = raw (c (y .0 .0) (y .0 .3) .ensures (y .1) r (atExit T (y .0 .0) (y .0 .3) ws))
 
-  abbrev Tokens : Item 𝓤
+  abbrev pub Tokens : Item 𝓤
   Tokens = raw (alive 𝓤 H A (T .signature) (y .0 .0) (y .0 .1))
 
-  abbrev Said : Last → Item 𝓤
+  abbrev pub Said : Last → Item 𝓤
   Said ws = ‵ (lasts T (y .0 .0) (y .0 .3) ws)
 
 -- ---- a call whose result is plain data: the result's value r and that it is one
-module _ {M : Type 1} {𝓤 : URA M} {H : Heap 𝓤} {A : Atoms 𝓤} {K : Type 0} {W : Given 𝓤 H A} {Γ : List (Item 𝓤)} {E : Env 𝓤 H} {C : Calls 𝓤 H} {Λ : Loops 𝓤 H} {p : Post 𝓤 H} where
-  pub calls-val : {f : Name} {xs : List Operand} {d : Place} {rest : Code} → K → FmC 𝓤 H (W .laws) C → (T : Ended) (c : Clauses 𝓤 T) → Triple 𝓤 (C f) (contractOf H A T c)
+module _ {M : Type 1} {𝓤 : URA M} {H : Heap 𝓤} {A : Atoms 𝓤} {K : Type 0} {W : Given 𝓤 H A} {Γ : List (Item 𝓤)}
+    {E : Env 𝓤 H} {C : Calls 𝓤 H} {Λ : Loops 𝓤 H} {p : Post 𝓤 H} where
+  pub calls-val : {f : Name} {xs : List Operand} {d : Place} {rest : Code} → K → FmC 𝓤 H (W .laws) C
+      → (T : Ended) (c : Clauses 𝓤 T) → Triple 𝓤 (C f) (contractOf H A T c)
       → (y : (x : Bound 𝓤 H A (T .signature)) × c (x .0) (x .3) .ghost)
       → (val : Result H A T c y .Denot → Val) → Tells (Result H A T c y) (Is (Result H A T c y)) (λ r. val r ∷ [])
       → Opds K W (raw (contractOf H A T c .pre y) ∷ Γ) E xs (passed 𝓤 H A (T .signature) (y .0))
@@ -283,7 +285,8 @@ module _ {M : Type 1} (𝓤 : URA M) (H : Heap 𝓤) (A : Atoms 𝓤) {S : Type 
       via 𝓤 (Inv t) (within t s ok) (loop-rule 𝓤 H (W .laws) 𝓣 _<_ (Nat·lt-wfRel .wf) E turn Left Inv each t)
 
 -- ---- from a walk to the statement
-module _ {M : Type 1} (𝓤 : URA M) (H : Heap 𝓤) (𝓜 : Model 𝓤 H) (𝓖 : GhostRules 𝓤 H) (𝓡 : Running 𝓤 H 𝓜) (T : Ended) (hs : Stays (T .signature .params) (T .kept)) where
+module _ {M : Type 1} (𝓤 : URA M) (H : Heap 𝓤) (𝓜 : Model 𝓤 H) (𝓖 : GhostRules 𝓤 H) (𝓡 : Running 𝓤 H 𝓜)
+    (T : Ended) (hs : Stays (T .signature .params) (T .kept)) where
   -- the law of each parameter's slot
   abbrev Laws : Type 1
   Laws = AllGo 𝓤 H (𝓖 .A) (givenOf 𝓤 H 𝓜 𝓖) (T .signature .lifetimes) (T .signature .params) (T .kept) hs
@@ -310,8 +313,9 @@ module _ {M : Type 1} (𝓤 : URA M) (H : Heap 𝓤) (𝓜 : Model 𝓤 H) (𝓖
 
     -- a walk from what the types own at entry, whatever the `requires` says
     abbrev Walk : Knot → Fn → Type 1
-    Walk env f = (κs : Lfts (T .signature .lifetimes)) (qs : Shares (T .signature .lifetimes)) (bounds : AllOutlive (T .signature .lifetimes) (T .signature .outlives) κs)
-        (a : Args (T .signature) κs) (g : c κs a .ghost) → Are (Types κs) (Ises (Types κs)) a (Spelled κs a)
+    Walk env f = (κs : Lfts (T .signature .lifetimes)) (qs : Shares (T .signature .lifetimes))
+        (bounds : AllOutlive (T .signature .lifetimes) (T .signature .outlives) κs) (a : Args (T .signature) κs) (g : c κs a .ghost)
+        → Are (Types κs) (Ises (Types κs)) a (Spelled κs a)
         → ent 𝓤 (onEntry 𝓤 H (𝓖 .A) (T .signature) κs qs a (Spelled κs a))
         (Body env f (flat (Types κs) (Spelled κs a)) (walkOf 𝓤 H (𝓖 .A) T hs c .post ((κs, qs, bounds, a, Spelled κs a), g)))
 

@@ -43,7 +43,8 @@ pub boundary-refusal-found : (ds : List Device) → first (boundaryRows (judgedF
 unfolding boundaryRefusal
 boundary-refusal-found ds = rows-found ds (λ b. (13 when not b) ∷ [])
 
-pub fault-refusal-found : (ds : List Device) (device kind : ℕ) → first (faultRows (judgedFrom unjudged ds) (length ds) device kind) ≡ faultRefusal ds device kind
+pub fault-refusal-found : (ds : List Device) (device kind : ℕ)
+    → first (faultRows (judgedFrom unjudged ds) (length ds) device kind) ≡ faultRefusal ds device kind
 unfolding faultRefusal
 fault-refusal-found ds device kind =
     rows-found ds (λ b. (13 when not (isDevice (length ds) device && (ltb kind 2 && b))) ∷ [])

@@ -1,14 +1,16 @@
--- `chain::bb_run` meets its contract: a walk of its MIR, by hand. Records are judged once; each turn reads a record, calls `take_turn`
--- and `turn_after` with the slices lent on, and stores the record and the cursor. What a turn does to the run is in turns/proofs/Whole.
+-- `chain::bb_run` meets its contract: a walk of its MIR, by hand. The records are judged once, and `enter` says where the run begins; each turn
+-- reads a record, calls `take_turn` and `turn_after` with the slices lent on, and stores the record and the cursor. What a turn does to the run,
+-- and that the run ends, is in turns/proofs/Whole.
 use Rattle.judgement.proofs.Walk.{_≡_, refl, sym, _∙_, ap, subst, ℕ, zero, suc, _*_, _<_, _^_, arith, Bool, true, false, List, [], _∷_, length, getD, set, URA, fullShare, Ty}
-use Rattle.judgement.proofs.Walk.{named, erased, mut, imm, w8, w64, tyBool, tyPtr, tyRef, vbool, vint, vptr, Val, SProp, ent, sep, emp, via, fst∗, Lft, GName, Share, ftrue}
+use Rattle.judgement.proofs.Walk.{named, erased, mut, imm, w8, w64, tyBool, tyPtr, tyRef, vbool, vint, vptr, Val, SProp, ent, sep, Lft, GName, Share, ftrue}
 use Rattle.judgement.proofs.Walk.{fat, flft, Memory, Routine, Heap, Out, Env, Wp, WpFn, Tables, afterSeq, afterBlock, afterTurn, atReturn, Atoms, sem, fmOf, Given, Item, ‵}
 use Rattle.judgement.proofs.Walk.{raw, _⊛_, ⋆, anyQ, atRet, _$_, _∵_, !, qed, by, move, use1, drop, split, join, rewrite, fsplit, fjoin, suffices, frame, done, whole, sub}
 use Rattle.judgement.proofs.Walk.{look-in, agg, look, look-raw, store, store-raw, init, forget, stop, hop, fld, from, load, lit, of-opd, and-then, no-more, bin, addr}
 use Rattle.judgement.proofs.Walk.{assigns, assigns-last, land, stays, leaves-loop, exec, returns, enter, alloc1, alloc0, params1, pass1, pass0, Fun, givenOf, tables}
-use Rattle.judgement.proofs.Walk.{tablesOf, yes, owns, pointee, Is, shows, uint-vals, uint-tells, uint-makes, uint-copy, RefT, now, sliceTy, sliceVal, MutSlice, ShrSlice}
-use Rattle.judgement.proofs.Walk.{Room, finally, slice-vals, mut-slice-tells, shr-slice-tells, row, plain, shrSliceOf, u8, usize, onEntry, tripleOf, Contract, Triple, cited}
-use Rattle.judgement.proofs.Walk.{nothing, owned, heard, says, Stays, gave-slice, stay-dropped, walkOf, ends-at, walked, goes-gave-slice, goes-dropped, word, byte, loop, id⊢}
+use Rattle.judgement.proofs.Walk.{tablesOf, yes, owns, Is, shows, uint-vals, uint-tells, uint-copy, RefT, now, sliceTy, sliceVal, MutSlice, ShrSlice}
+use Rattle.judgement.proofs.Walk.{Room, finally, slice-vals, mut-slice-tells, shr-slice-tells, row, plain, shrSliceOf, u8, onEntry, tripleOf, Contract, Triple, cited}
+use Rattle.judgement.proofs.Walk.{nothing, owned, heard, says, Stays, gave-slice, stay-dropped, walkOf, ends-at, goes-gave-slice, goes-dropped, word, byte, loop, id⊢}
+use denote.Laws.{Lawful}
 use denote.Struct.Laws as LL
 use denote.Enum.Laws as EL
 use Rattle.tables.specs.Refusals.{first}
@@ -42,40 +44,31 @@ use Rattle.phases.proofs.phase.Sent.Laws as N′
 use Rattle.refusals.proofs.Found.{run-refusal-found}
 use Rattle.turns.proofs.Turns.{Good, turned-device, turned-cursor}
 use Rattle.turns.proofs.Whole.{Stands, stands-next, stands-zero, stands-end, stands-start, run-same}
-use Rattle.judgement.proofs.Dev.{D, val, vals, tells, made, lawful, place-fits, place-at, size, out, into, back}
-use Rattle.judgement.proofs.Lent.{ref, sl, Open, Seen, opened, final, looked, shut, lends, returned, lends-shared, returned-shared, hold, free, Again, again, loops, calls-val, calls-plain, free-all, closes}
-use Rattle.judgement.proofs.Judges.{JIs, JudgeC, judges}
+use Rattle.judgement.proofs.Dev.{D, device, val, vals, tells, lawful, place-fits, place-at, size, out, into, back}
+use Rattle.judgement.proofs.Lent.{ref, sl, Open, Seen, opened, final, looked, shut, lends, returned, lends-shared, returned-shared, hold, free, Again, again, loops}
+use Rattle.judgement.proofs.Lent.{LentMut, LentShared, rooms, calls-val, free-all, meets}
+use Rattle.judgement.proofs.Steps.{here, held, held-field, locals, Passed, number, gives, calls-plain, calls-lending}
+use Rattle.chain.proofs.Loop.{sliceD, refI}
+use Rattle.judgement.proofs.Judges.{jvals, JIs, jlawful, judged, JudgeC, judges}
 use Rattle.judgement.proofs.judge as judge
-use Rattle.judgement.proofs.judge.Symbol as judge-def
-use Rattle.judgement.proofs.judge.Symbol.{name as #judge}
-use Rattle.judgement.proofs.judge.Met as judge-thm
 use Rattle.cursor.proofs.enter as opening
-use Rattle.cursor.proofs.enter.Symbol as opening-def
-use Rattle.cursor.proofs.enter.Symbol.{name as #opening}
-use Rattle.cursor.proofs.enter.Met as opening-thm
 use Rattle.turns.proofs.take_turn as take
-use Rattle.turns.proofs.take_turn.Symbol as take-def
-use Rattle.turns.proofs.take_turn.Symbol.{name as #take}
-use Rattle.turns.proofs.take_turn.Met as take-thm
 use Rattle.turns.proofs.turn_after as after
-use Rattle.turns.proofs.turn_after.Symbol as after-def
-use Rattle.turns.proofs.turn_after.Symbol.{name as #after}
-use Rattle.turns.proofs.turn_after.Met as after-thm
 use Rattle.cursor.proofs.answer as answer
-use Rattle.cursor.proofs.answer.Symbol as answer-def
-use Rattle.cursor.proofs.answer.Symbol.{name as #answer}
-use Rattle.cursor.proofs.answer.Met as answer-thm
-use Rattle.chain.proofs.bb_run.Key.{name as #bb-run}
 use Rattle.chain.proofs.bb_run as bb-run
-use Rattle.chain.proofs.bb_run.Statement as stated
 use Rattle.chain.proofs.bb_run.Code as code
-use Rattle.chain.proofs.bb_run.Code.Mir as m
 
-abbrev sliceD : Ty
-sliceD = sliceTy (tyRef (named 0) mut (pointee (D .written)))
+-- the slices of the states and of the room, and the room lent on
+abbrev sliceS : Ty
+sliceS = sliceTy (tyRef (named 1) imm byte)
 
-abbrev refI : Ty
-refI = tyRef erased imm (pointee (D .written))
+abbrev sliceO : Ty
+sliceO = sliceTy (tyRef (named 2) mut byte)
+
+abbrev refO : Ty
+refO = tyRef erased mut byte
+
+-- ---- the machine values of the records that are passed and returned
 
 abbrev bval : Entry → Val
 bval = LL.val B.the-type B′.the-laws
@@ -104,33 +97,37 @@ rval = LL.val R.the-type R′.the-laws
 abbrev RIs : Ran → Type 0
 RIs r = Is R.the-row r (LL.vals R.the-type R′.the-laws r)
 
+module _ {M : Type 1} {𝓤 : URA M} {H : Heap 𝓤} {A : Atoms 𝓤} {W : Given 𝓤 H A} where
+  abbrev cursor-of : (c : Cursor) → CIs c → Passed W C.the-row
+  cursor-of c is = record { value = c; values = cvals c; makes = LL.makes C.the-type C′.the-plain 𝓤 H A; is = is }
+
+  abbrev sent-of : (x : Sent) → NIs x → Passed W N.the-row
+  sent-of x is = record { value = x; values = nvals x; makes = EL.makes N.the-type N′.the-plain 𝓤 H A; is = is }
+
 abbrev stayed : Stays (bb-run.ended .signature .params) (bb-run.ended .kept)
-stayed = (gave-slice (0 ∷ []) tt (plain (λ _. D)), (stay-dropped (shrSliceOf (1 ∷ []) tt (plain (λ _. u8))) yes, (gave-slice (2 ∷ []) tt (plain (λ _. u8)), tt)))
+stayed =
+    (gave-slice (0 ∷ []) tt (plain (λ _. D)), (stay-dropped (shrSliceOf (1 ∷ []) tt (plain (λ _. u8))) yes, (gave-slice (2 ∷ []) tt (plain (λ _. u8)), tt)))
 
-abbrev EnterC : {M : Type 1} (𝓤 : URA M) (H : Heap 𝓤) (A : Atoms 𝓤) (mem : Memory → SProp 𝓤) (run : Routine → Fun 𝓤) → Contract 𝓤
-EnterC 𝓤 H A mem run = tripleOf 𝓤 H A opening.signature (opening.spec 𝓤 H A mem run)
-
-abbrev TakeC : {M : Type 1} (𝓤 : URA M) (H : Heap 𝓤) (A : Atoms 𝓤) (mem : Memory → SProp 𝓤) (run : Routine → Fun 𝓤) → Contract 𝓤
-TakeC 𝓤 H A mem run = tripleOf 𝓤 H A take.signature (take.spec 𝓤 H A mem run)
-
-abbrev AfterC : {M : Type 1} (𝓤 : URA M) (H : Heap 𝓤) (A : Atoms 𝓤) (mem : Memory → SProp 𝓤) (run : Routine → Fun 𝓤) → Contract 𝓤
-AfterC 𝓤 H A mem run = tripleOf 𝓤 H A after.signature (after.spec 𝓤 H A mem run)
-
-abbrev AnswerC : {M : Type 1} (𝓤 : URA M) (H : Heap 𝓤) (A : Atoms 𝓤) (mem : Memory → SProp 𝓤) (run : Routine → Fun 𝓤) → Contract 𝓤
-AnswerC 𝓤 H A mem run = tripleOf 𝓤 H A answer.signature (answer.spec 𝓤 H A mem run)
-
-module _ {M : Type 1} (𝓤 : URA M) (H : Heap 𝓤) (A : Atoms 𝓤) (W : Given 𝓤 H A) (mem : Memory → SProp 𝓤) (run : Routine → Fun 𝓤) (κ κ₁ κ₂ : Lft) (q q₁ q₂ : Share) (b o : ℕ) (γ : GName) (xs : List Device) (b₁ o₁ : ℕ) (γ₁ : GName) (ss : List ℕ) (b₂ o₂ : ℕ) (γ₂ : GName) (os : List ℕ) where
-  abbrev Arg : Type 0
-  Arg = RefT (List Device) × (RefT (List ℕ) × (RefT (List ℕ) × Unit {0}))
-
-  abbrev x : Arg
+module _ {M : Type 1} (𝓤 : URA M) (H : Heap 𝓤) (A : Atoms 𝓤) (W : Given 𝓤 H A) (mem : Memory → SProp 𝓤) (run : Routine → Fun 𝓤)
+    (κ κ₁ κ₂ : Lft) (q q₁ q₂ : Share) (b o : ℕ) (γ : GName) (xs : List Device) (b₁ o₁ : ℕ) (γ₁ : GName) (ss : List ℕ) (b₂ o₂ : ℕ) (γ₂ : GName) (os : List ℕ)
+    (g : Room D (length xs)) (g₁ : Room u8 (length ss)) (g₂ : Room u8 (length os)) where
+  abbrev x : RefT (List Device) × (RefT (List ℕ) × (RefT (List ℕ) × Unit {0}))
   x = (ref b o γ xs, (ref b₁ o₁ γ₁ ss, (ref b₂ o₂ γ₂ os, tt)))
 
   abbrev at : List Val × (List Val × (List Val × Unit {0}))
   at = (sl b o (length xs), (sl b₁ o₁ (length ss), (sl b₂ o₂ (length os), tt)))
 
+  abbrev given : List Val
+  given = sliceVal (b, o) (length xs) ∷ sliceVal (b₁, o₁) (length ss) ∷ sliceVal (b₂, o₂) (length os) ∷ []
+
+  abbrev Walked : Contract 𝓤
+  Walked = walkOf 𝓤 H A bb-run.ended stayed (bb-run.clauses 𝓤 H A mem run)
+
+  abbrev outside : Walked .Ghost
+  outside = (((κ, (κ₁, (κ₂, tt))), (q, (q₁, (q₂, tt))), tt, x, at), tt)
+
   abbrev Post : Val → SProp 𝓤
-  Post = walkOf 𝓤 H A bb-run.ended stayed (bb-run.clauses 𝓤 H A mem run) .post (((κ, (κ₁, (κ₂, tt))), (q, (q₁, (q₂, tt))), tt, x, at), tt)
+  Post = Walked .post outside
 
   abbrev fin : Running
   fin = runEnd xs ss os
@@ -144,217 +141,312 @@ module _ {M : Type 1} (𝓤 : URA M) (H : Heap 𝓤) (A : Atoms 𝓤) (W : Given
   abbrev ans : Ran
   ans = ran num (fin .cursor .written)
 
-  exits : RIs ans → length (fin .devices) ≡ length xs → length (fin .out) ≡ length os
-      → ent 𝓤 (⋆ 𝓤 H A (‵ (finally u8 γ₂ (fin .out)) ∷ ‵ (flft κ₂ q₂) ∷ ‵ (flft κ₁ q₁) ∷ ‵ (finally D γ (fin .devices)) ∷ ‵ (flft κ q) ∷ [])) (Post (rval ans))
-  exits g ld lo =
-      qed W (‵ (finally u8 γ₂ (fin .out)) ∷ ‵ (flft κ₂ q₂) ∷ ‵ (flft κ₁ q₁) ∷ ‵ (finally D γ (fin .devices)) ∷ ‵ (flft κ q) ∷ []) ∵
-      suffices ! _ (ends-at 𝓤 H A bb-run.ended stayed (bb-run.clauses 𝓤 H A mem run) W (((κ, (κ₁, (κ₂, tt))), (q, (q₁, (q₂, tt))), tt, x, at), tt) (rval ans) ans (fin .devices, (tt, (fin .out, tt))) (ld, (tt, (lo, tt)))) $ says ! (run-same xs ss os) $
-      nothing ! $ move ! (2 ∷ 0 ∷ []) $ join ! $ move ! (2 ∷ 0 ∷ []) $ join ! $ move ! (3 ∷ 0 ∷ []) $ join ! $ frame ! $ nothing ! $ move ! (1 ∷ 0 ∷ []) $ fjoin ! $ nothing ! $ fjoin ! $ move ! (1 ∷ 0 ∷ []) $ fjoin ! $ frame ! $
-      owned ! R.the-row (Is R.the-row) (LL.makes R.the-type R′.the-plain 𝓤 H A) ans _ g $ done !
+  clawful : Lawful 𝓤 H A C.the-row
+  clawful = LL.lawful C.the-type C′.the-laws 𝓤 H A W
 
-  -- what each callee's triple binds outside, and what it asks
-  abbrev to-enter : (ν : ℕ) (δ : GName) (j : Judged) → EnterC 𝓤 H A mem run .Ghost
-  to-enter ν δ j = (((ν ∷ [], tt), (fullShare, tt), tt, (j, (length xs, (ref b₁ o₁ δ ss, (length os, tt)))), (LL.vals J.the-type J′.the-laws j, (vint w64 (length xs) ∷ [], (sl b₁ o₁ (length ss), (vint w64 (length os) ∷ [], tt))))), tt)
+  abbrev Ended : List (Item 𝓤)
+  Ended = ‵ (finally u8 γ₂ (fin .out)) ∷ ‵ (flft κ₂ q₂) ∷ ‵ (flft κ₁ q₁) ∷ ‵ (finally D γ (fin .devices)) ∷ ‵ (flft κ q) ∷ []
 
-  asks-enter : (ν : ℕ) (δ : GName) (j : Judged) → JIs j → length xs < 2 ^ 64 → length os < 2 ^ 64
-      → ent 𝓤 (sep 𝓤 (sem 𝓤 H A (ShrSlice (named 0) (ν ∷ []) u8 .own (ref b₁ o₁ δ ss) (sl b₁ o₁ (length ss)))) (A .lft (ν ∷ []) fullShare)) (EnterC 𝓤 H A mem run .pre (to-enter ν δ j))
-  asks-enter ν δ j j-is n-fits r-fits =
-      qed W (‵ (ShrSlice (named 0) (ν ∷ []) u8 .own (ref b₁ o₁ δ ss) (sl b₁ o₁ (length ss))) ∷ ‵ (flft (ν ∷ []) fullShare) ∷ []) ∵
-      nothing ! $ owned ! usize (Is usize) (uint-makes 𝓤 H A W w64) (length os) _ (refl, r-fits) $ fjoin ! $ move ! (1 ∷ 0 ∷ []) $ fjoin ! $ owned ! usize (Is usize) (uint-makes 𝓤 H A W w64) (length xs) _ (refl, n-fits) $ fjoin ! $
-      owned ! J.the-row (Is J.the-row) (LL.makes J.the-type J′.the-plain 𝓤 H A) j _ j-is $ fjoin ! $ nothing ! $ move ! (2 ∷ 0 ∷ []) $ join ! $ join ! $ nothing ! $ move ! (1 ∷ 0 ∷ []) $ done !
+  exits : RIs ans → length (fin .devices) ≡ length xs → length (fin .out) ≡ length os → ent 𝓤 (⋆ 𝓤 H A Ended) (Post (rval ans))
+  exits is ld lo =
+      qed W Ended ∵ suffices ! _ (ends-at 𝓤 H A bb-run.ended stayed (bb-run.clauses 𝓤 H A mem run) W outside (rval ans) ans
+      (fin .devices, (tt, (fin .out, tt))) (ld, (tt, (lo, tt)))) $ says ! (run-same xs ss os) $
+      nothing ! $ move ! (2 ∷ 0 ∷ []) $ join ! $ move ! (2 ∷ 0 ∷ []) $ join ! $ move ! (3 ∷ 0 ∷ []) $ join ! $ frame ! $
+      nothing ! $ move ! (1 ∷ 0 ∷ []) $ fjoin ! $ nothing ! $ fjoin ! $ move ! (1 ∷ 0 ∷ []) $ fjoin ! $ frame ! $
+      owned ! R.the-row (Is R.the-row) (LL.makes R.the-type R′.the-plain 𝓤 H A) ans _ is $ done !
 
-  abbrev to-take : (ν : ℕ) (δ : GName) (d : Device) (c : Cursor) → TakeC 𝓤 H A mem run .Ghost
-  to-take ν δ d c = (((ν ∷ [], tt), (fullShare, tt), tt, (d, (c, (ref b₁ o₁ δ ss, tt))), (vals d, (cvals c, (sl b₁ o₁ (length ss), tt)))), tt)
+  -- ---- what each callee's triple binds outside, and what it asks, where the states are lent for ν under the name δ
 
-  asks-take : (ν : ℕ) (δ : GName) (d : Device) (c : Cursor) → Is D d (vals d) → CIs c
-      → ent 𝓤 (sep 𝓤 (sem 𝓤 H A (ShrSlice (named 0) (ν ∷ []) u8 .own (ref b₁ o₁ δ ss) (sl b₁ o₁ (length ss)))) (A .lft (ν ∷ []) fullShare)) (TakeC 𝓤 H A mem run .pre (to-take ν δ d c))
-  asks-take ν δ d c d-is c-is =
-      qed W (‵ (ShrSlice (named 0) (ν ∷ []) u8 .own (ref b₁ o₁ δ ss) (sl b₁ o₁ (length ss))) ∷ ‵ (flft (ν ∷ []) fullShare) ∷ []) ∵
-      nothing ! $ move ! (1 ∷ 0 ∷ []) $ fjoin ! $ owned ! C.the-row (Is C.the-row) (LL.makes C.the-type C′.the-plain 𝓤 H A) c _ c-is $ fjoin ! $ owned ! D (Is D) (made 𝓤 H A) d _ d-is $ fjoin ! $
+  abbrev EnterC : Contract 𝓤
+  EnterC = tripleOf 𝓤 H A opening.signature (opening.spec 𝓤 H A mem run)
+
+  abbrev TakeC : Contract 𝓤
+  TakeC = tripleOf 𝓤 H A take.signature (take.spec 𝓤 H A mem run)
+
+  abbrev AfterC : Contract 𝓤
+  AfterC = tripleOf 𝓤 H A after.signature (after.spec 𝓤 H A mem run)
+
+  abbrev States : ℕ → GName → SProp 𝓤
+  States ν δ = sem 𝓤 H A (LentShared u8 (ν ∷ []) b₁ o₁ δ ss)
+
+  abbrev Token : ℕ → SProp 𝓤
+  Token ν = A .lft (ν ∷ []) fullShare
+
+  abbrev Lending : ℕ → GName → List (Item 𝓤)
+  Lending ν δ = ‵ (LentShared u8 (ν ∷ []) b₁ o₁ δ ss) ∷ ‵ (flft (ν ∷ []) fullShare) ∷ []
+
+  abbrev to-enter : (ν : ℕ) (δ : GName) (j : Judged) → EnterC .Ghost
+  to-enter ν δ j = (
+    (
+      (ν ∷ [], tt),
+      (fullShare, tt),
+      tt,
+      (j, (length xs, (ref b₁ o₁ δ ss, (length os, tt)))),
+      (jvals j, (vint w64 (length xs) ∷ [], (sl b₁ o₁ (length ss), (vint w64 (length os) ∷ [], tt)))),
+    ),
+    tt,
+  )
+
+  asks-enter : (ν : ℕ) (δ : GName) (j : Judged) → JIs j → ent 𝓤 (sep 𝓤 (States ν δ) (Token ν)) (EnterC .pre (to-enter ν δ j))
+  asks-enter ν δ j j-is =
+      qed W (Lending ν δ) ∵ nothing ! $ gives ! (number w64 (length os) (g₂ .0)) $ move ! (1 ∷ 0 ∷ []) $ fjoin ! $
+      gives ! (number w64 (length xs) (g .0)) $ gives ! (judged j j-is) $
       nothing ! $ move ! (2 ∷ 0 ∷ []) $ join ! $ join ! $ nothing ! $ move ! (1 ∷ 0 ∷ []) $ done !
 
-  abbrev to-after : (ν ν′ : ℕ) (δ δ′ : GName) (c : Cursor) (k : ℕ) (x : Sent) (ws : List ℕ) → AfterC 𝓤 H A mem run .Ghost
-  to-after ν ν′ δ δ′ c k x ws = (((ν ∷ [], (ν′ ∷ [], tt)), (fullShare, (fullShare, tt)), tt, (c, (k, (x, (ref b₁ o₁ δ ss, (ref b₂ o₂ δ′ ws, tt))))), (cvals c, (vint w64 k ∷ [], (nvals x, (sl b₁ o₁ (length ss), (sl b₂ o₂ (length ws), tt)))))), tt)
+  abbrev to-take : (ν : ℕ) (δ : GName) (d : Device) (c : Cursor) → TakeC .Ghost
+  to-take ν δ d c = (((ν ∷ [], tt), (fullShare, tt), tt, (d, (c, (ref b₁ o₁ δ ss, tt))), (vals d, (cvals c, (sl b₁ o₁ (length ss), tt)))), tt)
 
-  asks-after : (ν ν′ : ℕ) (δ δ′ : GName) (c : Cursor) (k : ℕ) (x : Sent) (ws : List ℕ) → CIs c → k < 2 ^ 64 → NIs x
-      → ent 𝓤 (sep 𝓤 (sem 𝓤 H A (ShrSlice (named 0) (ν ∷ []) u8 .own (ref b₁ o₁ δ ss) (sl b₁ o₁ (length ss)))) (sep 𝓤 (A .lft (ν ∷ []) fullShare) (sep 𝓤 (sem 𝓤 H A (MutSlice (named 0) (ν′ ∷ []) u8 .own (ref b₂ o₂ δ′ ws) (sl b₂ o₂ (length ws)))) (A .lft (ν′ ∷ []) fullShare)))) (AfterC 𝓤 H A mem run .pre (to-after ν ν′ δ δ′ c k x ws))
-  asks-after ν ν′ δ δ′ c k x ws c-is k-fits x-is =
-      qed W (‵ (ShrSlice (named 0) (ν ∷ []) u8 .own (ref b₁ o₁ δ ss) (sl b₁ o₁ (length ss))) ∷ ‵ (flft (ν ∷ []) fullShare) ∷ ‵ (MutSlice (named 0) (ν′ ∷ []) u8 .own (ref b₂ o₂ δ′ ws) (sl b₂ o₂ (length ws))) ∷ ‵ (flft (ν′ ∷ []) fullShare) ∷ []) ∵
-      nothing ! $ move ! (3 ∷ 0 ∷ []) $ fjoin ! $ move ! (1 ∷ 0 ∷ []) $ fjoin ! $ owned ! N.the-row (Is N.the-row) (EL.makes N.the-type N′.the-plain 𝓤 H A) x _ x-is $ fjoin ! $
-      owned ! usize (Is usize) (uint-makes 𝓤 H A W w64) k _ (refl, k-fits) $ fjoin ! $ owned ! C.the-row (Is C.the-row) (LL.makes C.the-type C′.the-plain 𝓤 H A) c _ c-is $ fjoin ! $
-      nothing ! $ move ! (3 ∷ 0 ∷ []) $ join ! $ move ! (2 ∷ 0 ∷ []) $ join ! $ join ! $ nothing ! $ move ! (1 ∷ 0 ∷ []) $ done !
+  asks-take : (ν : ℕ) (δ : GName) (d : Device) (c : Cursor) → Is D d (vals d) → CIs c → ent 𝓤 (sep 𝓤 (States ν δ) (Token ν)) (TakeC .pre (to-take ν δ d c))
+  asks-take ν δ d c d-is c-is =
+      qed W (Lending ν δ) ∵ nothing ! $ move ! (1 ∷ 0 ∷ []) $ fjoin ! $ gives ! (cursor-of c c-is) $ gives ! (device d d-is) $
+      nothing ! $ move ! (2 ∷ 0 ∷ []) $ join ! $ join ! $ nothing ! $ move ! (1 ∷ 0 ∷ []) $ done !
 
-  module _ (𝓣 : Tables 𝓤 H) (known : Triple 𝓤 (𝓣 .C #take) (TakeC 𝓤 H A mem run)) (known-after : Triple 𝓤 (𝓣 .C #after) (AfterC 𝓤 H A mem run)) (known-answer : Triple 𝓤 (𝓣 .C #answer) (AnswerC 𝓤 H A mem run)) (g : Room D (length xs)) (g₁ : Room u8 (length ss)) (g₂ : Room u8 (length os)) (num-fits : num < 2 ^ 8) (qs : Share) (l₀ l₁ l₂ l₃ l₄ l₅ l₆ l₇ l₈ l₉ l₁₀ l₁₁ l₁₂ l₁₃ l₁₄ l₁₅ l₁₆ l₁₇ l₁₈ l₁₉ l₂₀ : ℕ) where
-    abbrev E : Env 𝓤 H
-    E = (R′.mir, l₀) ∷ (sliceD, l₁) ∷ (sliceTy (tyRef (named 1) imm byte), l₂) ∷ (sliceTy (tyRef (named 2) mut byte), l₃) ∷ (J′.mir, l₄) ∷ (B′.mir, l₅) ∷ (C′.mir, l₆) ∷ (word, l₇) ∷ (S′.mir, l₈) ∷ (C′.mir, l₉) ∷ (refI, l₁₀) ∷ (sliceTy refI, l₁₁) ∷ (word, l₁₂) ∷ (word, l₁₃) ∷ (tyBool, l₁₄) ∷ (word, l₁₅) ∷ (tyPtr, l₁₆) ∷ (dev, l₁₇) ∷ (tyRef erased mut byte, l₁₈) ∷ (sliceTy (tyRef erased mut byte), l₁₉) ∷ (tyPtr, l₂₀) ∷ []
+  -- the room too, at ws, for ν′ under the name δ′
+  module _ (ν ν′ : ℕ) (δ δ′ : GName) (c : Cursor) (k : ℕ) (x : Sent) (ws : List ℕ) where
+    abbrev to-after : AfterC .Ghost
+    to-after = (
+      (
+        (ν ∷ [], (ν′ ∷ [], tt)),
+        (fullShare, (fullShare, tt)),
+        tt,
+        (c, (k, (x, (ref b₁ o₁ δ ss, (ref b₂ o₂ δ′ ws, tt))))),
+        (cvals c, (vint w64 k ∷ [], (nvals x, (sl b₁ o₁ (length ss), (sl b₂ o₂ (length ws), tt))))),
+      ),
+      tt,
+    )
 
-    -- where the run stands at s. [the chain's row; open; states' row; seen; out's row; open; _20; …; _0; …]
-    abbrev At : Running → List (Item 𝓤)
-    At s = ‵ (row D fullShare (s .devices) b o) ∷ ‵ (Open D κ q γ xs b o) ∷ ‵ (row u8 qs ss b₁ o₁) ∷ ‵ (Seen u8 κ₁ q₁ qs ss b₁ o₁) ∷ ‵ (row u8 fullShare (s .out) b₂ o₂) ∷ ‵ (Open u8 κ₂ q₂ γ₂ os b₂ o₂) ∷
-        free tyPtr l₂₀ (free (sliceTy (tyRef erased mut byte)) l₁₉ (free (tyRef erased mut byte) l₁₈ (free dev l₁₇ (free tyPtr l₁₆ (free word l₁₅ (free tyBool l₁₄ (free word l₁₃ (free word l₁₂ (free (sliceTy refI) l₁₁ (free refI l₁₀ (free C′.mir l₉ (free S′.mir l₈ (free word l₇ (hold C′.mir l₆ (cval (s .cursor)) (hold B′.mir l₅ (bval bg) (free J′.mir l₄ (hold (sliceTy (tyRef (named 2) mut byte)) l₃ (sliceVal (b₂, o₂) (length os)) (hold (sliceTy (tyRef (named 1) imm byte)) l₂ (sliceVal (b₁, o₁) (length ss)) (hold sliceD l₁ (sliceVal (b, o) (length xs)) (free R′.mir l₀ []))))))))))))))))))))
+    asks-after : CIs c → k < 2 ^ 64 → NIs x
+        → ent 𝓤 (sep 𝓤 (States ν δ) (sep 𝓤 (Token ν) (sep 𝓤 (sem 𝓤 H A (LentMut u8 (ν′ ∷ []) b₂ o₂ δ′ ws)) (Token ν′)))) (AfterC .pre to-after)
+    asks-after c-is k-fits x-is =
+        qed W (‵ (LentShared u8 (ν ∷ []) b₁ o₁ δ ss) ∷ ‵ (flft (ν ∷ []) fullShare) ∷ ‵ (LentMut u8 (ν′ ∷ []) b₂ o₂ δ′ ws) ∷ ‵ (flft (ν′ ∷ []) fullShare) ∷ []) ∵
+        nothing ! $ move ! (3 ∷ 0 ∷ []) $ fjoin ! $ move ! (1 ∷ 0 ∷ []) $ fjoin ! $
+        gives ! (sent-of x x-is) $ gives ! (number w64 k k-fits) $ gives ! (cursor-of c c-is) $
+        nothing ! $ move ! (3 ∷ 0 ∷ []) $ join ! $ move ! (2 ∷ 0 ∷ []) $ join ! $ join ! $ nothing ! $ move ! (1 ∷ 0 ∷ []) $ done !
 
-    abbrev Ok : ℕ → Running → Type 0
-    Ok t s = Stands (length xs) ss (length os) t fin s × CIs (s .cursor)
+  module _ (𝓣 : Tables 𝓤 H) (known-judge : Triple 𝓤 (𝓣 .C judge.Symbol.name) (JudgeC 𝓤 H A mem run)) (known-enter : Triple 𝓤 (𝓣 .C opening.Symbol.name) EnterC)
+      (known-take : Triple 𝓤 (𝓣 .C take.Symbol.name) TakeC) (known-after : Triple 𝓤 (𝓣 .C after.Symbol.name) AfterC)
+      (known-answer : Triple 𝓤 (𝓣 .C answer.Symbol.name) (tripleOf 𝓤 H A answer.signature (answer.spec 𝓤 H A mem run))) where
+    module _ (num-fits : num < 2 ^ 8) (qs : Share) (l₀ l₁ l₂ l₃ l₄ l₅ l₆ l₇ l₈ l₉ l₁₀ l₁₁ l₁₂ l₁₃ l₁₄ l₁₅ l₁₆ l₁₇ l₁₈ l₁₉ l₂₀ : ℕ) where
+      abbrev E : Env 𝓤 H
+      E = (R′.mir, l₀) ∷ (sliceD, l₁) ∷ (sliceS, l₂) ∷ (sliceO, l₃) ∷ (J′.mir, l₄) ∷ (B′.mir, l₅) ∷ (C′.mir, l₆) ∷ (word, l₇) ∷ (S′.mir, l₈) ∷ (C′.mir, l₉)
+          ∷ (refI, l₁₀) ∷ (sliceTy refI, l₁₁) ∷ (word, l₁₂) ∷ (word, l₁₃) ∷ (tyBool, l₁₄) ∷ (word, l₁₅) ∷ (tyPtr, l₁₆) ∷ (dev, l₁₇) ∷ (refO, l₁₈)
+          ∷ (sliceTy refO, l₁₉) ∷ (tyPtr, l₂₀) ∷ []
 
-    abbrev Left : Out → SProp 𝓤
-    Left = afterBlock 𝓤 H (afterSeq 𝓤 H (Wp 𝓤 H (𝓣 .C) (𝓣 .Λ) E m.t-9 (atReturn 𝓤 H E Post)) (atReturn 𝓤 H E Post))
+      -- those that a turn uses
+      abbrev Turned : List (Ty × ℕ)
+      Turned = (tyPtr, l₂₀) ∷ (sliceTy refO, l₁₉) ∷ (refO, l₁₈) ∷ (dev, l₁₇) ∷ (tyPtr, l₁₆) ∷ (word, l₁₅) ∷ (tyBool, l₁₄) ∷ (word, l₁₃) ∷ (word, l₁₂)
+          ∷ (sliceTy refI, l₁₁) ∷ (refI, l₁₀) ∷ (C′.mir, l₉) ∷ (S′.mir, l₈) ∷ (word, l₇) ∷ []
 
-    more : (s : Running) (X : SProp 𝓤) → Good (length xs) ss (length os) s → CIs (s .cursor) → s .cursor .going ≡ true → (CIs (turning ss s .cursor) → ent 𝓤 (⋆ 𝓤 H A (At (turning ss s))) X) → ent 𝓤 (⋆ 𝓤 H A (At s)) (Wp 𝓤 H (𝓣 .C) (𝓣 .Λ) E m.turn-1 (afterTurn 𝓤 H X Left))
-    unfolding afterTurn
-    more s X good c-is going k =
-        let ys : List Device = s .devices in
-        let ws : List ℕ = s .out in
-        let c : Cursor = s .cursor in
-        let i : ℕ = s .cursor .index in
-        let d : Device = getD (s .devices) (s .cursor .index) blank in
-        let lw : length ws ≡ length os = good .out in
-        let l : i < length ys = subst (λ (z : ℕ). i < z) (sym (good .devices)) (good .index) in
-        let at-fits : i * size < 2 ^ 64 = place-fits i (length xs) (good .index) (g .1) in
-        qed W (At s) ∵ exec ! (𝓣 .C) (𝓣 .Λ) E m.turn-1 (anyQ (afterTurn 𝓤 H X Left)) $
-        assigns ! (of-opd ! (load ! (from ! (fld ! refl (stop !))) (look-in ! 34 (sub ! 6 refl (whole !))))) (from ! (stop !)) (init ! 18 refl (tt, tt)) $
-        rewrite ! 18 (λ (t : Bool). ‵ (fat fullShare tyBool l₁₄ 0 (vbool t))) going refl $
-        stays ! (load ! (from ! (stop !)) (look ! 18 refl)) $
-        assigns ! (of-opd ! (load ! (from ! (fld ! refl (stop !))) (look-in ! 34 (sub ! 2 refl (whole !))))) (from ! (stop !)) (init ! 32 refl (tt, record { fits = i-fits })) $
-        assigns ! (bin ! (load ! (from ! (stop !)) (look ! 32 refl)) (lit ! tt) (record { fits = at-fits })) (from ! (stop !)) (init ! 16 refl (tt, record { fits = at-fits })) $
-        assigns ! (bin ! (load ! (from ! (fld ! refl (stop !))) (look-in ! 44 (sub ! 0 refl (whole !)))) (load ! (from ! (stop !)) (look ! 16 refl)) tt) (from ! (stop !)) (init ! 14 refl (tt, tt)) $
-        rewrite ! 14 (λ (p : ℕ). ‵ (fat fullShare tyPtr l₁₆ 0 (vptr b p))) (place-at o i) refl $
-        out ! ys i b o l (λ is.
-        assigns ! (of-opd ! (load ! (from ! (hop ! (look ! 15 refl) (stop !))) (look-raw ! 0 refl))) (from ! (stop !)) (init ! 13 refl (lawful 𝓤 H A W .typed d _ is .0)) $
-        back ! ys i b o l is $
-        -- what the record of the turn becomes: states are lent on
-        move ! (2 ∷ []) $ lends-shared ! tt u8 qs ss b₁ o₁ g₁ (λ ν δ. join ! $ use1 W (raw (TakeC 𝓤 H A mem run .pre (to-take ν δ d c))) (asks-take ν δ d c is c-is) $
-        calls-val ! (fmOf 𝓤 H (W .laws) 𝓣) take.ended (take.clauses 𝓤 H A mem run) known (to-take ν δ d c) (LL.val S.the-type S′.the-laws) (LL.tells S.the-type S′.the-laws)
-        (and-then ! (load ! (from ! (stop !)) (look ! 13 refl)) (and-then ! (load ! (from ! (stop !)) (look ! 35 refl)) (and-then ! (load ! (from ! (stop !)) (look ! 43 refl)) (no-more !)))) (λ r zs is′. heard ! (r ≡ turnTaken d c ss) (λ e.
-        let parts = LL.owed S.the-type S′.the-laws r _ is′ in
-        use1 W (‵ (flft (ν ∷ []) fullShare) ⊛ ‵ ftrue) (id⊢ 𝓤 _) $ split ! $ move ! (1 ∷ []) $ drop ! $ move ! (1 ∷ []) $ drop ! $ returned-shared ! tt u8 qs ss b₁ o₁ $ move ! (1 ∷ 2 ∷ 0 ∷ []) $
-        land ! (from ! (stop !)) (init ! 30 refl (LL.lawful S.the-type S′.the-laws 𝓤 H A W .typed r _ is′ .0)) $
-        -- the cursor after it: states and out are lent on
-        assigns ! (addr ! (from ! (fld ! refl (hop ! (look-in ! 40 (sub ! 0 refl (whole !))) (stop !))))) (from ! (stop !)) (init ! 10 refl (tt, tt)) $
-        assigns ! (agg ! (and-then ! (load ! (from ! (stop !)) (look ! 10 refl)) (and-then ! (load ! (from ! (fld ! refl (stop !))) (look-in ! 40 (sub ! 1 refl (whole !)))) (no-more !)))) (from ! (stop !)) (init ! 8 refl (tt, (tt, (record { fits = g₂ .0 }, tt)))) $
-        rewrite ! 8 (λ (z : ℕ). ‵ (fat fullShare (sliceTy (tyRef erased mut byte)) l₁₉ 0 (sliceVal (b₂, o₂) z))) (sym lw) refl $
-        move ! (2 ∷ []) $ lends-shared ! tt u8 qs ss b₁ o₁ g₁ (λ ν″ δ″. move ! (6 ∷ []) $ lends ! tt u8 ws b₂ o₂ (subst (Room u8) (sym lw) g₂) (λ ν′ δ′.
-        join ! $ move ! (3 ∷ 0 ∷ []) $ join ! $ move ! (2 ∷ 0 ∷ []) $ join ! $
-        use1 W (raw (AfterC 𝓤 H A mem run .pre (to-after ν″ ν′ δ″ δ′ c (r .at) (r .sent) ws))) (asks-after ν″ ν′ δ″ δ′ c (r .at) (r .sent) ws c-is (parts .1 .0 .1) (parts .1 .1 .0)) $
-        calls-val ! (fmOf 𝓤 H (W .laws) 𝓣) after.ended (after.clauses 𝓤 H A mem run) known-after (to-after ν″ ν′ δ″ δ′ c (r .at) (r .sent) ws) cval (LL.tells C.the-type C′.the-laws)
-        (and-then ! (load ! (from ! (stop !)) (look ! 35 refl)) (and-then ! (load ! (from ! (fld ! refl (stop !))) (look-in ! 31 (sub ! 1 refl (whole !)))) (and-then ! (load ! (from ! (fld ! refl (stop !))) (look-in ! 31 (sub ! 2 refl (whole !)))) (and-then ! (load ! (from ! (stop !)) (look ! 43 refl)) (and-then ! (load ! (from ! (stop !)) (look ! 9 refl)) (no-more !)))))) (λ r′ zs′ is″.
-        heard ! ((r′ ≡ cursorAfter c (r .at) (r .sent) ss (length ws)) × (zs′ .1 .1 .1 .1 .0 ≡ turnedOut c ss ws)) (λ e′.
-        use1 W (‵ (flft (ν″ ∷ []) fullShare) ⊛ ‵ (flft (ν′ ∷ []) fullShare) ⊛ ‵ ftrue) (id⊢ 𝓤 _) $ split ! $ move ! (1 ∷ []) $ split ! $ move ! (1 ∷ []) $ drop ! $
-        -- [ν′; ν; what says the last values; away; away; the chain's; open; seen; open; …]
-        move ! (2 ∷ []) $ fsplit ! $ drop ! $ fsplit ! $ drop ! $ fsplit ! $ drop ! $ fsplit ! $ drop ! $ fsplit ! $ fsplit ! $
-        move ! (3 ∷ 5 ∷ 0 ∷ []) $ returned ! tt u8 (zs′ .1 .1 .1 .1 .0) b₂ o₂ $ move ! (1 ∷ []) $ drop ! $ move ! (1 ∷ []) $ drop ! $ move ! (1 ∷ 2 ∷ []) $ returned-shared ! tt u8 qs ss b₁ o₁ $
-        move ! (2 ∷ 3 ∷ 0 ∷ 4 ∷ 1 ∷ []) $
-        land ! (from ! (stop !)) (init ! 28 refl (LL.lawful C.the-type C′.the-laws 𝓤 H A W .typed r′ _ is″ .0)) $
-        assigns ! (bin ! (load ! (from ! (stop !)) (look ! 32 refl)) (lit ! tt) (record { fits = at-fits })) (from ! (stop !)) (store ! 16 refl (tt, record { fits = at-fits })) $
-        assigns ! (bin ! (load ! (from ! (fld ! refl (stop !))) (look-in ! 44 (sub ! 0 refl (whole !)))) (load ! (from ! (stop !)) (look ! 16 refl)) tt) (from ! (stop !)) (init ! 6 refl (tt, tt)) $
-        rewrite ! 6 (λ (p : ℕ). ‵ (fat fullShare tyPtr l₂₀ 0 (vptr b p))) (place-at o i) refl $
-        out ! ys i b o l (λ _.
-        assigns ! (of-opd ! (load ! (from ! (fld ! refl (stop !))) (look-in ! 31 (sub ! 0 refl (whole !))))) (from ! (hop ! (look ! 7 refl) (stop !))) (store-raw ! 0 refl (lawful 𝓤 H A W .typed (r .device) _ (parts .0) .0)) $
-        into ! ys i (r .device) b o l (parts .0) $
-        assigns-last ! (of-opd ! (load ! (from ! (stop !)) (look ! 28 refl))) (from ! (stop !)) (store ! 34 refl (LL.lawful C.the-type C′.the-laws 𝓤 H A W .typed r′ _ is″ .0)) $
-        forget ! 6 refl $ forget ! 8 refl $ forget ! 10 refl $ forget ! 12 refl $ forget ! 14 refl $ forget ! 16 refl $ forget ! 18 refl $ forget ! 28 refl $ forget ! 30 refl $ forget ! 32 refl $
-        rewrite ! 0 (λ (ls : List Device). ‵ (row D fullShare ls b o)) (ap (set ys i) (ap (λ (u : Taken). u .device) e ∙ turned-device d c ss (length ws))) refl $
-        rewrite ! 4 (λ (ls : List ℕ). ‵ (row u8 fullShare ls b₂ o₂)) (e′ .1) refl $
-        rewrite ! 34 (λ (u : Cursor). ‵ (fat fullShare C′.mir l₆ 0 (cval u))) (is-next r r′ e (e′ .0)) refl $
-        by ! (k (subst CIs (is-next r r′ e (e′ .0)) is″)))))))))))
-      where
-        i-fits : s .cursor .index < 2 ^ 64
-        i-fits = omega (arith, good .index, g .0)
+      -- where the run stands at s. [the chain's row; open; states' row; seen; out's row; open; _20; …; _0; …]
+      abbrev At : Running → List (Item 𝓤)
+      At s = ‵ (row D fullShare (s .devices) b o) ∷ ‵ (Open D κ q γ xs b o) ∷ ‵ (row u8 qs ss b₁ o₁) ∷ ‵ (Seen u8 κ₁ q₁ qs ss b₁ o₁) ∷
+          ‵ (row u8 fullShare (s .out) b₂ o₂) ∷ ‵ (Open u8 κ₂ q₂ γ₂ os b₂ o₂) ∷
+          rooms Turned (hold C′.mir l₆ (cval (s .cursor)) (hold B′.mir l₅ (bval bg) (free J′.mir l₄ (hold sliceO l₃ (sliceVal (b₂, o₂) (length os))
+          (hold sliceS l₂ (sliceVal (b₁, o₁) (length ss)) (hold sliceD l₁ (sliceVal (b, o) (length xs)) (free R′.mir l₀ [])))))))
 
-        is-next : (r : Taken) (r′ : Cursor) → r ≡ turnTaken (getD (s .devices) (s .cursor .index) blank) (s .cursor) ss → r′ ≡ cursorAfter (s .cursor) (r .at) (r .sent) ss (length (s .out))
-            → r′ ≡ turned (getD (s .devices) (s .cursor .index) blank) (s .cursor) ss (length (s .out)) .cursor
-        is-next r r′ e e′ =
-            e′ ∙ ap (λ (u : Taken). cursorAfter (s .cursor) (u .at) (u .sent) ss (length (s .out))) e
-            ∙ turned-cursor (getD (s .devices) (s .cursor .index) blank) (s .cursor) ss (length (s .out))
+      abbrev Ok : ℕ → Running → Type 0
+      Ok t s = Stands (length xs) ss (length os) t fin s × CIs (s .cursor)
 
-    ends : (s : Running) (X : SProp 𝓤) (t : ℕ) → Stands (length xs) ss (length os) t fin s → s .cursor .going ≡ false → ent 𝓤 (⋆ 𝓤 H A (At s)) (Wp 𝓤 H (𝓣 .C) (𝓣 .Λ) E m.turn-1 (afterTurn 𝓤 H X Left))
-    unfolding afterTurn
-    ends s X t st going =
-        qed W (At s) ∵ exec ! (𝓣 .C) (𝓣 .Λ) E m.turn-1 (anyQ (afterTurn 𝓤 H X Left)) $
-        assigns ! (of-opd ! (load ! (from ! (fld ! refl (stop !))) (look-in ! 34 (sub ! 6 refl (whole !))))) (from ! (stop !)) (init ! 18 refl (tt, tt)) $
-        rewrite ! 18 (λ (t : Bool). ‵ (fat fullShare tyBool l₁₄ 0 (vbool t))) going refl $
-        leaves-loop ! (load ! (from ! (stop !)) (look ! 18 refl)) $ exec ! (𝓣 .C) (𝓣 .Λ) E m.t-9 (atRet E Post) $
-        rewrite ! 0 (λ (r : Running). ‵ (row D fullShare (r .devices) b o)) last refl $ rewrite ! 4 (λ (r : Running). ‵ (row u8 fullShare (r .out) b₂ o₂)) last refl $
-        calls-plain ! (fmOf 𝓤 H (W .laws) 𝓣) (answer.signature .params) (answer.signature .result) (answer.ended .kept) (answer.clauses 𝓤 H A mem run) known-answer (num, (s .cursor .written, tt)) (vint w8 num ∷ [], (vint w64 (s .cursor .written) ∷ [], tt)) (uint-makes 𝓤 H A W w8, (uint-makes 𝓤 H A W w64, tt)) ((refl, num-fits), ((refl, w-fits), tt)) tt (id⊢ 𝓤 _) rval (LL.tells R.the-type R′.the-laws)
-        (and-then ! (load ! (from ! (fld ! refl (stop !))) (look-in ! 37 (sub ! 0 refl (whole !)))) (and-then ! (load ! (from ! (fld ! refl (stop !))) (look-in ! 35 (sub ! 4 refl (whole !)))) (no-more !))) (λ r ws is′. heard ! (r ≡ ran num (s .cursor .written)) (λ e.
-        land ! (from ! (stop !)) (init ! 46 refl (LL.lawful R.the-type R′.the-laws 𝓤 H A W .typed r _ is′ .0)) $
-        rewrite ! 46 (λ (u : Ran). ‵ (fat fullShare R′.mir l₀ 0 (rval u))) (is-ans r e) refl $
-        final ! tt D xs (fin .devices) ld b o $ move ! (2 ∷ 3 ∷ []) $ shut ! tt u8 qs ss b₁ o₁ $ move ! (3 ∷ 4 ∷ []) $ final ! tt u8 os (fin .out) lo b₂ o₂ $
-        -- [out's last; κ₂; κ₁; the chain's last; κ; _19; …]
-        returns ! (look ! 45 refl) $ forget ! 17 refl $ forget ! 33 refl $ forget ! 35 refl $ forget ! 39 refl $ forget ! 41 refl $ forget ! 43 refl $ forget ! 45 refl $
-        move ! (45 ∷ 46 ∷ 43 ∷ 44 ∷ 41 ∷ 42 ∷ 39 ∷ 40 ∷ 37 ∷ 38 ∷ 35 ∷ 36 ∷ 33 ∷ 34 ∷ 31 ∷ 32 ∷ 29 ∷ 30 ∷ 27 ∷ 28 ∷ 25 ∷ 26 ∷ 23 ∷ 24 ∷ 21 ∷ 22 ∷ 19 ∷ 20 ∷ 17 ∷ 18 ∷ 15 ∷ 16 ∷ 13 ∷ 14 ∷ 11 ∷ 12 ∷ 9 ∷ 10 ∷ 7 ∷ 8 ∷ 5 ∷ 6 ∷ []) $
-        free-all ! E $
-        by ! (exits (subst RIs (is-ans r e) is′) ld lo)))
-      where
-        last : s ≡ fin
-        last = stands-end (length xs) ss (length os) t fin s st going
+      abbrev Left : Out → SProp 𝓤
+      Left = afterBlock 𝓤 H (afterSeq 𝓤 H (Wp 𝓤 H (𝓣 .C) (𝓣 .Λ) E code.Mir.t-9 (atReturn 𝓤 H E Post)) (atReturn 𝓤 H E Post))
 
-        is-ans : (r : Ran) → r ≡ ran num (s .cursor .written) → r ≡ ans
-        is-ans r e = e ∙ ap (λ (z : Running). ran num (z .cursor .written)) last
+      abbrev Turn : SProp 𝓤 → SProp 𝓤
+      Turn X = Wp 𝓤 H (𝓣 .C) (𝓣 .Λ) E code.Mir.turn-1 (afterTurn 𝓤 H X Left)
 
-        w-fits : s .cursor .written < 2 ^ 64
-        w-fits = omega (arith, st .written, g₂ .0)
+      more : (s : Running) (X : SProp 𝓤) → Good (length xs) ss (length os) s → CIs (s .cursor) → s .cursor .going ≡ true
+          → (CIs (turning ss s .cursor) → ent 𝓤 (⋆ 𝓤 H A (At (turning ss s))) X) → ent 𝓤 (⋆ 𝓤 H A (At s)) (Turn X)
+      unfolding afterTurn
+      more s X good c-is going k =
+          let ys : List Device = s .devices in
+          let ws : List ℕ = s .out in
+          let c : Cursor = s .cursor in
+          let i : ℕ = s .cursor .index in
+          let d : Device = getD (s .devices) (s .cursor .index) blank in
+          let lw : length ws ≡ length os = good .out in
+          let l : i < length ys = subst (λ (z : ℕ). i < z) (sym (good .devices)) (good .index) in
+          let at-fits : i * size < 2 ^ 64 = place-fits i (length xs) (good .index) (g .1) in
+          qed W (At s) ∵ exec ! (𝓣 .C) (𝓣 .Λ) E code.Mir.turn-1 (anyQ (afterTurn 𝓤 H X Left)) $
+          assigns ! (of-opd ! (held-field ! 34 6 refl refl refl)) (here !) (init ! 18 refl (tt, tt)) $
+          rewrite ! 18 (λ (t : Bool). ‵ (fat fullShare tyBool l₁₄ 0 (vbool t))) going refl $
+          stays ! (held ! 18 refl) $
+          -- the record of the turn is read
+          assigns ! (of-opd ! (held-field ! 34 2 refl refl refl)) (here !) (init ! 32 refl (tt, record { fits = i-fits })) $
+          assigns ! (bin ! (held ! 32 refl) (lit ! tt) (record { fits = at-fits })) (here !) (init ! 16 refl (tt, record { fits = at-fits })) $
+          assigns ! (bin ! (held-field ! 44 0 refl refl refl) (held ! 16 refl) tt) (here !) (init ! 14 refl (tt, tt)) $
+          rewrite ! 14 (λ (p : ℕ). ‵ (fat fullShare tyPtr l₁₆ 0 (vptr b p))) (place-at o i) refl $
+          out ! ys i b o l (λ is.
+          assigns ! (of-opd ! (load ! (from ! (hop ! (look ! 15 refl) (stop !))) (look-raw ! 0 refl))) (here !)
+          (init ! 13 refl (lawful 𝓤 H A W .typed d _ is .0)) $
+          back ! ys i b o l is $
+          -- what it becomes: the states are lent on
+          move ! (2 ∷ []) $
+          calls-lending ! (fmOf 𝓤 H (W .laws) 𝓣) take.ended (take.clauses 𝓤 H A mem run) known-take u8 qs ss b₁ o₁ g₁
+          (λ ν δ. to-take ν δ d c) (λ ν δ. asks-take ν δ d c is c-is) (λ ν δ. id⊢ 𝓤 _)
+          (λ ν δ. LL.val S.the-type S′.the-laws) (λ ν δ. LL.tells S.the-type S′.the-laws)
+          (λ ν δ. and-then ! (held ! 13 refl) (and-then ! (held ! 35 refl) (and-then ! (held ! 43 refl) (no-more !))))
+          (λ ν δ r zs is′. heard ! (r ≡ turnTaken d c ss) (λ e.
+          let parts = LL.owed S.the-type S′.the-laws r _ is′ in
+          let changed : r .device ≡ turned d c ss (length ws) .device = ap (λ (u : Taken). u .device) e ∙ turned-device d c ss (length ws) in
+          move ! (1 ∷ 2 ∷ 0 ∷ []) $ land ! (here !) (init ! 30 refl (LL.lawful S.the-type S′.the-laws 𝓤 H A W .typed r _ is′ .0)) $
+          -- the cursor after it: the states and the room are lent on
+          assigns ! (addr ! (from ! (fld ! refl (hop ! (look-in ! 40 (sub ! 0 refl (whole !))) (stop !))))) (here !) (init ! 10 refl (tt, tt)) $
+          assigns ! (agg ! (and-then ! (held ! 10 refl) (and-then ! (held-field ! 40 1 refl refl refl) (no-more !)))) (here !)
+          (init ! 8 refl (tt, (tt, (record { fits = g₂ .0 }, tt)))) $
+          rewrite ! 8 (λ (z : ℕ). ‵ (fat fullShare (sliceTy refO) l₁₉ 0 (sliceVal (b₂, o₂) z))) (sym lw) refl $
+          move ! (2 ∷ []) $ lends-shared ! tt u8 qs ss b₁ o₁ g₁ (λ ν″ δ″. move ! (6 ∷ []) $ lends ! tt u8 ws b₂ o₂ (subst (Room u8) (sym lw) g₂) (λ ν′ δ′.
+          let outside-after : AfterC .Ghost = to-after ν″ ν′ δ″ δ′ c (r .at) (r .sent) ws in
+          join ! $ move ! (3 ∷ 0 ∷ []) $ join ! $ move ! (2 ∷ 0 ∷ []) $ join ! $
+          use1 W (raw (AfterC .pre outside-after)) (asks-after ν″ ν′ δ″ δ′ c (r .at) (r .sent) ws c-is (parts .1 .0 .1) (parts .1 .1 .0)) $
+          calls-val ! (fmOf 𝓤 H (W .laws) 𝓣) after.ended (after.clauses 𝓤 H A mem run) known-after outside-after cval (LL.tells C.the-type C′.the-laws)
+          (and-then ! (held ! 35 refl) (and-then ! (held-field ! 31 1 refl refl refl) (and-then ! (held-field ! 31 2 refl refl refl)
+          (and-then ! (held ! 43 refl) (and-then ! (held ! 9 refl) (no-more !)))))) (λ r′ zs′ is″.
+          let room : List ℕ = zs′ .1 .1 .1 .1 .0 in
+          heard ! ((r′ ≡ cursorAfter c (r .at) (r .sent) ss (length ws)) × (room ≡ turnedOut c ss ws)) (λ e′.
+          let next : r′ ≡ turned d c ss (length ws) .cursor = is-next r r′ e (e′ .0) in
+          use1 W (‵ (flft (ν″ ∷ []) fullShare) ⊛ ‵ (flft (ν′ ∷ []) fullShare) ⊛ ‵ ftrue) (id⊢ 𝓤 _) $
+          split ! $ move ! (1 ∷ []) $ split ! $ move ! (1 ∷ []) $ drop ! $
+          -- [ν′; ν; what says the last values; away; away; the chain's; open; seen; open; …]
+          move ! (2 ∷ []) $ fsplit ! $ drop ! $ fsplit ! $ drop ! $ fsplit ! $ drop ! $ fsplit ! $ drop ! $ fsplit ! $ fsplit ! $
+          move ! (3 ∷ 5 ∷ 0 ∷ []) $ returned ! tt u8 room b₂ o₂ $ move ! (1 ∷ []) $ drop ! $ move ! (1 ∷ []) $ drop ! $
+          move ! (1 ∷ 2 ∷ []) $ returned-shared ! tt u8 qs ss b₁ o₁ $ move ! (2 ∷ 3 ∷ 0 ∷ 4 ∷ 1 ∷ []) $
+          land ! (here !) (init ! 28 refl (clawful .typed r′ _ is″ .0)) $
+          -- both are stored
+          assigns ! (bin ! (held ! 32 refl) (lit ! tt) (record { fits = at-fits })) (here !) (store ! 16 refl (tt, record { fits = at-fits })) $
+          assigns ! (bin ! (held-field ! 44 0 refl refl refl) (held ! 16 refl) tt) (here !) (init ! 6 refl (tt, tt)) $
+          rewrite ! 6 (λ (p : ℕ). ‵ (fat fullShare tyPtr l₂₀ 0 (vptr b p))) (place-at o i) refl $
+          out ! ys i b o l (λ _.
+          assigns ! (of-opd ! (held-field ! 31 0 refl refl refl)) (from ! (hop ! (look ! 7 refl) (stop !)))
+          (store-raw ! 0 refl (lawful 𝓤 H A W .typed (r .device) _ (parts .0) .0)) $
+          into ! ys i (r .device) b o l (parts .0) $
+          assigns-last ! (of-opd ! (held ! 28 refl)) (here !) (store ! 34 refl (clawful .typed r′ _ is″ .0)) $
+          forget ! 6 refl $ forget ! 8 refl $ forget ! 10 refl $ forget ! 12 refl $ forget ! 14 refl $ forget ! 16 refl $ forget ! 18 refl $ forget ! 28 refl $
+          forget ! 30 refl $ forget ! 32 refl $
+          rewrite ! 0 (λ (ls : List Device). ‵ (row D fullShare ls b o)) (ap (set ys i) changed) refl $
+          rewrite ! 4 (λ (ls : List ℕ). ‵ (row u8 fullShare ls b₂ o₂)) (e′ .1) refl $
+          rewrite ! 34 (λ (u : Cursor). ‵ (fat fullShare C′.mir l₆ 0 (cval u))) next refl $
+          by ! (k (subst CIs next is″))))))))))
+        where
+          i-fits : s .cursor .index < 2 ^ 64
+          i-fits = omega (arith, good .index, g .0)
 
-        ld : length (fin .devices) ≡ length xs
-        ld = subst (λ (r : Running). length (r .devices) ≡ length xs) last (st .devices)
+          is-next : (r : Taken) (r′ : Cursor) → r ≡ turnTaken (getD (s .devices) (s .cursor .index) blank) (s .cursor) ss
+              → r′ ≡ cursorAfter (s .cursor) (r .at) (r .sent) ss (length (s .out))
+              → r′ ≡ turned (getD (s .devices) (s .cursor .index) blank) (s .cursor) ss (length (s .out)) .cursor
+          is-next r r′ e e′ =
+              e′ ∙ ap (λ (u : Taken). cursorAfter (s .cursor) (u .at) (u .sent) ss (length (s .out))) e
+              ∙ turned-cursor (getD (s .devices) (s .cursor .index) blank) (s .cursor) ss (length (s .out))
 
-        lo : length (fin .out) ≡ length os
-        lo = subst (λ (r : Running). length (r .out) ≡ length os) last (st .out)
+      ends : (s : Running) (X : SProp 𝓤) (t : ℕ) → Stands (length xs) ss (length os) t fin s → s .cursor .going ≡ false → ent 𝓤 (⋆ 𝓤 H A (At s)) (Turn X)
+      unfolding afterTurn
+      ends s X t st going =
+          qed W (At s) ∵ exec ! (𝓣 .C) (𝓣 .Λ) E code.Mir.turn-1 (anyQ (afterTurn 𝓤 H X Left)) $
+          assigns ! (of-opd ! (held-field ! 34 6 refl refl refl)) (here !) (init ! 18 refl (tt, tt)) $
+          rewrite ! 18 (λ (t : Bool). ‵ (fat fullShare tyBool l₁₄ 0 (vbool t))) going refl $
+          leaves-loop ! (held ! 18 refl) $ exec ! (𝓣 .C) (𝓣 .Λ) E code.Mir.t-9 (atRet E Post) $
+          rewrite ! 0 (λ (r : Running). ‵ (row D fullShare (r .devices) b o)) last refl $
+          rewrite ! 4 (λ (r : Running). ‵ (row u8 fullShare (r .out) b₂ o₂)) last refl $
+          calls-plain ! (fmOf 𝓤 H (W .laws) 𝓣) (answer.signature .params) (answer.signature .result) (answer.ended .kept) (answer.clauses 𝓤 H A mem run)
+          known-answer (number w8 num num-fits, (number w64 (s .cursor .written) w-fits, tt)) tt (id⊢ 𝓤 _) rval (LL.tells R.the-type R′.the-laws)
+          (and-then ! (held-field ! 37 0 refl refl refl) (and-then ! (held-field ! 35 4 refl refl refl) (no-more !)))
+          (λ r ws is. heard ! (r ≡ ran num (s .cursor .written)) (λ e.
+          land ! (here !) (init ! 46 refl (LL.lawful R.the-type R′.the-laws 𝓤 H A W .typed r _ is .0)) $
+          rewrite ! 46 (λ (u : Ran). ‵ (fat fullShare R′.mir l₀ 0 (rval u))) (is-ans r e) refl $
+          final ! tt D xs (fin .devices) ld b o $ move ! (2 ∷ 3 ∷ []) $ shut ! tt u8 qs ss b₁ o₁ $ move ! (3 ∷ 4 ∷ []) $ final ! tt u8 os (fin .out) lo b₂ o₂ $
+          -- [out's last; κ₂; κ₁; the chain's last; κ; _20; …]
+          returns ! (look ! 45 refl) $
+          forget ! 17 refl $ forget ! 33 refl $ forget ! 35 refl $ forget ! 39 refl $ forget ! 41 refl $ forget ! 43 refl $ forget ! 45 refl $
+          move ! (locals (45 ∷ 43 ∷ 41 ∷ 39 ∷ 37 ∷ 35 ∷ 33 ∷ 31 ∷ 29 ∷ 27 ∷ 25 ∷ 23 ∷ 21 ∷ 19 ∷ 17 ∷ 15 ∷ 13 ∷ 11 ∷ 9 ∷ 7 ∷ 5 ∷ [])) $ free-all ! E $
+          by ! (exits (subst RIs (is-ans r e) is) ld lo)))
+        where
+          last : s ≡ fin
+          last = stands-end (length xs) ss (length os) t fin s st going
 
-    turns-by : (t : ℕ) (s : Running) (u : Bool) → s .cursor .going ≡ u → Ok t s → ent 𝓤 (⋆ 𝓤 H A (At s)) (Wp 𝓤 H (𝓣 .C) (𝓣 .Λ) E m.turn-1 (afterTurn 𝓤 H (Again 𝓤 H A Ok At t) Left))
-    turns-by t s false e k = ends s (Again 𝓤 H A Ok At t) t (k .0) e
-    turns-by zero s true e k = absurd (stands-zero (length xs) ss (length os) fin s (k .0) e)
-    turns-by (suc t) s true e k = more s (Again 𝓤 H A Ok At (suc t)) (k .0 .live e .good) (k .1) e (λ c-is. again 𝓤 H A Ok At (suc t) t (turning ss s) (omega arith) (stands-next (length xs) ss (length os) t fin s (k .0) e, c-is))
+          is-ans : (r : Ran) → r ≡ ran num (s .cursor .written) → r ≡ ans
+          is-ans r e = e ∙ ap (λ (z : Running). ran num (z .cursor .written)) last
 
-    turns : (t : ℕ) (s : Running) → Ok t s → ent 𝓤 (⋆ 𝓤 H A (At s)) (Wp 𝓤 H (𝓣 .C) (𝓣 .Λ) E m.turn-1 (afterTurn 𝓤 H (Again 𝓤 H A Ok At t) Left))
-    turns t s k = turns-by t s (s .cursor .going) refl k
+          w-fits : s .cursor .written < 2 ^ 64
+          w-fits = omega (arith, st .written, g₂ .0)
 
-    enters : CIs (bg .cursor) → ent 𝓤 (⋆ 𝓤 H A (At (nowAt xs (bg .cursor) os))) (Wp 𝓤 H (𝓣 .C) (𝓣 .Λ) E (loop m.turn-1) Left)
-    enters c-is = loops 𝓤 H A Ok At W 𝓣 E m.turn-1 Left turns (enough ss) (nowAt xs (bg .cursor) os) (stands-start xs ss os, c-is)
+          ld : length (fin .devices) ≡ length xs
+          ld = subst (λ (r : Running). length (r .devices) ≡ length xs) last (st .devices)
 
-  walk : (𝓣 : Tables 𝓤 H) → Triple 𝓤 (𝓣 .C #take) (TakeC 𝓤 H A mem run) → Triple 𝓤 (𝓣 .C #after) (AfterC 𝓤 H A mem run) → Triple 𝓤 (𝓣 .C #answer) (AnswerC 𝓤 H A mem run) → Triple 𝓤 (𝓣 .C #judge) (JudgeC 𝓤 H A mem run) → Triple 𝓤 (𝓣 .C #opening) (EnterC 𝓤 H A mem run) → Room D (length xs) → Room u8 (length ss) → Room u8 (length os)
-      → ent 𝓤 (onEntry 𝓤 H A bb-run.signature (κ, (κ₁, (κ₂, tt))) (q, (q₁, (q₂, tt))) x at) (WpFn 𝓤 H (𝓣 .C) (𝓣 .Λ) code.function (sliceVal (b, o) (length xs) ∷ sliceVal (b₁, o₁) (length ss) ∷ sliceVal (b₂, o₂) (length os) ∷ []) Post)
-  walk 𝓣 known known-after known-answer known-judge known-enter g g₁ g₂ =
-      qed W ((‵ (flft κ q) ⊛ ‵ (flft κ₁ q₁) ⊛ ‵ (flft κ₂ q₂) ⊛ ‵ ftrue) ∷ ‵ (owns (MutSlice (named 0) κ D ∷ ShrSlice (named 1) κ₁ u8 ∷ MutSlice (named 2) κ₂ u8 ∷ []) x at) ∷ []) ∵ enter ! (𝓣 .C) (𝓣 .Λ) code.function (sliceVal (b, o) (length xs) ∷ sliceVal (b₁, o₁) (length ss) ∷ sliceVal (b₂, o₂) (length os) ∷ []) _ $
-      alloc1 ! {τ = R′.mir} (λ l₀. alloc1 ! {τ = sliceD} (λ l₁. alloc1 ! (λ l₂. alloc1 ! (λ l₃. alloc1 ! {τ = J′.mir} (λ l₄. alloc1 ! {τ = B′.mir} (λ l₅. alloc1 ! {τ = C′.mir} (λ l₆. alloc1 ! (λ l₇. alloc1 ! {τ = S′.mir} (λ l₈. alloc1 ! {τ = C′.mir} (λ l₉. alloc1 ! {τ = refI} (λ l₁₀. alloc1 ! {τ = sliceTy refI} (λ l₁₁. alloc1 ! (λ l₁₂. alloc1 ! (λ l₁₃. alloc1 ! (λ l₁₄. alloc1 ! (λ l₁₅. alloc1 ! (λ l₁₆. alloc1 ! {τ = dev} (λ l₁₇. alloc1 ! (λ l₁₈. alloc1 ! (λ l₁₉. alloc1 ! (λ l₂₀. alloc0 ! $ params1 ! $
-      pass1 ! (init ! 38 refl (tt, (tt, (record { fits = g .0 }, tt)))) $ pass1 ! (init ! 36 refl (tt, (tt, (record { fits = g₁ .0 }, tt)))) $ pass1 ! (init ! 34 refl (tt, (tt, (record { fits = g₂ .0 }, tt)))) $ pass0 ! $
-      move ! (42 ∷ 43 ∷ []) $ split ! $ move ! (1 ∷ []) $ split ! $ move ! (1 ∷ []) $ split ! $ move ! (1 ∷ []) $ drop ! $ move ! (3 ∷ []) $ fsplit ! $ move ! (1 ∷ []) $ fsplit ! $ move ! (1 ∷ []) $ fsplit ! $ move ! (1 ∷ []) $ drop ! $
-      -- [out's; states'; the chain's; κ₂; κ₁; κ]: each is opened
-      move ! (0 ∷ 3 ∷ []) $ opened ! tt u8 os b₂ o₂ $ move ! (2 ∷ 4 ∷ []) $ looked ! tt u8 (Is u8) (shows 𝓤 H A u8) (uint-vals w8) (uint-tells w8) (uint-copy 𝓤 H A W w8) ss b₁ o₁ (λ qs. move ! (4 ∷ 5 ∷ []) $ opened ! tt D xs b o $
-      -- the records are judged
-      assigns ! (addr ! (from ! (fld ! refl (hop ! (look-in ! 44 (sub ! 0 refl (whole !))) (stop !))))) (from ! (stop !)) (init ! 26 refl (tt, tt)) $
-      assigns ! (agg ! (and-then ! (load ! (from ! (stop !)) (look ! 26 refl)) (and-then ! (load ! (from ! (fld ! refl (stop !))) (look-in ! 44 (sub ! 1 refl (whole !)))) (no-more !)))) (from ! (stop !)) (init ! 24 refl (tt, (tt, (record { fits = g .0 }, tt)))) $
-      judges ! (fmOf 𝓤 H (W .laws) 𝓣) mem run known-judge fullShare xs b o g (λ ν δ. (and-then ! (load ! (from ! (stop !)) (look ! 25 refl)) (no-more !))) (λ j j-is e.
-      land ! (from ! (stop !)) (init ! 38 refl (LL.lawful J.the-type J′.the-laws 𝓤 H A W .typed j _ j-is .0)) $
-      -- the verdict, and where the run begins
-      assigns ! (of-opd ! (load ! (from ! (fld ! refl (stop !))) (look-in ! 44 (sub ! 1 refl (whole !))))) (from ! (stop !)) (init ! 22 refl (tt, record { fits = g .0 })) $
-      assigns ! (of-opd ! (load ! (from ! (fld ! refl (stop !))) (look-in ! 40 (sub ! 1 refl (whole !))))) (from ! (stop !)) (init ! 20 refl (tt, record { fits = g₂ .0 })) $
-      move ! (2 ∷ []) $ lends-shared ! tt u8 qs ss b₁ o₁ g₁ (λ ν′ δ′. join ! $ use1 W (raw (EnterC 𝓤 H A mem run .pre (to-enter ν′ δ′ j))) (asks-enter ν′ δ′ j j-is (g .0) (g₂ .0)) $
-      calls-val ! (fmOf 𝓤 H (W .laws) 𝓣) opening.ended (opening.clauses 𝓤 H A mem run) known-enter (to-enter ν′ δ′ j) bval (LL.tells B.the-type B′.the-laws) (and-then ! (load ! (from ! (stop !)) (look ! 39 refl)) (and-then ! (load ! (from ! (stop !)) (look ! 23 refl)) (and-then ! (load ! (from ! (stop !)) (look ! 43 refl)) (and-then ! (load ! (from ! (stop !)) (look ! 21 refl)) (no-more !))))) (λ r zs is′.
-      heard ! (r ≡ entryUnder (first (runRows j (length xs) ss (length os))) (length xs) ss) (λ e′.
-      let is-bg : r ≡ bg = e′ ∙ ap (λ (z : Judged). entryUnder (first (runRows z (length xs) ss (length os))) (length xs) ss) e ∙ ap (λ (z : ℕ). entryUnder z (length xs) ss) (run-refusal-found xs ss (length os)) in
-      let parts = LL.owed B.the-type B′.the-laws bg _ (subst BIs is-bg is′) in
-      use1 W (‵ (flft (ν′ ∷ []) fullShare) ⊛ ‵ ftrue) (id⊢ 𝓤 _) $ split ! $ move ! (1 ∷ []) $ drop ! $ move ! (1 ∷ []) $ drop ! $ returned-shared ! tt u8 qs ss b₁ o₁ $ move ! (1 ∷ 2 ∷ 0 ∷ []) $
-      land ! (from ! (stop !)) (init ! 36 refl (LL.lawful B.the-type B′.the-laws 𝓤 H A W .typed r _ is′ .0)) $
-      rewrite ! 36 (λ (u : Entry). ‵ (fat fullShare B′.mir l₅ 0 (bval u))) is-bg refl $
-      assigns ! (of-opd ! (load ! (from ! (fld ! refl (stop !))) (look-in ! 36 (sub ! 1 refl (whole !))))) (from ! (stop !)) (init ! 34 refl (LL.lawful C.the-type C′.the-laws 𝓤 H A W .typed (bg .cursor) _ (parts .1 .0) .0)) $
-      forget ! 20 refl $ forget ! 22 refl $ forget ! 24 refl $ forget ! 26 refl $ forget ! 38 refl $
-      by ! (enters 𝓣 known known-after known-answer g g₁ g₂ (parts .0 .1) qs l₀ l₁ l₂ l₃ l₄ l₅ l₆ l₇ l₈ l₉ l₁₀ l₁₁ l₁₂ l₁₃ l₁₄ l₁₅ l₁₆ l₁₇ l₁₈ l₁₉ l₂₀ (parts .1 .0))))))))))))))))))))))))))))
+          lo : length (fin .out) ≡ length os
+          lo = subst (λ (r : Running). length (r .out) ≡ length os) last (st .out)
 
-pub bb-run-spec : {M : Type 1} → stated.statement M
+      turns-by : (t : ℕ) (s : Running) (u : Bool) → s .cursor .going ≡ u → Ok t s → ent 𝓤 (⋆ 𝓤 H A (At s)) (Turn (Again 𝓤 H A Ok At t))
+      turns-by t s false e k = ends s (Again 𝓤 H A Ok At t) t (k .0) e
+      turns-by zero s true e k = absurd (stands-zero (length xs) ss (length os) fin s (k .0) e)
+      turns-by (suc t) s true e k = more s (Again 𝓤 H A Ok At (suc t)) (k .0 .live e .good) (k .1) e (λ c-is.
+          again 𝓤 H A Ok At (suc t) t (turning ss s) (omega arith) (stands-next (length xs) ss (length os) t fin s (k .0) e, c-is))
+
+      turns : (t : ℕ) (s : Running) → Ok t s → ent 𝓤 (⋆ 𝓤 H A (At s)) (Turn (Again 𝓤 H A Ok At t))
+      turns t s k = turns-by t s (s .cursor .going) refl k
+
+      enters : CIs (bg .cursor) → ent 𝓤 (⋆ 𝓤 H A (At (nowAt xs (bg .cursor) os))) (Wp 𝓤 H (𝓣 .C) (𝓣 .Λ) E (loop code.Mir.turn-1) Left)
+      enters c-is = loops 𝓤 H A Ok At W 𝓣 E code.Mir.turn-1 Left turns (enough ss) (nowAt xs (bg .cursor) os) (stands-start xs ss os, c-is)
+
+    walk : ent 𝓤 (onEntry 𝓤 H A bb-run.signature (κ, (κ₁, (κ₂, tt))) (q, (q₁, (q₂, tt))) x at) (WpFn 𝓤 H (𝓣 .C) (𝓣 .Λ) code.function given Post)
+    walk =
+        qed W ((‵ (flft κ q) ⊛ ‵ (flft κ₁ q₁) ⊛ ‵ (flft κ₂ q₂) ⊛ ‵ ftrue)
+        ∷ ‵ (owns (MutSlice (named 0) κ D ∷ ShrSlice (named 1) κ₁ u8 ∷ MutSlice (named 2) κ₂ u8 ∷ []) x at) ∷ []) ∵
+        enter ! (𝓣 .C) (𝓣 .Λ) code.function given _ $
+        alloc1 ! {τ = R′.mir} (λ l₀. alloc1 ! {τ = sliceD} (λ l₁. alloc1 ! (λ l₂. alloc1 ! (λ l₃. alloc1 ! {τ = J′.mir} (λ l₄.
+        alloc1 ! {τ = B′.mir} (λ l₅. alloc1 ! {τ = C′.mir} (λ l₆. alloc1 ! (λ l₇. alloc1 ! {τ = S′.mir} (λ l₈. alloc1 ! {τ = C′.mir} (λ l₉.
+        alloc1 ! {τ = refI} (λ l₁₀. alloc1 ! {τ = sliceTy refI} (λ l₁₁. alloc1 ! (λ l₁₂. alloc1 ! (λ l₁₃. alloc1 ! (λ l₁₄.
+        alloc1 ! (λ l₁₅. alloc1 ! (λ l₁₆. alloc1 ! {τ = dev} (λ l₁₇. alloc1 ! (λ l₁₈. alloc1 ! (λ l₁₉. alloc1 ! (λ l₂₀. alloc0 ! $
+        params1 ! $ pass1 ! (init ! 38 refl (tt, (tt, (record { fits = g .0 }, tt)))) $ pass1 ! (init ! 36 refl (tt, (tt, (record { fits = g₁ .0 }, tt)))) $
+        pass1 ! (init ! 34 refl (tt, (tt, (record { fits = g₂ .0 }, tt)))) $ pass0 ! $
+        move ! (42 ∷ 43 ∷ []) $ split ! $ move ! (1 ∷ []) $ split ! $ move ! (1 ∷ []) $ split ! $ move ! (1 ∷ []) $ drop ! $
+        move ! (3 ∷ []) $ fsplit ! $ move ! (1 ∷ []) $ fsplit ! $ move ! (1 ∷ []) $ fsplit ! $ move ! (1 ∷ []) $ drop ! $
+        -- [out's; states'; the chain's; κ₂; κ₁; κ]: each is opened
+        move ! (0 ∷ 3 ∷ []) $ opened ! tt u8 os b₂ o₂ $
+        move ! (2 ∷ 4 ∷ []) $ looked ! tt u8 (Is u8) (shows 𝓤 H A u8) (uint-vals w8) (uint-tells w8) (uint-copy 𝓤 H A W w8) ss b₁ o₁ (λ qs.
+        move ! (4 ∷ 5 ∷ []) $ opened ! tt D xs b o $
+        -- the records are judged
+        assigns ! (addr ! (from ! (fld ! refl (hop ! (look-in ! 44 (sub ! 0 refl (whole !))) (stop !))))) (here !) (init ! 26 refl (tt, tt)) $
+        assigns ! (agg ! (and-then ! (held ! 26 refl) (and-then ! (held-field ! 44 1 refl refl refl) (no-more !)))) (here !)
+        (init ! 24 refl (tt, (tt, (record { fits = g .0 }, tt)))) $
+        judges ! (fmOf 𝓤 H (W .laws) 𝓣) mem run known-judge fullShare xs b o g (λ ν δ. and-then ! (held ! 25 refl) (no-more !)) (λ j j-is e.
+        land ! (here !) (init ! 38 refl (jlawful 𝓤 H A W .typed j _ j-is .0)) $
+        -- the verdict, and where the run begins
+        assigns ! (of-opd ! (held-field ! 44 1 refl refl refl)) (here !) (init ! 22 refl (tt, record { fits = g .0 })) $
+        assigns ! (of-opd ! (held-field ! 40 1 refl refl refl)) (here !) (init ! 20 refl (tt, record { fits = g₂ .0 })) $
+        move ! (2 ∷ []) $
+        calls-lending ! (fmOf 𝓤 H (W .laws) 𝓣) opening.ended (opening.clauses 𝓤 H A mem run) known-enter u8 qs ss b₁ o₁ g₁
+        (λ ν δ. to-enter ν δ j) (λ ν δ. asks-enter ν δ j j-is) (λ ν δ. id⊢ 𝓤 _) (λ ν δ. bval) (λ ν δ. LL.tells B.the-type B′.the-laws)
+        (λ ν δ. and-then ! (held ! 39 refl) (and-then ! (held ! 23 refl) (and-then ! (held ! 43 refl) (and-then ! (held ! 21 refl) (no-more !)))))
+        (λ ν δ r zs is. heard ! (r ≡ entryUnder (first (runRows j (length xs) ss (length os))) (length xs) ss) (λ e′.
+        let is-bg : r ≡ bg =
+        e′ ∙ ap (λ (z : Judged). entryUnder (first (runRows z (length xs) ss (length os))) (length xs) ss) e
+        ∙ ap (λ (z : ℕ). entryUnder z (length xs) ss) (run-refusal-found xs ss (length os)) in
+        let parts = LL.owed B.the-type B′.the-laws bg _ (subst BIs is-bg is) in
+        move ! (1 ∷ 2 ∷ 0 ∷ []) $ land ! (here !) (init ! 36 refl (LL.lawful B.the-type B′.the-laws 𝓤 H A W .typed r _ is .0)) $
+        rewrite ! 36 (λ (u : Entry). ‵ (fat fullShare B′.mir l₅ 0 (bval u))) is-bg refl $
+        assigns ! (of-opd ! (held-field ! 36 1 refl refl refl)) (here !) (init ! 34 refl (clawful .typed (bg .cursor) _ (parts .1 .0) .0)) $
+        forget ! 20 refl $ forget ! 22 refl $ forget ! 24 refl $ forget ! 26 refl $ forget ! 38 refl $
+        by ! (enters (parts .0 .1) qs l₀ l₁ l₂ l₃ l₄ l₅ l₆ l₇ l₈ l₉ l₁₀ l₁₁ l₁₂ l₁₃ l₁₄ l₁₅ l₁₆ l₁₇ l₁₈ l₁₉ l₂₀ (parts .1 .0)))))))))))))))))))))))))))
+
+pub bb-run-spec : {M : Type 1} → bb-run.Statement.statement M
 unfolding code.routine tablesOf
 bb-run-spec 𝓤 H 𝓜 𝓖 𝓡 =
     let W = givenOf 𝓤 H 𝓜 𝓖 in
     let 𝓣 : Tables 𝓤 H = tablesOf 𝓤 H 𝓜 (tables 𝓤 H 𝓜 𝓡 code.env) in
-    closes 𝓤 H 𝓜 𝓖 𝓡 bb-run.ended stayed
-    (goes-gave-slice 𝓤 H (𝓖 .A) W 3 0 tt (plain (λ _. D)), (goes-dropped 𝓤 H (𝓖 .A) W 3 (shrSliceOf (1 ∷ []) tt (plain (λ _. u8))) yes (λ κs x f. refl), (goes-gave-slice 𝓤 H (𝓖 .A) W 3 2 tt (plain (λ _. u8)), tt)))
-    (bb-run.clauses 𝓤 H (𝓖 .A) (𝓜 .mem) (𝓡 .run)) code.env #bb-run code.function (code.unfolded 𝓤 H 𝓜 𝓡)
-    (walked 𝓤 H (𝓖 .A) bb-run.ended stayed (bb-run.clauses 𝓤 H (𝓖 .A) (𝓜 .mem) (𝓡 .run)) (WpFn 𝓤 H (𝓣 .C) (𝓣 .Λ) code.function) (λ κs. (slice-vals, (slice-vals, (slice-vals, tt))))
+    meets 𝓤 H 𝓜 𝓖 𝓡 bb-run.ended stayed (bb-run.clauses 𝓤 H (𝓖 .A) (𝓜 .mem) (𝓡 .run)) (λ κs. (slice-vals, (slice-vals, (slice-vals, tt)))) (
+      goes-gave-slice 𝓤 H (𝓖 .A) W 3 0 tt (plain (λ _. D)),
+      (
+        goes-dropped 𝓤 H (𝓖 .A) W 3 (shrSliceOf (1 ∷ []) tt (plain (λ _. u8))) yes (λ κs x f. refl),
+        (goes-gave-slice 𝓤 H (𝓖 .A) W 3 2 tt (plain (λ _. u8)), tt),
+      ),
+    )
     (λ κs. (mut-slice-tells (named 0) (κs .0) D, (shr-slice-tells (named 1) (κs .1 .0) u8, (mut-slice-tells (named 2) (κs .1 .1 .0) u8, tt))))
-    (λ κs qs bounds a g are. via 𝓤 _ (fst∗ 𝓤 _ (emp 𝓤))
-    (walk 𝓤 H (𝓖 .A) W (𝓜 .mem) (𝓡 .run) (κs .0) (κs .1 .0) (κs .1 .1 .0) (qs .0) (qs .1 .0) (qs .1 .1 .0) (a .0 .ptr .0) (a .0 .ptr .1) (a .0 .name) (a .0 .now) (a .1 .0 .ptr .0) (a .1 .0 .ptr .1) (a .1 .0 .name) (a .1 .0 .now) (a .1 .1 .0 .ptr .0) (a .1 .1 .0 .ptr .1) (a .1 .1 .0 .name) (a .1 .1 .0 .now) 𝓣
-    (cited 𝓤 H (TakeC 𝓤 H (𝓖 .A) (𝓜 .mem) (𝓡 .run)) 𝓜 𝓡 code.env #take take-def.routine code.calls-turns·take-turn (take-thm.met 𝓤 H 𝓜 𝓖 𝓡))
-    (cited 𝓤 H (AfterC 𝓤 H (𝓖 .A) (𝓜 .mem) (𝓡 .run)) 𝓜 𝓡 code.env #after after-def.routine code.calls-turns·turn-after (after-thm.met 𝓤 H 𝓜 𝓖 𝓡))
-    (cited 𝓤 H (AnswerC 𝓤 H (𝓖 .A) (𝓜 .mem) (𝓡 .run)) 𝓜 𝓡 code.env #answer answer-def.routine code.calls-turns·answer (answer-thm.met 𝓤 H 𝓜 𝓖 𝓡))
-    (cited 𝓤 H (JudgeC 𝓤 H (𝓖 .A) (𝓜 .mem) (𝓡 .run)) 𝓜 𝓡 code.env #judge judge-def.routine code.calls-judgement·judge (judge-thm.met 𝓤 H 𝓜 𝓖 𝓡))
-    (cited 𝓤 H (EnterC 𝓤 H (𝓖 .A) (𝓜 .mem) (𝓡 .run)) 𝓜 𝓡 code.env #opening opening-def.routine code.calls-turns·enter (opening-thm.met 𝓤 H 𝓜 𝓖 𝓡))
-    (are .0 .0 .1) (are .1 .0 .0 .1) (are .1 .1 .0 .0 .1))))
+    code.env bb-run.Key.name code.function (code.unfolded 𝓤 H 𝓜 𝓡) (λ κs qs bounds a g are.
+    let c : RefT (List Device) = a .0 in
+    let s : RefT (List ℕ) = a .1 .0 in
+    let r : RefT (List ℕ) = a .1 .1 .0 in
+    walk 𝓤 H (𝓖 .A) W (𝓜 .mem) (𝓡 .run) (κs .0) (κs .1 .0) (κs .1 .1 .0) (qs .0) (qs .1 .0) (qs .1 .1 .0) (c .ptr .0) (c .ptr .1) (c .name) (c .now)
+    (s .ptr .0) (s .ptr .1) (s .name) (s .now) (r .ptr .0) (r .ptr .1) (r .name) (r .now) (are .0 .0 .1) (are .1 .0 .0 .1) (are .1 .1 .0 .0 .1) 𝓣
+    (cited 𝓤 H _ 𝓜 𝓡 code.env judge.Symbol.name judge.Symbol.routine code.calls-judgement·judge (judge.Met.met 𝓤 H 𝓜 𝓖 𝓡))
+    (cited 𝓤 H _ 𝓜 𝓡 code.env opening.Symbol.name opening.Symbol.routine code.calls-cursor·enter (opening.Met.met 𝓤 H 𝓜 𝓖 𝓡))
+    (cited 𝓤 H _ 𝓜 𝓡 code.env take.Symbol.name take.Symbol.routine code.calls-turns·take-turn (take.Met.met 𝓤 H 𝓜 𝓖 𝓡))
+    (cited 𝓤 H _ 𝓜 𝓡 code.env after.Symbol.name after.Symbol.routine code.calls-turns·turn-after (after.Met.met 𝓤 H 𝓜 𝓖 𝓡))
+    (cited 𝓤 H _ 𝓜 𝓡 code.env answer.Symbol.name answer.Symbol.routine code.calls-cursor·answer (answer.Met.met 𝓤 H 𝓜 𝓖 𝓡)))

@@ -27,13 +27,15 @@ returns-2 : tie.Need-returns-2
 returns-2 c =
     let e = c .before .before in
     let s = e .before .before in
-    later {m = 0} (judgedRows (s .args .judged) (s .args .n)) (own s) refl (e .before .part-refusal .ensures) (e .if1 .left) (rw (sym (c .before .fault-fits .ensures) ∙ c .if2 .taken))
+    later {m = 0} (judgedRows (s .args .judged) (s .args .n)) (own s) refl (e .before .part-refusal .ensures) (e .if1 .left)
+    (rw (sym (c .before .fault-fits .ensures) ∙ c .if2 .taken))
 
 returns-3 : tie.Need-returns-3
 returns-3 c =
     let e = c .before .before in
     let s = e .before .before in
-    later {m = 13} (judgedRows (s .args .judged) (s .args .n)) (own s) refl (e .before .part-refusal .ensures) (e .if1 .left) (rw (sym (c .before .fault-fits .ensures) ∙ c .if2 .left))
+    later {m = 13} (judgedRows (s .args .judged) (s .args .n)) (own s) refl (e .before .part-refusal .ensures) (e .if1 .left)
+    (rw (sym (c .before .fault-fits .ensures) ∙ c .if2 .left))
 
 pub fault-refusal-spec : {M : Type 1} → statement M
 fault-refusal-spec = tie.close (tie.spec part-refusal-requires returns fault-fits-requires returns-2 returns-3)

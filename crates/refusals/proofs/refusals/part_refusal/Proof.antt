@@ -21,14 +21,16 @@ returns-3 c =
     let counted = c .before .before in
     let known = counted .before .before in
     let judged = known .before .before .args .judged in
-    rw (not-false (judged .known) (known .if1 .left), sym (counted .before .is-count .ensures) ∙ not-false _ (counted .if2 .left), not-true (judged .same) (c .if3 .taken))
+    let count = sym (counted .before .is-count .ensures) ∙ not-false _ (counted .if2 .left) in
+    rw (not-false (judged .known) (known .if1 .left), count, not-true (judged .same) (c .if3 .taken))
 
 returns-4 : tie.Need-returns-4
 returns-4 c =
     let counted = c .before .before in
     let known = counted .before .before in
     let judged = known .before .before .args .judged in
-    rw (not-false (judged .known) (known .if1 .left), sym (counted .before .is-count .ensures) ∙ not-false _ (counted .if2 .left), not-false (judged .same) (c .if3 .left))
+    let count = sym (counted .before .is-count .ensures) ∙ not-false _ (counted .if2 .left) in
+    rw (not-false (judged .known) (known .if1 .left), count, not-false (judged .same) (c .if3 .left))
 
 pub part-refusal-spec : {M : Type 1} → statement M
 part-refusal-spec = tie.close (tie.spec returns is-count-requires returns-2 returns-3 returns-4)

@@ -30,7 +30,8 @@ returns-2 : tie.Need-returns-2
 returns-2 c =
     let e = c .before .before in
     let s = e .before .before .before in
-    later {m = 5} (judgedRows (s .args .judged) (s .args .n)) (own s) refl (e .before .part-refusal .ensures) (e .if1 .left) (rw (sym (c .before .lacks-room .ensures) ∙ c .if2 .taken))
+    later {m = 5} (judgedRows (s .args .judged) (s .args .n)) (own s) refl (e .before .part-refusal .ensures) (e .if1 .left)
+    (rw (sym (c .before .lacks-room .ensures) ∙ c .if2 .taken))
 
 states-fit-requires : tie.Need-states-fit-requires
 states-fit-requires c κs = search needs

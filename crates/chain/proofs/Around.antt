@@ -28,7 +28,7 @@ use Rattle.judgement.proofs.Lent.{LentMut, Open, opened, final, hold, free, roo
 use Rattle.judgement.proofs.Steps.{held-field}
 use Rattle.judgement.proofs.Judges.{jval, JIs, jlawful, JudgeC, judges}
 use Rattle.chain.proofs.Sweep.{sweep-none, turnsOf, length-last, at-first}
-use Rattle.chain.proofs.Loop.{sliceD, refI, sval, SIs, Local, Locals, Turned, Source, Swept, spanOf, after, get, get-part, put, Testing, Row, Slice, At, Unread}
+use Rattle.chain.proofs.Loop.{sliceD, refI, sval, SIs, Local, Locals, Turned, Source, Swept, spanOf, after, get, get-field, put, Testing, Row, Slice, At, Unread}
 use Rattle.chain.proofs.Loop.{in-local, to, value, Makes, Leaves, sweeps}
 
 -- the locals of the judging: the chain lent on, what is found, and the number of records
@@ -43,17 +43,17 @@ pub record Judging {M : Type 1} (𝓤 : URA M) (H : Heap 𝓤) (E : Env 𝓤 H) 
 module _ {M : Type 1} {𝓤 : URA M} {H : Heap 𝓤} {E : Env 𝓤 H} (L : Locals 𝓤 H E) where
   -- the refusal's number is the answer
   abbrev pub Answering : Body
-  Answering = seq (assign (place 0 []) (rvOpd (get-part (L .span) 0))) return
+  Answering = seq (assign (place 0 []) (rvOpd (get-field (L .span) 0))) return
 
   abbrev pub Sweeping : Body → Body
-  Sweeping inner = seq (put (L .index) (rvOpd (get-part (L .span) 1))) (seq (block (loop (Testing L inner))) Answering)
+  Sweeping inner = seq (put (L .index) (rvOpd (get-field (L .span) 1))) (seq (block (loop (Testing L inner))) Answering)
 
   abbrev pub JudgedFirst : Judging 𝓤 H E → Body → Body
   JudgedFirst P rest =
       seq (put (P .ref) (addrOf (place (L .chain .number) (field 0 ∷ deref dev ∷ []))))
-      (seq (put (P .slice) (aggregate (get (P .ref) ∷ get-part (L .chain) 1 ∷ [])))
+      (seq (put (P .slice) (aggregate (get (P .ref) ∷ get-field (L .chain) 1 ∷ [])))
       (seq (call judge.Symbol.name (get (P .slice) ∷ []) (place (P .judged .number) []))
-      (seq (put (P .count) (rvOpd (get-part (L .chain) 1))) rest)))
+      (seq (put (P .count) (rvOpd (get-field (L .chain) 1))) rest)))
 
 -- ---- the context: the row, open, the locals of the loop, and the others
 

@@ -1,4 +1,5 @@
--- Walks over a lent chain of records: what a walk cites, and the laws of a loop over its elements.
+-- What the walks over a lent chain share: the laws of a loop over a span of records (Sweep), the walk of that loop (Loop), and of what stands
+-- around it (Around).
 pub mod Sweep
 pub mod Loop
 pub mod Around

@@ -123,8 +123,8 @@ module _ {M : Type 1} {𝓤 : URA M} {H : Heap 𝓤} {E : Env 𝓤 H} where
   abbrev pub get : {τ : Ty} → Local 𝓤 H E τ → Operand
   get l = copy (place (l .number) [])
 
-  abbrev pub get-part : {τ : Ty} → Local 𝓤 H E τ → ℕ → Operand
-  get-part l k = copy (place (l .number) (field k ∷ []))
+  abbrev pub get-field : {τ : Ty} → Local 𝓤 H E τ → ℕ → Operand
+  get-field l k = copy (place (l .number) (field k ∷ []))
 
   abbrev pub put : {τ : Ty} → Local 𝓤 H E τ → RValue → Body
   put l r = assign (place (l .number) []) r
@@ -132,19 +132,19 @@ module _ {M : Type 1} {𝓤 : URA M} {H : Heap 𝓤} {E : Env 𝓤 H} where
 module _ {M : Type 1} {𝓤 : URA M} {H : Heap 𝓤} {E : Env 𝓤 H} (L : Locals 𝓤 H E) where
   abbrev pub Testing : Body → Body
   Testing inner =
-      seq (put (L .test) (op2 (lt unsigned) (get (L .index)) (get-part (L .span) 2)))
+      seq (put (L .test) (op2 (lt unsigned) (get (L .index)) (get-field (L .span) 2)))
       (seq (cond (get (L .test)) skip (exit 1)) inner)
 
   abbrev pub Reading : Source 𝓤 H E → Body → Body
   Reading R rest =
       seq (put (R .offset) (op2 (mul unsigned) (get (L .index)) (int w64 size)))
-      (seq (put (R .address) (op2 offset (get-part (L .chain) 0) (get (R .offset))))
+      (seq (put (R .address) (op2 offset (get-field (L .chain) 0) (get (R .offset))))
       (seq (put (R .found) (rvOpd (copy (place (R .address .number) (deref dev ∷ []))))) rest))
 
   abbrev pub Storing : Body
   Storing =
       seq (put (L .offset) (op2 (mul unsigned) (get (L .index)) (int w64 size)))
-      (seq (put (L .address) (op2 offset (get-part (L .chain) 0) (get (L .offset))))
+      (seq (put (L .address) (op2 offset (get-field (L .chain) 0) (get (L .offset))))
       (seq (assign (place (L .address .number) (deref dev ∷ [])) (rvOpd (get (L .made))))
       (put (L .index) (op2 (add unsigned) (get (L .index)) (int w64 1)))))
 

@@ -46,8 +46,8 @@ module _ {M : Type 1} (𝓤 : URA M) (H : Heap 𝓤) (A : Atoms 𝓤) where
   copied W = LL.copy T.the-type T′.the-copy 𝓤 H A W
 
 -- a record that is passed to a call
-abbrev pub device : {M : Type 1} {𝓤 : URA M} {H : Heap 𝓤} {A : Atoms 𝓤} {W : Given 𝓤 H A} (d : Device) → Is D d (vals d) → Passed W D
-device {𝓤 = 𝓤} {H = H} {A = A} d is = record { value = d; values = vals d; makes = made 𝓤 H A; is = is }
+abbrev pub device-of : {M : Type 1} {𝓤 : URA M} {H : Heap 𝓤} {A : Atoms 𝓤} {W : Given 𝓤 H A} (d : Device) → Is D d (vals d) → Passed W D
+device-of {𝓤 = 𝓤} {H = H} {A = A} d is = record { value = d; values = vals d; makes = made 𝓤 H A; is = is }
 
 -- the record's size in bytes, as its `Laws` has it. It is all that a change of the record's fields changes here
 abbrev pub size : ℕ

@@ -37,8 +37,8 @@ pub jlawful : {M : Type 1} (𝓤 : URA M) (H : Heap 𝓤) (A : Atoms 𝓤) → G
 jlawful 𝓤 H A W = LL.lawful J.the-type J′.the-laws 𝓤 H A W
 
 -- a judgement that is passed to a call
-abbrev pub judged : {M : Type 1} {𝓤 : URA M} {H : Heap 𝓤} {A : Atoms 𝓤} {W : Given 𝓤 H A} (j : Judged) → JIs j → Passed W J.the-row
-judged {𝓤 = 𝓤} {H = H} {A = A} j is = record { value = j; values = jvals j; makes = jmade 𝓤 H A; is = is }
+abbrev pub judged-of : {M : Type 1} {𝓤 : URA M} {H : Heap 𝓤} {A : Atoms 𝓤} {W : Given 𝓤 H A} (j : Judged) → JIs j → Passed W J.the-row
+judged-of {𝓤 = 𝓤} {H = H} {A = A} j is = record { value = j; values = jvals j; makes = jmade 𝓤 H A; is = is }
 
 module _ {M : Type 1} (𝓤 : URA M) (H : Heap 𝓤) (A : Atoms 𝓤) (mem : Memory → SProp 𝓤) (run : Routine → Fun 𝓤) where
   abbrev pub JudgeC : Contract 𝓤

@@ -1,4 +1,4 @@
--- Steps of a walk under short names: a local is read, and a function of plain data is called.
+-- Steps of a walk under short names: a local is read, and a function is called.
 --     here                 a local as the place of a store
 --     held, held-field     what a local holds, as an operand, and field k of it. Entry n of the context is the local's cell
 --     locals               a local stands in a context by two entries: both of each, by the first

@@ -21,10 +21,10 @@ use Rattle.judgement.specs.declared.judging.Judged.{Judged}
 use Rattle.judgement.specs.Judging.{unjudged, judgedFrom}
 use Rattle.judgement.proofs.judging.Judged.Laws as J′
 use Rattle.judgement.proofs.judge as judge
-use Rattle.judgement.proofs.Dev.{D, device, val, tells, lawful}
+use Rattle.judgement.proofs.Dev.{D, device-of, val, tells, lawful}
 use Rattle.judgement.proofs.Lent.{ref, sl, free-all, meets}
 use Rattle.judgement.proofs.Steps.{here, held, locals, number, calls-plain}
-use Rattle.judgement.proofs.Judges.{JIs, judged, JudgeC}
+use Rattle.judgement.proofs.Judges.{JIs, judged-of, JudgeC}
 use Rattle.chain.proofs.Sweep.{boundary-change, length-last}
 use Rattle.chain.proofs.Loop.{sliceD, refI, sval, stells, slawful, Locals, Source, local, Swept, found-at, rest-of, Reading, Unread, Makes, read}
 use Rattle.chain.proofs.Around.{answers, Judging, Entered, Shut, Unjudged, Found, opens, Then, judged-first, sweeping}
@@ -105,7 +105,7 @@ module _ {M : Type 1} (𝓤 : URA M) (H : Heap 𝓤) (A : Atoms 𝓤) (W : Given
           let d : Device = found-at lent k in
           read W 𝓣 L lent R Γ k (afterTurn 𝓤 H X (Then 𝓣 L Post)) Calling small (λ is.
           calls-plain ! (fmOf 𝓤 H (W .laws) 𝓣) (step.signature .params) (step.signature .result) (step.ended .kept) (step.clauses 𝓤 H A mem run) known
-          (device d is, tt) tt (id⊢ 𝓤 _) val tells (and-then ! (held ! 19 refl) (no-more !)) (λ r ws is′. heard ! (r ≡ bounded d) (λ e.
+          (device-of d is, tt) tt (id⊢ 𝓤 _) val tells (and-then ! (held ! 19 refl) (no-more !)) (λ r ws is′. heard ! (r ≡ bounded d) (λ e.
           land ! (here !) (init ! 14 refl (lawful 𝓤 H A W .typed r _ is′ .0)) $ forget ! 18 refl $ stores r is′ e)))
 
       release : num < 2 ^ 8 → Sq W (Shut L lent (Unread R Γ)) (frees E (prop (Post (vint w8 num))))
@@ -117,7 +117,7 @@ module _ {M : Type 1} (𝓤 : URA M) (H : Heap 𝓤) (A : Atoms 𝓤) (W : Given
           → Sq W (Entered L lent (Unread R (Found P [] lent j))) (runs (𝓣 .C) (𝓣 .Λ) E code.Mir.t-5 (atRet E Post))
       spanned j j-is e =
           calls-plain ! (fmOf 𝓤 H (W .laws) 𝓣) (spans.signature .params) (spans.signature .result) (spans.ended .kept) (spans.clauses 𝓤 H A mem run) known-span
-          (judged j j-is, (number w64 (length xs) (g .0), tt)) tt (id⊢ 𝓤 _) sval stells
+          (judged-of j j-is, (number w64 (length xs) (g .0), tt)) tt (id⊢ 𝓤 _) sval stells
           (and-then ! (held ! 31 refl) (and-then ! (held ! 25 refl) (no-more !))) (λ s ws is. heard ! (s ≡ boundarySpan j (length xs)) (λ e′.
           land ! (here !) (init ! 4 refl (slawful 𝓤 H A W .typed s _ is .0)) $ forget ! 24 refl $ forget ! 26 refl $ forget ! 28 refl $ forget ! 30 refl $
           sweeping W 𝓣 L lent (Unread R Γ) Post release (Reading L R Calling) make s is

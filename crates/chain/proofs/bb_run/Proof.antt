@@ -44,12 +44,12 @@ use Rattle.phases.proofs.phase.Sent.Laws as N′
 use Rattle.refusals.proofs.Found.{run-refusal-found}
 use Rattle.turns.proofs.Turns.{Good, turned-device, turned-cursor}
 use Rattle.turns.proofs.Whole.{Stands, stands-next, stands-zero, stands-end, stands-start, run-same}
-use Rattle.judgement.proofs.Dev.{D, device, val, vals, tells, lawful, place-fits, place-at, size, out, into, back}
+use Rattle.judgement.proofs.Dev.{D, device-of, val, vals, tells, lawful, place-fits, place-at, size, out, into, back}
 use Rattle.judgement.proofs.Lent.{ref, sl, Open, Seen, opened, final, looked, shut, lends, returned, lends-shared, returned-shared, hold, free, Again, again, loops}
 use Rattle.judgement.proofs.Lent.{LentMut, LentShared, rooms, calls-val, free-all, meets}
 use Rattle.judgement.proofs.Steps.{here, held, held-field, locals, Passed, number, gives, calls-plain, calls-lending}
 use Rattle.chain.proofs.Loop.{sliceD, refI}
-use Rattle.judgement.proofs.Judges.{jvals, JIs, jlawful, judged, JudgeC, judges}
+use Rattle.judgement.proofs.Judges.{jvals, JIs, jlawful, judged-of, JudgeC, judges}
 use Rattle.judgement.proofs.judge as judge
 use Rattle.cursor.proofs.enter as opening
 use Rattle.turns.proofs.take_turn as take
@@ -190,7 +190,7 @@ module _ {M : Type 1} (𝓤 : URA M) (H : Heap 𝓤) (A : Atoms 𝓤) (W : Given
   asks-enter : (ν : ℕ) (δ : GName) (j : Judged) → JIs j → ent 𝓤 (sep 𝓤 (States ν δ) (Token ν)) (EnterC .pre (to-enter ν δ j))
   asks-enter ν δ j j-is =
       qed W (Lending ν δ) ∵ nothing ! $ gives ! (number w64 (length os) (g₂ .0)) $ move ! (1 ∷ 0 ∷ []) $ fjoin ! $
-      gives ! (number w64 (length xs) (g .0)) $ gives ! (judged j j-is) $
+      gives ! (number w64 (length xs) (g .0)) $ gives ! (judged-of j j-is) $
       nothing ! $ move ! (2 ∷ 0 ∷ []) $ join ! $ join ! $ nothing ! $ move ! (1 ∷ 0 ∷ []) $ done !
 
   abbrev to-take : (ν : ℕ) (δ : GName) (d : Device) (c : Cursor) → TakeC .Ghost
@@ -198,7 +198,7 @@ module _ {M : Type 1} (𝓤 : URA M) (H : Heap 𝓤) (A : Atoms 𝓤) (W : Given
 
   asks-take : (ν : ℕ) (δ : GName) (d : Device) (c : Cursor) → Is D d (vals d) → CIs c → ent 𝓤 (sep 𝓤 (States ν δ) (Token ν)) (TakeC .pre (to-take ν δ d c))
   asks-take ν δ d c d-is c-is =
-      qed W (Lending ν δ) ∵ nothing ! $ move ! (1 ∷ 0 ∷ []) $ fjoin ! $ gives ! (cursor-of c c-is) $ gives ! (device d d-is) $
+      qed W (Lending ν δ) ∵ nothing ! $ move ! (1 ∷ 0 ∷ []) $ fjoin ! $ gives ! (cursor-of c c-is) $ gives ! (device-of d d-is) $
       nothing ! $ move ! (2 ∷ 0 ∷ []) $ join ! $ join ! $ nothing ! $ move ! (1 ∷ 0 ∷ []) $ done !
 
   -- the room too, at ws, for ν′ under the name δ′

@@ -17,8 +17,8 @@ use Rattle.calls.specs.Chain.{blank}
 use Rattle.judgement.specs.Judging.{unjudged, judgedWith, judgedFrom}
 use Rattle.judgement.proofs.judging.Judged as J
 use Rattle.judgement.proofs.judging.Judged.Laws as J′
-use Rattle.judgement.proofs.Judges.{jval, JIs, jtells, jmade, jlawful, judged}
-use Rattle.judgement.proofs.Dev.{D, device, vals, tells, lawful, copied, place-fits, place-at, size, out, back}
+use Rattle.judgement.proofs.Judges.{jval, JIs, jtells, jmade, jlawful, judged-of}
+use Rattle.judgement.proofs.Dev.{D, device-of, vals, tells, lawful, copied, place-fits, place-at, size, out, back}
 use Rattle.judgement.proofs.Steps.{here, held, held-field, locals, calls-plain}
 use Rattle.judgement.proofs.Lent.{ref, sl, Seen, looked, shut, hold, free, Again, again, loops, rooms, free-all, meets}
 use borrow.Author.Tests.{lt-ltb, le-ltb}
@@ -104,7 +104,7 @@ module _ {M : Type 1} (𝓤 : URA M) (H : Heap 𝓤) (A : Atoms 𝓤) (W : Given
           back ! xs i b o small is $
           -- and judged
           calls-plain ! (fmOf 𝓤 H (W .laws) 𝓣) (one.signature .params) (one.signature .result) (one.ended .kept) (one.clauses 𝓤 H A mem run) known
-          (judged (jAt i) j-is, (device d is, tt)) tt (id⊢ 𝓤 _) jval jtells (and-then ! (held ! 13 refl) (and-then ! (held ! 3 refl) (no-more !)))
+          (judged-of (jAt i) j-is, (device-of d is, tt)) tt (id⊢ 𝓤 _) jval jtells (and-then ! (held ! 13 refl) (and-then ! (held ! 3 refl) (no-more !)))
           (λ r ws is′. heard ! (r ≡ judgedWith (jAt i) d) (λ e.
           let next : r ≡ jAt (suc i) = e ∙ judged-next i unjudged xs small in
           land ! (here !) (store ! 12 refl (jlawful 𝓤 H A W .typed r _ is′ .0)) $

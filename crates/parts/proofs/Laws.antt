@@ -1,38 +1,97 @@
--- Laws of the parts, the commands and their slices. Most go by cases: a row is one of two, a command one of four.
--- The table of slice lengths is tested whole, once, and `slice-table` turns the test into the rule. Assumes nothing.
-use mathlib.Core.Path.{_≡_, refl, ap, ap₂, _∙_}
-use mathlib.Core.Bool.{Bool, true, false, cond}
+-- Laws of the parts, the commands and their slices: every row is usable, and what is said of slices is said of any row that is. A command is
+-- one of four. The table of slice lengths is tested whole, once, and `slice-table` turns the test into the rule. Assumes nothing.
+use mathlib.Core.Path.{_≡_, refl, sym, ap, ap₂, _∙_}
+use mathlib.Core.Bool.{Bool, true, false, cond, _||_}
 use mathlib.Core.List.{List, [], _∷_}
-use Prim.Native.Nat.{ℕ, _+_, _*_, _/_, _%_, _<_, _≤_}
+use Prim.Native.Nat.{ℕ, suc, _+_, _*_, _/_, _%_, _<_, _≤_}
 use native.Mathlib.Omega.{arith}
-use lib.Dec.{eqb, leb, eqb→eq}
+use lib.Dec.{T, eqb, ltb, leb, eqb→eq, ltb→lt, leb→le, lit≤}
 use borrow.Author.Tests.{leb-true}
-use lib.ListN.{getD}
-use Rattle.parts.specs.Parts.{Part, max6974, max6975, rows, noPart, partOf, rowIndex, isCount, code, commandAt, sliceBits, limit}
+use lib.ListN.{length, getD}
+use Rattle.parts.specs.Parts.{Part, max6972, max6973, max6974, max6975, rows, noPart, knownIn, known, rowFrom, partOf, rowIndex, multiplex, glb4, subframes, isCount, code, commandAt, sliceBits, Usable}
 use Rattle.parts.specs.declared.command.Command.{Command}
 use Rattle.parts.specs.declared.command.Command.the-variants.{Individual, Calibration, Global, Configuration}
-use Rattle.tables.proofs.Booleans.{and-both}
-use Rattle.tables.proofs.Table.{everyPlace-at}
+use Rattle.tables.proofs.Booleans.{and-both, or-false, cond-both}
+use Rattle.tables.proofs.Table.{everyPlace, everyPlace-at}
 
 -- what holds of each row holds of the row of any number
-pub each-row : (P : Part → Type 0) → P max6974 → P max6975 → (n : ℕ) → P (partOf n)
-each-row P a b n = by (eqb n (max6974 .name)) where
-  by : (t : Bool) → P (cond t max6974 max6975)
-  by true = a
-  by false = b
+each-row : (P : Part → Type 0) → P max6972 → P max6973 → P max6974 → P max6975 → (n : ℕ) → P (partOf n)
+each-row P a b c d n =
+    cond-both P (eqb n (max6972 .name)) _ _ (λ _. a)
+    (λ _. cond-both P (eqb n (max6973 .name)) _ _ (λ _. b) (λ _. cond-both P (eqb n (max6974 .name)) _ _ (λ _. c) (λ _. d)))
 
-pub banks-three : (n : ℕ) → partOf n .banks ≡ 3
-banks-three n = each-row (λ p. p .banks ≡ 3) refl refl n
+-- a number is known where the row that it is read as has it
+known-from : (p : Part) (ps : List Part) (n : ℕ) → knownIn (p ∷ ps) n ≡ eqb n (rowFrom p ps n .name)
+known-from p [] n = sym (or-false (eqb n (p .name)))
+known-from p (q ∷ qs) n = go (eqb n (p .name)) refl (known-from q qs n) where
+  go : (t : Bool) → eqb n (p .name) ≡ t → knownIn (q ∷ qs) n ≡ eqb n (rowFrom q qs n .name) → (t || knownIn (q ∷ qs) n) ≡ eqb n ((cond t p (rowFrom q qs n)) .name)
+  go true e rest = sym e
+  go false e rest = rest
 
--- a subframe has as many clocks as a value has values
-pub limit-clocks : (n : ℕ) → limit (partOf n) ≡ partOf n .clocks
-limit-clocks n = each-row (λ p. limit p ≡ p .clocks) refl refl n
+pub known-name : (n : ℕ) → known n ≡ eqb n (partOf n .name)
+known-name n = known-from max6972 (max6973 ∷ max6974 ∷ max6975 ∷ []) n
 
-pub row-index-lt : (n : ℕ) → rowIndex n < 2
-row-index-lt n = by (eqb n (max6974 .name)) where
-  by : (t : Bool) → cond t 0 1 < 2
-  by true = omega arith
-  by false = omega arith
+-- four numbers of subframes, each 1 to 128
+pub subframes-by :
+    (p : Part)
+    → length (p .subframesBy) ≡ 4
+    → T (everyPlace (λ k n. ltb 0 n) 0 (p .subframesBy))
+    → T (everyPlace (λ k n. leb n 128) 0 (p .subframesBy))
+    → (configuration : ℕ) → (1 ≤ subframes p configuration) × (subframes p configuration ≤ 128)
+subframes-by p e t u configuration =
+    let k : ℕ = multiplex configuration + 2 * glb4 configuration in
+    let l : k < length (p .subframesBy) = omega (arith, e) in (
+      ltb→lt 0 (subframes p configuration) (everyPlace-at (λ k n. ltb 0 n) (p .subframesBy) t k l),
+      leb→le (subframes p configuration) 128 (everyPlace-at (λ k n. leb n 128) (p .subframesBy) u k l),
+    )
+
+-- every row can be used
+pub usable : (n : ℕ) → Usable (partOf n)
+usable n =
+    each-row Usable
+    (record {
+      someBank = lit≤ tt;
+      fewBanks = lit≤ tt;
+      wide = lit≤ tt;
+      narrow = lit≤ tt;
+      clocks = refl;
+      edge = lit≤ tt;
+      subframes = subframes-by max6972 refl tt tt;
+    })
+    (record {
+      someBank = lit≤ tt;
+      fewBanks = lit≤ tt;
+      wide = lit≤ tt;
+      narrow = lit≤ tt;
+      clocks = refl;
+      edge = lit≤ tt;
+      subframes = subframes-by max6973 refl tt tt;
+    })
+    (record {
+      someBank = lit≤ tt;
+      fewBanks = lit≤ tt;
+      wide = lit≤ tt;
+      narrow = lit≤ tt;
+      clocks = refl;
+      edge = lit≤ tt;
+      subframes = subframes-by max6974 refl tt tt;
+    })
+    (record {
+      someBank = lit≤ tt;
+      fewBanks = lit≤ tt;
+      wide = lit≤ tt;
+      narrow = lit≤ tt;
+      clocks = refl;
+      edge = lit≤ tt;
+      subframes = subframes-by max6975 refl tt tt;
+    })
+    n
+
+pub row-index-lt : (n : ℕ) → rowIndex n < 4
+row-index-lt n =
+    cond-both (λ (i : ℕ). i < 4) (eqb n (max6972 .name)) _ _ (λ _. omega arith)
+    (λ _. cond-both (λ (i : ℕ). suc i < 4) (eqb n (max6973 .name)) _ _ (λ _. omega arith)
+    (λ _. cond-both (λ (i : ℕ). suc (suc i) < 4) (eqb n (max6974 .name)) _ _ (λ _. omega arith) (λ _. omega arith)))
 
 pub code-lt : (c : Command) → code c < 4
 code-lt Individual = omega arith
@@ -51,9 +110,10 @@ count-bounds n e = let b = and-both (leb 1 n) (leb n 1023) e in (leb-true 1 n (b
 
 -- ---- the table of slice lengths
 
--- as the code has it: a row of four for each command, by part and multiplex bit
+-- as the code has it: a row of eight for each command, by part and multiplex bit
 abbrev pub table : List ℕ
-table = 288 ∷ 576 ∷ 336 ∷ 672 ∷ 24 ∷ 24 ∷ 24 ∷ 24 ∷ 24 ∷ 24 ∷ 24 ∷ 24 ∷ 24 ∷ 24 ∷ 24 ∷ 24 ∷ []
+table =
+    192 ∷ 384 ∷ 224 ∷ 448 ∷ 288 ∷ 576 ∷ 336 ∷ 672 ∷ 16 ∷ 16 ∷ 16 ∷ 16 ∷ 24 ∷ 24 ∷ 24 ∷ 24 ∷ 16 ∷ 16 ∷ 16 ∷ 16 ∷ 24 ∷ 24 ∷ 24 ∷ 24 ∷ 16 ∷ 16 ∷ 16 ∷ 16 ∷ 24 ∷ 24 ∷ 24 ∷ 24 ∷ []
 
 -- the row at a place
 abbrev rowAt : ℕ → Part
@@ -61,25 +121,27 @@ rowAt i = getD rows i noPart
 
 -- an entry is the length that its place says
 abbrev entry : ℕ → ℕ → Bool
-entry k x = eqb x (sliceBits (rowAt (k / 2 % 2)) (commandAt (k / 4)) (k % 2))
+entry k x = eqb x (sliceBits (rowAt (k / 2 % 4)) (commandAt (k / 8)) (k % 2))
 
 row-at : (n : ℕ) → rowAt (rowIndex n) ≡ partOf n
-row-at n = by (eqb n (max6974 .name)) where
-  by : (t : Bool) → rowAt (cond t 0 1) ≡ cond t max6974 max6975
-  by true = refl
-  by false = refl
+row-at n = by (eqb n (max6972 .name)) (eqb n (max6973 .name)) (eqb n (max6974 .name)) where
+  by : (s t u : Bool) → rowAt (cond s 0 (suc (cond t 0 (suc (cond u 0 1))))) ≡ cond s max6972 (cond t max6973 (cond u max6974 max6975))
+  by true t u = refl
+  by false true u = refl
+  by false false true = refl
+  by false false false = refl
 
-pub slice-table : (c : Command) (n m : ℕ) → m < 2 → getD table (code c * 4 + rowIndex n * 2 + m) 0 ≡ sliceBits (partOf n) c m
+pub slice-table : (c : Command) (n m : ℕ) → m < 2 → getD table (code c * 8 + rowIndex n * 2 + m) 0 ≡ sliceBits (partOf n) c m
 slice-table c n m h =
     let g = code-lt c in
     let r = row-index-lt n in
-    let k : ℕ = code c * 4 + rowIndex n * 2 + m in
-    let i : k < 16 = omega arith in
-    let e1 : k / 2 % 2 ≡ rowIndex n = omega arith in
-    let e2 : k / 4 ≡ code c = omega arith in
+    let k : ℕ = code c * 8 + rowIndex n * 2 + m in
+    let i : k < 32 = omega arith in
+    let e1 : k / 2 % 4 ≡ rowIndex n = omega arith in
+    let e2 : k / 8 ≡ code c = omega arith in
     let e3 : k % 2 ≡ m = omega arith in
-    eqb→eq (getD table k 0) (sliceBits (rowAt (k / 2 % 2)) (commandAt (k / 4)) (k % 2)) (everyPlace-at entry table tt k i)
-    ∙ ap (λ (j : ℕ). sliceBits (rowAt j) (commandAt (k / 4)) (k % 2)) e1
+    eqb→eq (getD table k 0) (sliceBits (rowAt (k / 2 % 4)) (commandAt (k / 8)) (k % 2)) (everyPlace-at entry table tt k i)
+    ∙ ap (λ (j : ℕ). sliceBits (rowAt j) (commandAt (k / 8)) (k % 2)) e1
     ∙ ap (λ (j : ℕ). sliceBits (rowAt (rowIndex n)) (commandAt j) (k % 2)) e2
     ∙ ap (λ (j : ℕ). sliceBits (rowAt (rowIndex n)) (commandAt (code c)) j) e3
     ∙ ap₂ (λ (p : Part) (d : Command). sliceBits p d m) (row-at n) (command-code c)

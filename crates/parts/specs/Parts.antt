@@ -1,6 +1,7 @@
 -- The parts as rows, the four commands, what a row, a command and a configuration make: subframes, and slices; and N, the devices of a chain.
 -- Nothing but the rows knows a part's numbers; what is said of slices and subframes is said of any row.
-use Prim.Native.Nat.{ℕ, suc, _+_, _*_, _/_, _%_, _^_}
+use Prim.Native.Nat.{ℕ, suc, _+_, _*_, _/_, _%_, _^_, _≤_}
+use mathlib.Core.Path.{_≡_}
 use mathlib.Core.Bool.{Bool, false, _&&_, _||_, cond}
 use mathlib.Core.List.{List, [], _∷_}
 use lib.Dec.{eqb, leb}
@@ -18,6 +19,14 @@ pub record Part : Type 0 where
   pub clocks : ℕ  -- clocks per subframe
   pub subframesBy : List ℕ  -- subframes per frame: plain, multiplexed, with GLB4, both
 
+-- the MAX6972
+abbrev pub max6972 : Part
+max6972 = record { name = 6972; banks = 2; width = 12; edge = 16; clocks = 4096; subframesBy = 128 ∷ 64 ∷ 128 ∷ 64 ∷ [] }
+
+-- the MAX6973
+abbrev pub max6973 : Part
+max6973 = record { name = 6973; banks = 2; width = 14; edge = 32; clocks = 16384; subframesBy = 32 ∷ 16 ∷ 8 ∷ 4 ∷ [] }
+
 -- the MAX6974
 abbrev pub max6974 : Part
 max6974 = record { name = 6974; banks = 3; width = 12; edge = 16; clocks = 4096; subframesBy = 128 ∷ 64 ∷ 128 ∷ 64 ∷ [] }
@@ -28,7 +37,7 @@ max6975 = record { name = 6975; banks = 3; width = 14; edge = 32; clocks = 16384
 
 -- all rows
 abbrev pub rows : List Part
-rows = max6974 ∷ max6975 ∷ []
+rows = max6972 ∷ max6973 ∷ max6974 ∷ max6975 ∷ []
 
 -- a number is a part's
 abbrev pub knownIn : List Part → ℕ → Bool
@@ -72,7 +81,7 @@ rowIndex n = placeIn rows n
 
 -- what the code's constants say of a row
 abbrev pub constantsOf : Part → Constants
-constantsOf p = record { banks = p .banks; width = p .width; edge = p .edge; clocks = p .clocks }
+constantsOf p = record { number = p .name; banks = p .banks; width = p .width; edge = p .edge; clocks = p .clocks }
 
 -- configuration bit D0, multiplex
 abbrev pub multiplex : ℕ → ℕ
@@ -89,6 +98,20 @@ subframes p configuration = getD (p .subframesBy) (multiplex configuration + 2 *
 -- a value is below this
 abbrev pub limit : Part → ℕ
 limit p = 2 ^ p .width
+
+-- outputs of a part: its banks have eight each
+abbrev pub outputs : Part → ℕ
+outputs p = 8 * p .banks
+
+-- what is asked of a row by the laws of records and of numbers in the code: a record has room for three banks, and a value for 14 bits
+pub record Usable (p : Part) : Type 0 where
+  pub someBank : 1 ≤ p .banks
+  pub fewBanks : p .banks ≤ 3
+  pub wide : 8 ≤ p .width
+  pub narrow : p .width ≤ 14
+  pub clocks : limit p ≡ p .clocks
+  pub edge : p .edge ≤ p .clocks
+  pub subframes : (configuration : ℕ) → (1 ≤ subframes p configuration) × (subframes p configuration ≤ 128)
 
 -- C1 C0
 abbrev pub code : Command → ℕ
@@ -119,7 +142,7 @@ fieldLimit p c = 2 ^ fieldWidth p c
 
 -- fields of one slice, by the multiplex bit: a value for each output and phase, or a byte for each bank
 abbrev pub sliceFields : Part → Command → ℕ → ℕ
-sliceFields p Individual mux = 8 * p .banks * (1 + mux)
+sliceFields p Individual mux = outputs p * (1 + mux)
 sliceFields p Calibration mux = p .banks
 sliceFields p Global mux = p .banks
 sliceFields p Configuration mux = p .banks

@@ -1,14 +1,14 @@
 // Each part carries its own constants. A number that is no part's is read as the last row's; `is_known` tells them apart.
 ghost use mathlib.Core.Path.{_≡_};
-ghost use Rattle.parts.specs.Parts.{known, partOf, limit, subframes, constantsOf};
+ghost use Rattle.parts.specs.Parts.{known, partOf, rowIndex, outputs, limit, subframes, constantsOf};
 
-pub struct Max6974;
+pub struct Max6972;
 
-impl Max6974 {
-    pub const NUMBER: u16 = 6974;
+impl Max6972 {
+    pub const NUMBER: u16 = 6972;
 
     // Banks of eight outputs.
-    pub const BANKS: u16 = 3;
+    pub const BANKS: u16 = 2;
 
     // Bits in a value.
     pub const WIDTH: u32 = 12;
@@ -20,6 +20,38 @@ impl Max6974 {
     pub const CLOCKS: u16 = 4096;
 
     // Subframes per frame: plain, multiplexed, with GLB4, both.
+    pub const SUBFRAMES: [u16; 4] = [128, 64, 128, 64];
+}
+
+pub struct Max6973;
+
+impl Max6973 {
+    pub const NUMBER: u16 = 6973;
+
+    pub const BANKS: u16 = 2;
+
+    pub const WIDTH: u32 = 14;
+
+    pub const EDGE: u16 = 32;
+
+    pub const CLOCKS: u16 = 16384;
+
+    pub const SUBFRAMES: [u16; 4] = [32, 16, 8, 4];
+}
+
+pub struct Max6974;
+
+impl Max6974 {
+    pub const NUMBER: u16 = 6974;
+
+    pub const BANKS: u16 = 3;
+
+    pub const WIDTH: u32 = 12;
+
+    pub const EDGE: u16 = 16;
+
+    pub const CLOCKS: u16 = 4096;
+
     pub const SUBFRAMES: [u16; 4] = [128, 64, 128, 64];
 }
 
@@ -41,24 +73,36 @@ impl Max6975 {
 
 // A part's constants, as numbers.
 pub struct Constants {
+    pub number: u16,
     pub banks: u16,
     pub width: u32,
     pub edge: u16,
     pub clocks: u16,
 }
 
-pub fn is_known(part: u16) -> bool
-    ensures { λ r. ⌜ r ≡ known part ⌝ }
-{
-    part == Max6974::NUMBER || part == Max6975::NUMBER
-}
-
 // What a part's type says, by its number.
 pub fn constants_of(part: u16) -> Constants
     ensures { λ r. ⌜ r ≡ constantsOf (partOf part) ⌝ }
 {
-    if part == Max6974::NUMBER {
+    if part == Max6972::NUMBER {
         Constants {
+            number: Max6972::NUMBER,
+            banks: Max6972::BANKS,
+            width: Max6972::WIDTH,
+            edge: Max6972::EDGE,
+            clocks: Max6972::CLOCKS,
+        }
+    } else if part == Max6973::NUMBER {
+        Constants {
+            number: Max6973::NUMBER,
+            banks: Max6973::BANKS,
+            width: Max6973::WIDTH,
+            edge: Max6973::EDGE,
+            clocks: Max6973::CLOCKS,
+        }
+    } else if part == Max6974::NUMBER {
+        Constants {
+            number: Max6974::NUMBER,
             banks: Max6974::BANKS,
             width: Max6974::WIDTH,
             edge: Max6974::EDGE,
@@ -66,6 +110,7 @@ pub fn constants_of(part: u16) -> Constants
         }
     } else {
         Constants {
+            number: Max6975::NUMBER,
             banks: Max6975::BANKS,
             width: Max6975::WIDTH,
             edge: Max6975::EDGE,
@@ -74,15 +119,40 @@ pub fn constants_of(part: u16) -> Constants
     }
 }
 
-// A value is below this.
+// A number is a part's where the row that it is read as has it.
+pub fn is_known(part: u16) -> bool
+    ensures { λ r. ⌜ r ≡ known part ⌝ }
+{
+    part == constants_of(part).number
+}
+
+// Its place among the rows.
+pub fn row_of(part: u16) -> usize
+    ensures { λ r. ⌜ r ≡ rowIndex part ⌝ }
+{
+    if part == Max6972::NUMBER {
+        0
+    } else if part == Max6973::NUMBER {
+        1
+    } else if part == Max6974::NUMBER {
+        2
+    } else {
+        3
+    }
+}
+
+// A value is below this: a subframe has as many clocks as a value has values.
 pub fn value_limit(part: u16) -> u16
     ensures { λ r. ⌜ r ≡ limit (partOf part) ⌝ }
 {
-    if part == Max6974::NUMBER {
-        Max6974::CLOCKS
-    } else {
-        Max6975::CLOCKS
-    }
+    constants_of(part).clocks
+}
+
+// Its outputs.
+pub fn outputs_of(part: u16) -> usize
+    ensures { λ r. ⌜ r ≡ outputs (partOf part) ⌝ }
+{
+    8 * (constants_of(part).banks as usize)
 }
 
 // Subframes per frame.
@@ -90,7 +160,11 @@ pub fn subframes_of(part: u16, configuration: u8) -> u16
     ensures { λ r. ⌜ r ≡ subframes (partOf part) configuration ⌝ }
 {
     let column = (configuration % 2 + 2 * (configuration / 16 % 2)) as usize;
-    if part == Max6974::NUMBER {
+    if part == Max6972::NUMBER {
+        Max6972::SUBFRAMES[column]
+    } else if part == Max6973::NUMBER {
+        Max6973::SUBFRAMES[column]
+    } else if part == Max6974::NUMBER {
         Max6974::SUBFRAMES[column]
     } else {
         Max6975::SUBFRAMES[column]

@@ -1,26 +1,42 @@
 // Slices by command, part and configuration.
 ghost use mathlib.Core.Path.{_≡_};
-ghost use Rattle.parts.specs.Parts.{partOf, multiplex, fieldWidth, fieldLimit, sliceFields, sliceBits, rowIndex};
+ghost use Rattle.parts.specs.Parts.{partOf, multiplex, fieldWidth, fieldLimit, sliceFields, sliceBits};
 use parts::Command;
-use parts::Max6974;
 use parts::constants_of;
 use parts::number_of;
+use parts::row_of;
 use parts::value_limit;
 
-// Bits of a slice, by command, part and multiplex bit: a row of four for each command, 6974 first, nonmultiplexed first.
-const SLICE_BITS: [u16; 16] = [
+// Bits of a slice, by command, part and multiplex bit: a row of eight for each command, 6972 first, nonmultiplexed first.
+const SLICE_BITS: [u16; 32] = [
+    192,
+    384,
+    224,
+    448,
     288,
     576,
     336,
     672,
+    16,
+    16,
+    16,
+    16,
     24,
     24,
     24,
     24,
+    16,
+    16,
+    16,
+    16,
     24,
     24,
     24,
     24,
+    16,
+    16,
+    16,
+    16,
     24,
     24,
     24,
@@ -31,15 +47,8 @@ const SLICE_BITS: [u16; 16] = [
 pub fn slice_bits(command: Command, part: u16, configuration: u8) -> u16
     ensures { λ r. ⌜ r ≡ sliceBits (partOf part) command (multiplex configuration) ⌝ }
 {
-    let at = (number_of(command) as usize) * 4 + row_of(part) * 2 + (configuration % 2) as usize;
+    let at = (number_of(command) as usize) * 8 + row_of(part) * 2 + (configuration % 2) as usize;
     SLICE_BITS[at]
-}
-
-// The column of a part in the table.
-fn row_of(part: u16) -> usize
-    ensures { λ r. ⌜ r ≡ rowIndex part ⌝ }
-{
-    if part == Max6974::NUMBER { 0 } else { 1 }
 }
 
 // Bits of one field of a slice.

@@ -1,13 +1,18 @@
-use Rattle.tables.proofs.Booleans.{or-false}
-use borrow.Author.Tests.{eq-eqb, ne-eqb}
+use mathlib.Core.Path.{ap, sym, _∙_}
+use lib.Dec.{eqb}
+use Rattle.parts.specs.declared.part.Constants.{Constants}
+use Rattle.parts.proofs.Laws.{known-name}
+use borrow.Author.Needs.{needs}
 use Rattle.parts.proofs.part.is_known.Statement.{statement}
 use Rattle.parts.proofs.part.is_known.Tie as tie
 
-returns : tie.Need-returns
-returns c = simp (eq-eqb _ _ (c .if1 .taken))
+constants-of-requires : tie.Need-constants-of-requires
+constants-of-requires c κs = search needs
 
-returns-2 : tie.Need-returns-2
-returns-2 c = simp (ne-eqb _ _ (c .if1 .left)) (or-false _)
+returns : tie.Need-returns
+returns c =
+    let part = c .before .before .args .part in
+    ap (λ (k : Constants). eqb part (k .number)) (c .before .constants-of .ensures) ∙ sym (known-name part)
 
 pub is-known-spec : {M : Type 1} → statement M
-is-known-spec = tie.close (tie.spec returns returns-2)
+is-known-spec = tie.close (tie.spec constants-of-requires returns)

@@ -21,7 +21,7 @@ row-of-requires : tie.Need-row-of-requires
 row-of-requires c κs = search needs
 
 -- the number of the command and the column of the part
-within : (c : tie.After-row-of) → (c .before .number-of .result < 4) × (c .row-of .result < 2)
+within : (c : tie.After-row-of) → (c .before .number-of .result < 4) × (c .row-of .result < 4)
 within c =
     let a = c .before .before .args in
     (omega (arith, c .before .number-of .ensures, code-lt (a .command)), omega (arith, c .row-of .ensures, row-index-lt (a .part)))
@@ -46,7 +46,7 @@ array-read-result c = omega (arith, within c .0, within c .1)
 
 returns : tie.Need-returns
 returns c = let a = c .before .before .args in
-    ap₂ (λ (j k : ℕ). getD table (j * 4 + k * 2 + a .configuration % 2) 0) (c .before .number-of .ensures) (c .row-of .ensures)
+    ap₂ (λ (j k : ℕ). getD table (j * 8 + k * 2 + a .configuration % 2) 0) (c .before .number-of .ensures) (c .row-of .ensures)
     ∙ slice-table (a .command) (a .part) (a .configuration % 2) (omega arith)
 
 pub slice-bits-spec : {M : Type 1} → statement M

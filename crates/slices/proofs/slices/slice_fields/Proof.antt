@@ -1,9 +1,11 @@
--- By the command; a part has three banks, so that no product is too large. Assumes nothing.
-use mathlib.Core.Path.{_≡_, refl, ap, _∙_}
+-- By the command; a part has three banks at most, so that no product is too large. Assumes nothing.
+use mathlib.Core.Path.{_≡_, refl, sym, ap, _∙_, subst}
+use Prim.Native.Nat.{_+_, _%_, _≤_}
+use native.Mathlib.Nat.{mul-le-mul-left, mul-le-mul-right}
 use Rattle.parts.specs.Parts.{partOf, multiplex, sliceFields}
 use Rattle.parts.specs.declared.part.Constants.{Constants}
 use native.Mathlib.Omega.{arith}
-use Rattle.parts.proofs.Laws.{banks-three}
+use Rattle.parts.proofs.Laws.{usable}
 use Rattle.parts.proofs.Cases.{byte-command}
 use borrow.Author.Needs.{needs}
 use Rattle.slices.proofs.slices.slice_fields.Statement.{statement}
@@ -21,14 +23,18 @@ add-phases c = search needs
 enum-told : tie.Need-enum-told
 enum-told c = search needs
 
-three : (c : tie.After-enum-told) → c .before .before .constants-of .result .banks ≡ 3
-three c = ap (λ (k : Constants). k .banks) (c .before .before .constants-of .ensures) ∙ banks-three (c .before .before .before .args .part)
+few : (c : tie.After-enum-told) → c .before .before .constants-of .result .banks ≤ 3
+few c =
+    subst (λ (k : Constants). k .banks ≤ 3) (sym (c .before .before .constants-of .ensures))
+    (usable (c .before .before .before .args .part) .fewBanks)
 
 mul-result : tie.Need-mul-result
-mul-result c = omega (arith, three c)
+mul-result c = omega (arith, few c)
 
 mul-result-2 : tie.Need-mul-result-2
-mul-result-2 c = rw (three c) (omega arith)
+mul-result-2 c =
+    let phases = 1 + c .before .before .before .args .configuration % 2 in
+    omega (arith, mul-le-mul-right phases (mul-le-mul-left 8 (few c)))
 
 returns : tie.Need-returns
 returns c = rw (c .enum-told .given .1, c .before .before .constants-of .ensures)

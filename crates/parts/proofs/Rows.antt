@@ -1,0 +1,76 @@
+-- What holds of any row that can be used, and of some rows that cannot: outputs, fields and limits are within what a record and a number of the
+-- code have room for. By cases on the command. Assumes nothing.
+use mathlib.Core.Path.{_≡_, refl, _∙_}
+use Prim.Native.Nat.{ℕ, _+_, _-_, _*_, _/_, _%_, _^_, _<_, _≤_}
+use native.Mathlib.Nat.{le-refl, le-trans, lt-of-lt-of-le, mul-pos, mul-le-mul, mul-assoc, mul-comm, mul-mod-right}
+use native.Mathlib.Omega.{arith}
+use lib.Dec.{lit<, lit≤}
+use lib.Pow.{pow-pos, pow-mono}
+use Rattle.parts.specs.Parts.{Part, outputs, limit, fieldWidth, fieldLimit, sliceFields, sliceBits, Usable}
+use Rattle.parts.specs.declared.command.Command.{Command}
+use Rattle.parts.specs.declared.command.Command.the-variants.{Individual, Calibration, Global, Configuration}
+
+-- ---- of any row
+
+pub limit-pos : (p : Part) → 0 < limit p
+limit-pos p = pow-pos (p .width)
+
+pub field-limit-pos : (p : Part) (c : Command) → 0 < fieldLimit p c
+field-limit-pos p c = pow-pos (fieldWidth p c)
+
+-- a slice is whole bytes
+pub slice-whole : (p : Part) (c : Command) (m : ℕ) → sliceBits p c m % 8 ≡ 0
+slice-whole p Individual m = omega arith
+slice-whole p Calibration m = omega arith
+slice-whole p Global m = omega arith
+slice-whole p Configuration m = omega arith
+
+-- ---- of one that can be used
+module _ (p : Part) (u : Usable p) where
+  pub outputs-le : outputs p ≤ 24
+  outputs-le = omega (arith, u .fewBanks)
+
+  -- a field has 8 to 14 bits
+  pub field-wide : (c : Command) → 8 ≤ fieldWidth p c
+  field-wide Individual = u .wide
+  field-wide Calibration = lit≤ tt
+  field-wide Global = lit≤ tt
+  field-wide Configuration = lit≤ tt
+
+  pub field-narrow : (c : Command) → fieldWidth p c ≤ 14
+  field-narrow Individual = u .narrow
+  field-narrow Calibration = lit≤ tt
+  field-narrow Global = lit≤ tt
+  field-narrow Configuration = lit≤ tt
+
+  -- a slice has a field for each bank at least, and 48 at most
+  pub fields-some : (c : Command) (m : ℕ) → 1 ≤ sliceFields p c m
+  fields-some Individual m = mul-pos (omega (arith, u .someBank)) (omega arith)
+  fields-some Calibration m = u .someBank
+  fields-some Global m = u .someBank
+  fields-some Configuration m = u .someBank
+
+  pub fields-le : (c : Command) (m : ℕ) → m < 2 → sliceFields p c m ≤ 48
+  fields-le Individual m h =
+      let two : 1 + m ≤ 2 = omega arith in
+      mul-le-mul outputs-le two
+  fields-le Calibration m h = omega (arith, u .fewBanks)
+  fields-le Global m h = omega (arith, u .fewBanks)
+  fields-le Configuration m h = omega (arith, u .fewBanks)
+
+  pub slice-bits-pos : (c : Command) (m : ℕ) → 0 < sliceBits p c m
+  slice-bits-pos c m = mul-pos (fields-some c m) (le-trans (lit≤ tt) (field-wide c))
+
+  -- a value has 256 to 16384 values
+  pub limit-wide : 256 ≤ limit p
+  limit-wide = pow-mono (u .wide)
+
+  pub limit-narrow : limit p ≤ 16384
+  limit-narrow = pow-mono (u .narrow)
+
+  -- a field is no wider than a value
+  pub field-limit-le : (c : Command) → fieldLimit p c ≤ limit p
+  field-limit-le Individual = le-refl (limit p)
+  field-limit-le Calibration = limit-wide
+  field-limit-le Global = limit-wide
+  field-limit-le Configuration = limit-wide

@@ -23,7 +23,8 @@ use Rattle.phases.specs.declared.phase.Place.{Place}
 use Rattle.registers.specs.declared.registers.Registers.{Registers}
 use Rattle.device.specs.declared.device.Device.{Device}
 use Rattle.device.specs.declared.device.Stepped.{Stepped}
-use Rattle.registers.proofs.Fields.{limit-pos, slice-bits-pos}
+use Rattle.parts.proofs.Laws.{usable}
+use Rattle.parts.proofs.Rows.{limit-pos, slice-bits-pos}
 use Rattle.widths.proofs.Below.{below-zeros, Below, below-of, of-below, stored-below, took-below, showing-below}
 use Rattle.device.proofs.Places.{place-fits}
 use Rattle.phases.proofs.Places.{Small, phase-small}
@@ -67,7 +68,7 @@ module _ (r : Registers) where
       (λ _. (
         lit< tt,
         both-and _ _ (lt-ltb ((read * 2 + bit) % 1024) 1024 (mod-lt (read * 2 + bit) (lit< tt)))
-            (lt-ltb 0 (sliceLength r c) (slice-bits-pos c (r .part) (multiplex (r .configuration)))),
+            (lt-ltb 0 (sliceLength r c) (slice-bits-pos (partOf (r .part)) (usable (r .part)) c (multiplex (r .configuration)))),
       ))
 
 -- ---- the step
@@ -145,7 +146,7 @@ kept-faulted d kind flag l h =
 
 pub kept-fresh : (part : ℕ) → fits (freshDevice part) ≡ true
 kept-fresh part =
-    let z : (n : ℕ) → allBelow (replicate n 0) (limit (partOf part)) ≡ true = λ n. below-zeros n (limit (partOf part)) (limit-pos part) in
+    let z : (n : ℕ) → allBelow (replicate n 0) (limit (partOf part)) ≡ true = λ n. below-zeros n (limit (partOf part)) (limit-pos (partOf part)) in
     device-fits (zeros part) (Hunting 0)
     (record { hot = lit< tt; lit = lit< tt; waiting0s = z 24; waiting1s = z 24; active0s = z 24; active1s = z 24; slices = z 48 })
     (lit< tt, refl)

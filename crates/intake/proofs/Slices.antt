@@ -11,7 +11,7 @@ use lib.ListN.{length, getD, set, drop}
 use lib.Seq.{getD-set-same, set-set}
 use borrow.Author.Tests.{lt-ltb, le-ltb, ltb-true, ltb-false, leb-true, leb-false}
 use Rattle.parts.specs.Parts.{partOf, multiplex, limit, fieldWidth, fieldLimit, sliceFields}
-use Rattle.parts.proofs.Laws.{each-row}
+use Rattle.parts.proofs.Laws.{usable, each-row}
 use Rattle.parts.specs.declared.command.Command.{Command}
 use Rattle.parts.specs.declared.command.Command.the-variants.{Individual, Calibration, Global, Configuration}
 use Rattle.phases.specs.Phases.{pushed}
@@ -19,7 +19,7 @@ use Rattle.registers.specs.Held.{withSlice, fault, raised}
 use Rattle.storing.specs.Stored.{stored}
 use Rattle.device.specs.Step.{at, moved, sending, sliceLength}
 use Rattle.tables.proofs.Booleans.{cond-both}
-use Rattle.registers.proofs.Fields.{field-width-pos, field-width-le}
+use Rattle.parts.proofs.Rows.{field-width-pos, field-narrow}
 use Rattle.phases.specs.declared.phase.Phase.the-variants.{Slice, Passing}
 use Rattle.phases.specs.declared.phase.Sent.the-variants.{Header}
 use Rattle.registers.specs.declared.registers.Registers.{Registers}
@@ -75,7 +75,7 @@ fields-le Configuration part mux h = each-row (λ p. p .banks ≤ 48) (lit≤ tt
 
 pub slot-within : (r : Registers) (c : Command) (t : ℕ) → t < sliceLength r c → t / fieldWidth (partOf (r .part)) c < 48
 slot-within r c t h =
-    let p = field-width-pos c (r .part) in
+    let p = field-width-pos (partOf (r .part)) (usable (r .part)) c in
     let k : t / fieldWidth (partOf (r .part)) c < sliceFields (partOf (r .part)) c (multiplex (r .configuration)) = div-lt-iff-lt-mul p .1 h in
     omega (arith, fields-le c (r .part) (multiplex (r .configuration)) (mod-lt (r .configuration) (lit< tt)))
 
@@ -201,7 +201,7 @@ module _ (r : Registers) (c : Command) (n : ℕ) (ss : List ℕ) where
       let k = t / width in
       let s = getD ss i 0 % 2 in
       let v = getD sl k 0 in
-      let w = field-width-pos c (r .part) in
+      let w = field-width-pos (partOf (r .part)) (usable (r .part)) c in
       let inside : t + (width - t % width) ≤ sliceLength r c = field-within width t (sliceFields (partOf (r .part)) c (multiplex (r .configuration))) w l in
       let slot = slot-within r c t l in
       let f = filled (pushed v s 65536) b (drop (i + 1) ss) (i + 1) in
@@ -229,7 +229,7 @@ least-pos a b p q = cond-both (λ (x : ℕ). 0 < x) (leb a b) a b (λ _. p) (λ 
 pub slice-le : (r : Registers) (c : Command) → sliceLength r c ≤ 672
 slice-le r c =
     le-trans (mul-le-mul-right (fieldWidth (partOf (r .part)) c) (fields-le c (r .part) (multiplex (r .configuration)) (mod-lt (r .configuration) (lit< tt))))
-    (omega (arith, field-width-le c (r .part)))
+    (omega (arith, field-narrow (partOf (r .part)) (usable (r .part)) c))
 
 -- the bits that field t / w lacks, or as many as there are states
 abbrev pub lacking : ℕ → ℕ → ℕ → ℕ
@@ -249,7 +249,7 @@ exactly r c n ss sl t i p l h g = at-least (lacking w t (length ss - i)) refl wh
 
   at-least : (b : ℕ) → lacking w t (length ss - i) ≡ b → FieldTaken r c n ss sl t i w (fieldLimit (partOf (r .part)) c) (filled (getD sl (t / w) 0) b (drop i ss) i)
   at-least zero e =
-      let m = mod-lt t (field-width-pos c (r .part)) in
+      let m = mod-lt t (field-width-pos (partOf (r .part)) (usable (r .part)) c) in
       absurd (omega (arith, least-pos (w - t % w) (length ss - i) (omega arith) (omega arith)))
   at-least (suc b) e =
       record {
@@ -262,7 +262,7 @@ exactly r c n ss sl t i p l h g = at-least (lacking w t (length ss - i)) refl wh
               arith,
               filled-le (getD sl (t / w) 0) (suc b) (drop i ss) i,
               least-left (w - t % w) (length ss - i),
-              field-width-le c (r .part),
+              field-narrow (partOf (r .part)) (usable (r .part)) c,
             );
       }
 

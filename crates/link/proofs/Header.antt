@@ -21,7 +21,8 @@ use Rattle.device.specs.Step.{at, sliceLength, step}
 use Rattle.phases.specs.declared.phase.Phase.{Phase}
 use Rattle.phases.specs.declared.phase.Phase.the-variants.{Hunting, Opening, Counting, Slice, Lost}
 use Rattle.registers.specs.declared.registers.Registers.{Registers}
-use Rattle.registers.proofs.Fields.{field-width-pos}
+use Rattle.parts.proofs.Laws.{usable}
+use Rattle.parts.proofs.Rows.{field-width-pos}
 use Rattle.model.specs.Device.{lost, taking, command, count, slice, named, stepDevice}
 use Rattle.model.specs.Device as model
 use Rattle.link.specs.View.{rest}
@@ -127,5 +128,5 @@ module _ (r : Registers) where
           let v = number-more read bit one top small in
           let m : number (rest 10 read ++ eqb bit 1 ∷ []) < 2 ^ 10 = rw (longer read bit one top small, k) at (number-lt (rest 10 read ++ eqb bit 1 ∷ [])) in
           let n : (read * 2 + bit) % 1024 ≡ number (rest 10 read ++ eqb bit 1 ∷ []) = omega (arith, rw k at v, m) in
-          rw (n, pred-sub (sliceLength r c), ← bits-same r c, gotten-none (fieldWidth (partOf (r .part)) c) (r .slice) (field-width-pos c (r .part)))
+          rw (n, pred-sub (sliceLength r c), ← bits-same r c, gotten-none (fieldWidth (partOf (r .part)) c) (r .slice) (field-width-pos (partOf (r .part)) (usable (r .part)) c))
           (sym (take-last (registersOf r) (count c) (9 - length (rest 10 read)) (rest 10 read) (eqb bit 1) (omega arith)))

@@ -13,7 +13,7 @@ use Rattle.bits.specs.Bits.{isOne, split}
 use Rattle.tables.specs.Lists.{allBelow}
 use Rattle.parts.specs.Parts.{partOf, multiplex, limit, fieldWidth, fieldLimit}
 use Rattle.parts.specs.Wire.{low, high, stateAt, header, clocked}
-use Rattle.parts.proofs.Laws.{banks-three}
+use Rattle.parts.proofs.Laws.{usable, banks-three}
 use Rattle.parts.specs.declared.command.Command.{Command}
 use Rattle.parts.specs.declared.command.Command.the-variants.{Individual, Calibration, Global, Configuration}
 use Rattle.registers.specs.Held.{holding, took, fault, raised}
@@ -22,7 +22,7 @@ use Rattle.device.specs.Step.{sentStates, at, moved, sending, sliceLength, coll
 use Rattle.phases.specs.declared.phase.Phase.the-variants.{Slice, Passing}
 use Rattle.phases.specs.declared.phase.Sent.the-variants.{Nothing, One, Header}
 use Rattle.registers.specs.declared.registers.Registers.{Registers}
-use Rattle.registers.proofs.Fields.{field-width-pos}
+use Rattle.parts.proofs.Rows.{field-width-pos}
 use Rattle.storing.proofs.Lists.{strided-take}
 use Rattle.widths.proofs.Below.{Below, below-head, took-below}
 use Rattle.model.specs.Device.{slice, stepDevice, load, counted, evens, odds, headerStates}
@@ -160,7 +160,7 @@ module _ (r : Registers) (c : Command) (n t bit : ℕ) (x : Coming r c t bit) wh
   fit-slots Configuration = rw (banks-three (r .part)) (omega arith)
 
   bits-next : gotten w (next-r .slice) (t + 1) ≡ gotten w (r .slice) t ++ eqb bit 1 ∷ []
-  bits-next = gotten-next w bit (field-width-pos c (r .part)) (x .small) (r .slice) t (rw (x .slots) (omega (arith, x .room, fit-slots c)))
+  bits-next = gotten-next w bit (field-width-pos (partOf (r .part)) (usable (r .part)) c) (x .small) (r .slice) t (rw (x .slots) (omega (arith, x .room, fit-slots c)))
 
   pub slice-same : seen (collected r c n t bit) ≡ stepDevice (viewed r (Slice c n t)) (high (eqb bit 1))
   slice-same = go (ltb (t + 1) all) refl

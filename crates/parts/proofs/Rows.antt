@@ -37,6 +37,9 @@ module _ (p : Part) (u : Usable p) where
   field-wide Global = lit≤ tt
   field-wide Configuration = lit≤ tt
 
+  pub field-width-pos : (c : Command) → 0 < fieldWidth p c
+  field-width-pos c = le-trans (lit≤ tt) (field-wide c)
+
   pub field-narrow : (c : Command) → fieldWidth p c ≤ 14
   field-narrow Individual = u .narrow
   field-narrow Calibration = lit≤ tt
@@ -59,7 +62,7 @@ module _ (p : Part) (u : Usable p) where
   fields-le Configuration m h = omega (arith, u .fewBanks)
 
   pub slice-bits-pos : (c : Command) (m : ℕ) → 0 < sliceBits p c m
-  slice-bits-pos c m = mul-pos (fields-some c m) (le-trans (lit≤ tt) (field-wide c))
+  slice-bits-pos c m = mul-pos (fields-some c m) (field-width-pos c)
 
   -- a value has 256 to 16384 values
   pub limit-wide : 256 ≤ limit p

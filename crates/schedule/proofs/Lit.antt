@@ -10,7 +10,6 @@ use lib.Dec.{ltb, leb, eqb, lit≤}
 use borrow.Author.Tests.{eqb-true, eqb-false, eq-eqb, ne-eqb, ltb-true, ltb-false, leb-true, leb-false, lt-ltb, le-ltb, le-leb, lt-leb}
 use Rattle.bits.specs.Bits.{digit}
 use Rattle.parts.specs.Parts.{Part, partOf, subframes, multiplex}
-use Rattle.parts.proofs.Laws.{each-row}
 use Rattle.subframes.specs.Subframes.{howManyFrom, isOn}
 use Rattle.schedule.specs.Answers.{positionOver}
 use Rattle.schedule.specs.Light.{total, nameNumber, litAt, litBy, isEven, inRun, litFrom, litTo, litCount, isLit, litFirst, litEnd}
@@ -158,8 +157,6 @@ even-bit output = at (eqb (output % 2) 1) refl where
   at true e = let h = eqb-true (output % 2) 1 e in sym (eq-eqb (nameNumber output % 2) 0 (omega arith))
   at false e = let h = eqb-false (output % 2) 1 e in sym (ne-eqb (nameNumber output % 2) 0 (λ z. h (omega arith)))
 
-pub edge-le : (part : ℕ) → partOf part .edge ≤ partOf part .clocks
-edge-le part = each-row (λ p. p .edge ≤ p .clocks) (lit≤ tt) (lit≤ tt) part
 
 -- a position that is not over is one of the part's
 position-within :

@@ -14,7 +14,7 @@ use lib.ListN.{length}
 use borrow.Author.Tests.{ltb-true, ltb-false}
 use Rattle.bits.specs.Bits.{digit}
 use Rattle.parts.specs.Parts.{Part, max6974, max6975, partOf, subframes, multiplex, glb4}
-use Rattle.parts.proofs.Laws.{each-row}
+use Rattle.parts.proofs.Laws.{usable}
 use Rattle.tables.proofs.Table.{everyPlace, everyPlace-at}
 use Rattle.subframes.specs.Subframes.{howManyFrom, onFirst, on, onCount, lead, level}
 use Rattle.subframes.proofs.Signed.{sub-equal, sub-below}
@@ -86,23 +86,9 @@ module _ (S g : ℕ) (h : g < S) where
 
 -- ---- of the parts
 
--- at least one subframe, and at most 128
-pub subframes-within : (part configuration : ℕ) → (0 < subframes (partOf part) configuration) × (subframes (partOf part) configuration ≤ 128)
-subframes-within part configuration = each-row (λ p. (0 < subframes p configuration) × (subframes p configuration ≤ 128)) (at max6974 refl tt tt) (at max6975 refl tt tt) part where
-  at :
-      (p : Part)
-      → length (p .subframesBy) ≡ 4
-      → T (everyPlace (λ k n. ltb 0 n) 0 (p .subframesBy))
-      → T (everyPlace (λ k n. leb n 128) 0 (p .subframesBy))
-      → (0 < subframes p configuration) × (subframes p configuration ≤ 128)
-  at p e t u =
-      let k : ℕ = multiplex configuration + 2 * glb4 configuration in
-      let l : k < length (p .subframesBy) = omega (arith, e) in
-      (ltb→lt 0 (subframes p configuration) (everyPlace-at (λ k n. ltb 0 n) (p .subframesBy) t k l), leb→le (subframes p configuration) 128 (everyPlace-at (λ k n. leb n 128) (p .subframesBy) u k l))
-
 -- any byte is a level
 pub level-lt : (part configuration global : ℕ) → level (partOf part) configuration global < subframes (partOf part) configuration
-level-lt part configuration global = mod-lt global (subframes-within part configuration .0)
+level-lt part configuration global = mod-lt global (usable part .subframes configuration .0)
 
 -- what a window's products stay below
 pub product-lt : {m n : ℕ} → m ≤ 128 → n ≤ 128 → m * n < 32768

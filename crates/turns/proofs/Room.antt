@@ -17,7 +17,7 @@ use Rattle.tables.specs.Refusals.{first}
 use Rattle.parts.specs.Wire.{header, statesOf}
 use Rattle.parts.specs.declared.command.Command.{Command}
 use Rattle.parts.specs.declared.command.Command.the-variants.{Individual, Calibration, Global, Configuration}
-use Rattle.parts.proofs.Laws.{each-row, banks-three, command-code}
+use Rattle.parts.proofs.Laws.{usable, each-row, banks-three, command-code}
 use Rattle.phases.specs.Phases.{phaseOf, placeOf, heard, rising, opened, opening, counting, samePlace}
 use Rattle.registers.specs.Held.{took, fault, raised}
 use Rattle.device.specs.Step.{step, stepHigh, moved, sliceLength, sentStates, at}
@@ -29,7 +29,7 @@ use Rattle.phases.specs.declared.phase.Phase.the-variants.{Hunting, Opening, Co
 use Rattle.registers.specs.declared.registers.Registers.{Registers}
 use Rattle.device.specs.declared.device.Device.{Device}
 use Rattle.device.specs.declared.device.Stepped.{Stepped}
-use Rattle.registers.proofs.Fields.{field-width-pos}
+use Rattle.parts.proofs.Rows.{field-width-pos}
 use Rattle.tables.proofs.Booleans.{and-both, cond-both}
 use Rattle.calls.specs.Chain.{through, allFit}
 use Rattle.calls.proofs.Accepted.{Accepted}
@@ -56,7 +56,7 @@ values-long mux w h e =
     le-of-mul m = omega arith
 
 long : (r : Registers) (c : Command) → 24 ≤ sliceLength r c
-long r Individual = values-long (multiplex (r .configuration)) (partOf (r .part)) (field-width-pos Individual (r .part)) (banks-three (r .part))
+long r Individual = values-long (multiplex (r .configuration)) (partOf (r .part)) (field-width-pos (partOf (r .part)) (usable (r .part)) Individual) (banks-three (r .part))
 long r Calibration = each-row (λ p. 24 ≤ p .banks * 8) (lit≤ tt) (lit≤ tt) (r .part)
 long r Global = each-row (λ p. 24 ≤ p .banks * 8) (lit≤ tt) (lit≤ tt) (r .part)
 long r Configuration = each-row (λ p. 24 ≤ p .banks * 8) (lit≤ tt) (lit≤ tt) (r .part)

@@ -18,7 +18,8 @@ use Rattle.registers.specs.Held.{holding, showing, took}
 use Rattle.storing.specs.Stored.{stored, strided, copies}
 use Rattle.widths.specs.Widths.{flagsFit, valuesFit}
 use Rattle.registers.specs.declared.registers.Registers.{Registers}
-use Rattle.registers.proofs.Fields.{limit-pos, field-limit-pos, field-limit-le}
+use Rattle.parts.proofs.Laws.{usable}
+use Rattle.parts.proofs.Rows.{limit-pos, field-limit-pos, field-limit-le}
 
 -- ---- lists of values
 
@@ -112,7 +113,7 @@ holding-below r configuration calibration waiting waiting0 waiting1 slice b p q 
 pub stored-below : (r : Registers) (c : Command) → Below r → Below (stored r c)
 stored-below r Individual b =
     let m = limit (partOf (r .part)) in
-    let values : (a k : ℕ) → allBelow (strided (r .slice) a k 24) m ≡ true = λ a k. below-strided (r .slice) m a k 24 (b .slices) (limit-pos (r .part)) in
+    let values : (a k : ℕ) → allBelow (strided (r .slice) a k 24) m ≡ true = λ a k. below-strided (r .slice) m a k 24 (b .slices) (limit-pos (partOf (r .part))) in
     cond-both Below (eqb (multiplex (r .configuration)) 0) _ _
     (λ _. holding-below r _ _ _ _ _ _ b (values 0 1) (b .waiting1s) (b .slices))
     (λ _. holding-below r _ _ _ _ _ _ b (values 0 2) (values 1 2) (b .slices))
@@ -126,7 +127,7 @@ pub took-below : (r : Registers) (c : Command) (k bit : ℕ) → Below r → Bel
 took-below r c k bit b =
     let v = pushed (getD (r .slice) k 0) bit (fieldLimit (partOf (r .part)) c) in
     let l : v < limit (partOf (r .part)) =
-    lt-of-lt-of-le (mod-lt (getD (r .slice) k 0 * 2 + bit) (field-limit-pos c (r .part))) (field-limit-le c (r .part)) in
+    lt-of-lt-of-le (mod-lt (getD (r .slice) k 0 * 2 + bit) (field-limit-pos (partOf (r .part)) c)) (field-limit-le (partOf (r .part)) (usable (r .part)) c) in
     holding-below r _ _ _ _ _ _ b (b .waiting0s) (b .waiting1s) (below-set (r .slice) (limit (partOf (r .part))) k v (b .slices) l)
 
 -- new flags and active values

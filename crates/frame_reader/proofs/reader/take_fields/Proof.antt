@@ -43,7 +43,7 @@ take-values-requires c κs =
     let more = lengths.bytes-more t in
     let q = subst (λ (k : Command). roomShort k (fieldCount t) (length (a .bytes .now)) (length (a .values .now)) ≡ false) e (s .pre .3) in
     let m : c .before .before .before .before .told-fields .result * field-width .result ≡ slicesBits t = ap₂ (λ (x y : ℕ). x * y) n (field-width .ensures) in
-    (omega (arith, field-width .ensures, lengths.width-small (t .part) (t .command) .1), omega (arith, m, s .pre .2), rw n (ltb-false _ _ q))
+    (omega (arith, field-width .ensures, lengths.width-narrow t), omega (arith, m, s .pre .2), rw n (ltb-false _ _ q))
 
 enum-told-2 : tie.Need-enum-told-2
 enum-told-2 c = search needs

@@ -37,7 +37,7 @@ put-values-requires c κs =
     let e = c .before .enum-told .given .1 in
     let ew = c .before .before .before .field-width .ensures in
     let ev : a .values .now ≡ settings t (a .byte) (a .bytes .now) (a .values .now) = sym (ap (λ (k : Command). settingsOf t k (a .byte) (a .bytes .now) (a .values .now)) e) in
-    (omega (arith, ew, lengths.width-small (t .part) (t .command) .1), omega (arith, entry .pre .2, pieces.length-settings t (a .byte) (a .bytes .now) (a .values .now) list ev ew))
+    (omega (arith, ew, lengths.width-narrow t), omega (arith, entry .pre .2, pieces.length-settings t (a .byte) (a .bytes .now) (a .values .now) list ev ew))
 
 enum-told-2 : tie.Need-enum-told-2
 enum-told-2 c = search needs

@@ -10,7 +10,8 @@ use Rattle.intake.proofs.Slices.{FieldTaken, fieldTaken, slot-width, sl
 use Rattle.intake.proofs.Clauses.{high-end}
 use native.Mathlib.Omega.{arith}
 use Rattle.intake.proofs.Phases.{high-low-at}
-use Rattle.registers.proofs.Fields.{field-width-pos, field-limit-pos}
+use Rattle.parts.proofs.Laws.{usable}
+use Rattle.parts.proofs.Rows.{field-width-pos, field-limit-pos}
 use native.Mathlib.Nat.{mod-lt}
 use borrow.Author.Needs.{needs}
 use Rattle.intake.proofs.slice.gather.Statement.{statement}
@@ -93,7 +94,7 @@ div-k : tie.Need-div-k Inv-loop μ-loop
 div-k c = let o = c .before .before .before in
     let a = o .before .before .before .before .before .before .args in
     let v = o .loop .inv in
-    omega (arith, v .0, field-width-pos (a .command) (a .registers .part))
+    omega (arith, v .0, field-width-pos (partOf (a .registers .part)) (usable (a .registers .part)) (a .command))
 
 mul-v : tie.Need-mul-v Inv-loop μ-loop
 mul-v c = let o = c .before .before .before in
@@ -113,14 +114,14 @@ rem-smaller : tie.Need-rem-smaller Inv-loop μ-loop
 rem-smaller c = let o = c .before .before .before in
     let a = o .before .before .before .before .before .before .args in
     let v = o .loop .inv in
-    omega (arith, v .0, field-width-pos (a .command) (a .registers .part))
+    omega (arith, v .0, field-width-pos (partOf (a .registers .part)) (usable (a .registers .part)) (a .command))
 
 sub-smaller : tie.Need-sub-smaller Inv-loop μ-loop
 sub-smaller c = let o = c .before .before .before in
     let a = o .before .before .before .before .before .before .args in
     let v = o .loop .inv in
     let w = o .before .before .before .before .field-width .result in
-    let p : 0 < w = omega (arith, v .0, field-width-pos (a .command) (a .registers .part)) in
+    let p : 0 < w = omega (arith, v .0, field-width-pos (partOf (a .registers .part)) (usable (a .registers .part)) (a .command)) in
     omega (arith, mod-lt (o .loop .t) p)
 
 sub-smaller-2 : tie.Need-sub-smaller-2 Inv-loop μ-loop
@@ -147,7 +148,7 @@ rem-slice : tie.Need-rem-slice Inv-loop μ-loop
 rem-slice c = let o = c .before .before .before .before .before .before in
     let a = o .before .before .before .before .before .before .args in
     let v = o .loop .inv in
-    omega (arith, v .1, field-limit-pos (a .command) (a .registers .part))
+    omega (arith, v .1, field-limit-pos (partOf (a .registers .part)) (a .command))
 
 mul-slice : tie.Need-mul-slice Inv-loop μ-loop
 mul-slice c = let o = c .before .before .before .before .before .before in

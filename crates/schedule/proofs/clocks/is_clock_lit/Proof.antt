@@ -5,9 +5,9 @@ use native.Mathlib.Omega.{arith}
 use lib.Dec.{ltb, leb}
 use Rattle.parts.specs.declared.part.Constants.{Constants}
 use Rattle.parts.specs.Parts.{partOf}
-use Rattle.parts.proofs.Laws.{limit-clocks}
+use Rattle.parts.proofs.Laws.{usable}
 use Rattle.schedule.specs.Light.{litAt}
-use Rattle.schedule.proofs.Lit.{dark-first, dark-last, lit-inside, edge-le}
+use Rattle.schedule.proofs.Lit.{dark-first, dark-last, lit-inside}
 use borrow.Author.Needs.{needs}
 use Rattle.schedule.proofs.clocks.is_clock_lit.Statement.{statement}
 use Rattle.schedule.proofs.clocks.is_clock_lit.Tie as tie
@@ -27,7 +27,7 @@ returns c = let a = c .before .before .before .before .args in
 
 sub-if2 : tie.Need-sub-if2
 sub-if2 c = let a = c .before .before .before .before .args in
-    subst (λ (k : Constants). k .edge ≤ k .clocks) (sym (c .before .before .before .constants-of .ensures)) (edge-le (a .part))
+    subst (λ (k : Constants). k .edge ≤ k .clocks) (sym (c .before .before .before .constants-of .ensures)) (usable (a .part) .edge)
 
 returns-2 : tie.Need-returns-2
 returns-2 c = let a = c .before .before .before .before .before .args in
@@ -40,7 +40,7 @@ is-output-even-requires c κs = search needs
 sub-result : tie.Need-sub-result
 sub-result c = let s = c .before .before .before .before .before .before in
     let a = s .before .args in
-    subst (λ (k : Constants). a .value ≤ k .clocks) (sym (s .constants-of .ensures)) (omega (arith, s .before .pre, limit-clocks (a .part)))
+    subst (λ (k : Constants). a .value ≤ k .clocks) (sym (s .constants-of .ensures)) (omega (arith, s .before .pre, usable (a .part) .clocks))
 
 -- outside the edge zones, by the value of an even or an odd output
 by-value :

@@ -3,7 +3,7 @@ use Prim.Native.Nat.{_-_, _<_, _≤_, max}
 use native.Mathlib.Omega.{arith}
 use Rattle.parts.specs.declared.part.Constants.{Constants}
 use Rattle.parts.specs.Parts.{partOf}
-use Rattle.parts.proofs.Laws.{limit-clocks}
+use Rattle.parts.proofs.Laws.{usable}
 use Rattle.schedule.specs.Light.{litFrom}
 use borrow.Author.Needs.{needs}
 use Rattle.schedule.proofs.run.lit_from.Statement.{statement}
@@ -20,7 +20,7 @@ cast-by-value c = search needs
 
 sub-by-value : tie.Need-sub-by-value
 sub-by-value c = let a = c .before .before .before .args in
-    subst (λ (k : Constants). a .value ≤ k .clocks) (sym (c .before .before .constants-of .ensures)) (omega (arith, c .before .before .before .pre, limit-clocks (a .part)))
+    subst (λ (k : Constants). a .value ≤ k .clocks) (sym (c .before .before .constants-of .ensures)) (omega (arith, c .before .before .before .pre, usable (a .part) .clocks))
 
 is-output-even-requires : tie.Need-is-output-even-requires
 is-output-even-requires c κs = search needs

@@ -5,7 +5,7 @@ use borrow.Author.Tests.{not-true, not-false}
 use Rattle.parts.specs.declared.part.Constants.{Constants}
 use Rattle.parts.specs.Parts.{partOf}
 use Rattle.schedule.specs.Light.{litTo}
-use Rattle.schedule.proofs.Lit.{edge-le}
+use Rattle.parts.proofs.Laws.{usable}
 use borrow.Author.Needs.{needs}
 use Rattle.schedule.proofs.run.lit_to.Statement.{statement}
 use Rattle.schedule.proofs.run.lit_to.Tie as tie
@@ -20,7 +20,7 @@ cast-other-edge-2 : tie.Need-cast-other-edge-2
 cast-other-edge-2 c = search needs
 
 sub-other-edge : tie.Need-sub-other-edge
-sub-other-edge c = subst (λ (k : Constants). k .edge ≤ k .clocks) (sym (c .before .before .constants-of .ensures)) (edge-le (c .before .before .before .args .part))
+sub-other-edge c = subst (λ (k : Constants). k .edge ≤ k .clocks) (sym (c .before .before .constants-of .ensures)) (usable (c .before .before .before .args .part) .edge)
 
 is-output-even-requires : tie.Need-is-output-even-requires
 is-output-even-requires c κs = search needs

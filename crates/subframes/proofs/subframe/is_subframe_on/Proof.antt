@@ -3,7 +3,8 @@ use Prim.Native.Nat.{ℕ}
 use native.Mathlib.Omega.{arith}
 use lib.Dec.{ltb}
 use Rattle.subframes.specs.Subframes.{on}
-use Rattle.subframes.proofs.Subframes.{subframes-within, level-lt}
+use Rattle.parts.proofs.Laws.{usable}
+use Rattle.subframes.proofs.Subframes.{level-lt}
 use borrow.Author.Needs.{needs}
 use Rattle.subframes.proofs.subframe.is_subframe_on.Statement.{statement}
 use Rattle.subframes.proofs.subframe.is_subframe_on.Tie as tie
@@ -19,7 +20,7 @@ level-of-requires c κs = search needs
 
 on-first-requires : tie.Need-on-first-requires
 on-first-requires c κs = let a = c .before .before .args in
-    let w = subframes-within (a .part) (a .configuration) in
+    let w = usable (a .part) .subframes (a .configuration) in
     let l = level-lt (a .part) (a .configuration) (a .global) in
     omega (arith, c .before .subframes-of .ensures, c .level-of .ensures)
 
@@ -28,7 +29,7 @@ add-on-first c = search needs
 
 on-first-requires-2 : tie.Need-on-first-requires-2
 on-first-requires-2 c κs = let a = c .before .before .before .args in
-    let w = subframes-within (a .part) (a .configuration) in
+    let w = usable (a .part) .subframes (a .configuration) in
     let l = level-lt (a .part) (a .configuration) (a .global) in
     omega (arith, c .before .before .subframes-of .ensures, c .before .level-of .ensures)
 

@@ -5,7 +5,8 @@ use lib.IntN.{pos, _-ℤ_}
 use mir.Syntax.{w32}
 use mir.Facts.{toZ-ofZ}
 use Rattle.subframes.specs.Subframes.{onCount, lead}
-use Rattle.subframes.proofs.Subframes.{subframes-within, level-lt, first-window, count-quotients, product-lt}
+use Rattle.parts.proofs.Laws.{usable}
+use Rattle.subframes.proofs.Subframes.{level-lt, first-window, count-quotients, product-lt}
 use borrow.Author.Needs.{needs}
 use Rattle.subframes.proofs.subframe.window_lead.Statement.{statement}
 use Rattle.subframes.proofs.subframe.window_lead.Tie as tie
@@ -29,7 +30,7 @@ within c =
     let p = c .before .before .before .before .pre in
     let q = c .before .on-first .ensures in
     let r = c .on-first2 .ensures in
-    let w : s .result ≤ 128 = omega (arith, subframes-within (a .part) (a .configuration), s .ensures) in
+    let w : s .result ≤ 128 = omega (arith, usable (a .part) .subframes (a .configuration), s .ensures) in
     let l : g .result < s .result = omega (arith, level-lt (a .part) (a .configuration) (a .global), s .ensures, g .ensures) in
     let f = first-window (s .result) (g .result) l (a .from) (a .w) in
     record {
@@ -54,13 +55,13 @@ add-on-first c = search needs
 
 on-first-requires : tie.Need-on-first-requires
 on-first-requires c κs = let a = c .before .before .args in
-    let w = subframes-within (a .part) (a .configuration) in
+    let w = usable (a .part) .subframes (a .configuration) in
     let l = level-lt (a .part) (a .configuration) (a .global) in
     omega (arith, c .before .before .pre, c .before .subframes-of .ensures, c .level-of .ensures)
 
 on-first-requires-2 : tie.Need-on-first-requires-2
 on-first-requires-2 c κs = let a = c .before .before .before .args in
-    let w = subframes-within (a .part) (a .configuration) in
+    let w = usable (a .part) .subframes (a .configuration) in
     let l = level-lt (a .part) (a .configuration) (a .global) in
     omega (arith, c .before .before .before .pre, c .before .before .subframes-of .ensures, c .before .level-of .ensures)
 

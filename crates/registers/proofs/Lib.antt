@@ -1,2 +1,0 @@
--- Laws of what a device holds.
-pub mod Fields

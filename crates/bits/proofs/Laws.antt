@@ -6,10 +6,10 @@ use mathlib.Core.Bool.{Bool, true, false}
 use mathlib.Core.List.{List, [], _∷_, _++_, append-assoc, append-nil}
 use Prim.Native.Nat.{ℕ, zero, suc, _+_, _-_, _*_, _/_, _%_, _^_, _≤_, _<_}
 use native.Mathlib.Nat.{zero-add, add-zero, mul-mod-left, suc-add, add-comm, add-assoc, add-mul, mul-assoc, mod-lt, mod-eq-of-lt, suc-mul, zero-mul, pow-suc, zero-div, mul-comm, mod-one, lt-of-lt-of-le}
-use native.Mathlib.Numerals.{one-add}
+use native.Mathlib.Numerals.{one-add, add-one}
 use native.Mathlib.Omega.{arith}
-use lib.ListN.{length, getD, take, drop, replicate, length-append, length-replicate, length-take, length-drop, take-append-drop}
-use lib.Seq.{take-at, drop-at, take-add, take-append-add, drop-append-add, length-take-le, take-length, take-append-seam, drop-append-seam, drop-drop}
+use lib.ListN.{length, getD, set, take, drop, replicate, length-append, length-replicate, length-take, length-drop, take-append-drop}
+use lib.Seq.{take-at, drop-at, take-add, take-append-add, drop-append-add, length-take-le, take-length, take-append-seam, drop-append-seam, drop-drop, paste, paste-suc}
 use lib.Arith.{digits-lt}
 use lib.Bits.{bitOr, or-shifted}
 use lib.Pow.{pow-add, pow-pos, pow-mono, shr-shr, shl-shr, high, low, field, mod-mod-pow, mod-pow-add}
@@ -306,3 +306,17 @@ pub over-append : (ys zs l : List ℕ) → overAt (length ys) zs (over ys l) ≡
 over-append ys zs l =
     let n : 0 + length ys ≡ length ys = zero-add (length ys) in
     sym (ap₂ (λ (k : ℕ) (z : List ℕ). overAt k zs z) n (overAt-zero ys l)) ∙ overAt-append 0 ys zs l (omega arith) ∙ overAt-zero (ys ++ zs) l
+
+-- ---- loops that write from the front
+
+pub paste-over : (ys l : List ℕ) (n : ℕ) → length ys ≡ n → paste l 0 ys n ≡ over ys l
+unfolding over
+paste-over ys l n e = ap₂ (λ (k : ℕ) (xs : List ℕ). xs ++ drop k l) (zero-add n ∙ sym e) (ap (λ (k : ℕ). take k ys) (sym e) ∙ take-length ys)
+
+-- a turn: the next element at its place
+pub paste-next : (ys l out : List ℕ) (i v : ℕ) → out ≡ paste l 0 ys i → i < length ys → i < length l → v ≡ getD ys i 0 → set out i v ≡ paste l 0 ys (i + 1)
+paste-next ys l out i v e h k q =
+    ap₂ (λ (xs : List ℕ) (x : ℕ). set xs i x) e q
+    ∙ ap (λ (j : ℕ). set (paste l 0 ys i) j (getD ys i 0)) (sym (zero-add i))
+    ∙ paste-suc l 0 ys i 0 (rw zero-add k) h
+    ∙ ap (λ (j : ℕ). paste l 0 ys j) (sym (add-one i))

@@ -10,7 +10,7 @@ use lib.ListN.{length, getD, drop, take, replicate}
 use borrow.Author.Tests.{le-ltb, eqb-true, ltb-true, not-false}
 use Rattle.bits.specs.Bits.{fields, over}
 use Rattle.bits.proofs.Laws as bit
-use Rattle.tables.specs.Lists.{allBelow}
+use Rattle.tables.specs.Lists.{allBelow, allSame}
 use Rattle.tables.specs.Refusals.{_when_, first, answer, content}
 use Rattle.parts.specs.Parts.{partOf, limit, subframes, fieldWidth}
 use Rattle.tables.proofs.Rows as rows
@@ -19,7 +19,7 @@ use Rattle.parts.specs.declared.command.Command.{Command}
 use Rattle.parts.specs.declared.command.Command.the-variants.{Individual, Calibration, Global, Configuration}
 use Rattle.frames.specs.Frames.{fieldCount, fieldBits, slicesBits, frameBits, frameOf, frameLength, tailHigh, toldRows}
 use Rattle.frame_writer.specs.Writing.{settingsOf, settings, listWrong, valueHigh, writeTable, writeRefusal, written, writtenOut}
-use Rattle.frame_reader.specs.Reading.{heldFields, allSame, roomShort, copyHigh, copiesDiffer, bodyRows, readTable, readRefusal, found, bytesFound, valuesFound, read, readBytes, readValues}
+use Rattle.frame_reader.specs.Reading.{heldFields, roomShort, copyHigh, copiesDiffer, bodyRows, readTable, readRefusal, found, bytesFound, valuesFound, read, readBytes, readValues}
 use Rattle.frames.specs.declared.told.Told.{Told}
 use Rattle.frames.specs.declared.told.Tail.{Tail}
 use Rattle.frame_writer.specs.declared.answer.Written.the-variants as W

@@ -13,7 +13,8 @@ use Rattle.tables.specs.Lists.{allBelow}
 use Rattle.frames.specs.Frames.{fieldCount, fieldBits}
 use Rattle.frames.specs.declared.told.Told.{Told}
 use Rattle.frames.proofs.Lengths.{count-some}
-use Rattle.frame_reader.specs.Reading.{heldFields, allSame}
+use Rattle.tables.specs.Lists.{allSame}
+use Rattle.frame_reader.specs.Reading.{heldFields}
 
 module _ (t : Told) (frame : List ℕ) where
   pub held-split : 3 ≤ length frame → heldFields t frame ≡ split (fieldBits t) (fieldCount t) (fields 8 (drop 3 frame))

@@ -2,18 +2,12 @@
 use mathlib.Core.Path.{_≡_, refl, sym, ap, ap₂, _∙_}
 use mathlib.Core.Bool.{Bool, true, _&&_}
 use mathlib.Core.List.{List, [], _∷_}
-use Prim.Native.Nat.{ℕ, zero, suc, _+_, _<_}
-use native.Mathlib.Numerals.{add-one}
+use Prim.Native.Nat.{ℕ, zero, suc}
 use lib.Dec.{eqb}
-use lib.ListN.{length, getD, drop, replicate}
-use lib.Seq.{drop-cons}
+use lib.ListN.{length, replicate}
 use borrow.Author.Tests.{eqb-true, eq-eqb}
 use Rattle.tables.proofs.Booleans.{and-left, and-right}
-use Rattle.frame_reader.specs.Reading.{allSame}
-
--- the rest of a list is its next byte and what comes after
-pub allSame-drop : (xs : List ℕ) (b i : ℕ) → i < length xs → allSame (drop i xs) b ≡ (eqb (getD xs i 0) b && allSame (drop (i + 1) xs) b)
-allSame-drop xs b i h = rw (add-one, drop-cons xs i 0)
+use Rattle.tables.specs.Lists.{allSame}
 
 pub same-replicate : (n b : ℕ) → allSame (replicate n b) b ≡ true
 same-replicate zero b = refl

@@ -6,7 +6,7 @@ use mathlib.Core.List.{List, [], _∷_, _++_}
 use lib.Dec.{eqb, ltb}
 use lib.ListN.{length, getD, drop}
 use Rattle.bits.specs.Bits.{fields, split, over}
-use Rattle.tables.specs.Lists.{allBelow}
+use Rattle.tables.specs.Lists.{allBelow, allSame}
 use Rattle.tables.specs.Refusals.{Row, _when_, first, answer, content}
 use Rattle.parts.specs.Parts.{partOf, subframes}
 use Rattle.parts.specs.declared.command.Command.{Command}
@@ -20,11 +20,6 @@ use Rattle.frame_reader.specs.declared.answer.Read.the-variants as R
 -- the fields that a frame holds
 unfoldable pub heldFields : Told → List ℕ → List ℕ
 heldFields t frame = split (fieldBits t) (fieldCount t) (drop 24 (fields 8 frame))
-
--- each byte is b
-abbrev pub allSame : List ℕ → ℕ → Bool
-allSame [] b = true
-allSame (x ∷ xs) b = eqb x b && allSame xs b
 
 -- 5: the lent list of the command is too short
 abbrev pub roomShort : Command → ℕ → ℕ → ℕ → Bool

@@ -166,19 +166,6 @@ number-next states at k h =
       single true = refl
       single false = refl
 
--- ---- loops that write from the front
-
-pub paste-over : (ys l : List ℕ) (n : ℕ) → length ys ≡ n → paste l 0 ys n ≡ over ys l
-unfolding over
-paste-over ys l n e = ap₂ (λ (k : ℕ) (xs : List ℕ). xs ++ drop k l) (zero-add n ∙ sym e) (ap (λ (k : ℕ). take k ys) (sym e) ∙ take-length ys)
-
--- a turn: the next element at its place
-pub paste-next : (ys l out : List ℕ) (i v : ℕ) → out ≡ paste l 0 ys i → i < length ys → i < length l → v ≡ getD ys i 0 → set out i v ≡ paste l 0 ys (i + 1)
-paste-next ys l out i v e h k q =
-    ap₂ (λ (xs : List ℕ) (x : ℕ). set xs i x) e q
-    ∙ ap (λ (j : ℕ). set (paste l 0 ys i) j (getD ys i 0)) (sym (zero-add i))
-    ∙ paste-suc l 0 ys i 0 (rw zero-add k) h
-    ∙ ap (λ (j : ℕ). paste l 0 ys j) (sym (add-one i))
 
 -- twice the load bit
 pub load-le : (t : Bool) → cond t 0 2 ≤ 2

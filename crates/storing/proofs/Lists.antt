@@ -1,13 +1,13 @@
 -- The length and the elements of `strided`, by induction on the number of values; values that stand one after another are a `take`, by
--- their elements. Assumes nothing.
+-- their elements. The same of a slice's bytes. Assumes nothing.
 use mathlib.Core.Path.{_≡_, refl, ap, sym, _∙_}
-use mathlib.Core.List.{List}
+use mathlib.Core.List.{List, map}
 use Prim.Native.Nat.{ℕ, zero, suc, _+_, _*_, _<_, _≤_}
 use native.Mathlib.Nat.{mul-suc, mul-zero, add-zero, le-of-suc-le-suc, not-suc-le-zero}
 use native.Mathlib.Omega.{arith}
-use lib.ListN.{length, getD, take, drop, length-drop}
+use lib.ListN.{length, getD, take, drop, length-drop, length-map, List·getD-map}
 use lib.Seq.{ext-getD, getD-take, getD-drop, length-take-le}
-use Rattle.storing.specs.Stored.{strided}
+use Rattle.storing.specs.Stored.{strided, byteOf}
 
 pub length-strided : (s : List ℕ) (a k n : ℕ) → length (strided s a k n) ≡ n
 unfolding strided
@@ -29,3 +29,11 @@ strided-take s a n h =
     (λ j l. let k : j < n = omega (arith, l, length-strided s a 1 n) in
     let one : a + 1 * j ≡ a + j = omega arith in
     getD-strided s a 1 n j k ∙ ap (λ (m : ℕ). getD s m 0) one ∙ sym (getD-take n (drop a s) j 0 k ∙ getD-drop a s j 0))
+
+-- ---- the low bytes of the first fields
+
+pub length-bytes : (n : ℕ) (s : List ℕ) → n ≤ length s → length (map byteOf (take n s)) ≡ n
+length-bytes n s h = length-map (take n s) byteOf ∙ length-take-le n s h
+
+pub getD-bytes : (n : ℕ) (s : List ℕ) (i : ℕ) → i < n → getD (map byteOf (take n s)) i 0 ≡ byteOf (getD s i 0)
+getD-bytes n s i h = List·getD-map byteOf (take n s) i 0 ∙ ap byteOf (getD-take n s i 0 h)

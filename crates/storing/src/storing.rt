@@ -1,34 +1,23 @@
-// What the last bit of a slice stores: the individual values, the calibration, the waiting global byte or the configuration.
+// What the last bit of a slice stores: the individual values, the calibration, the waiting global byte or the configuration. Only the places that
+// the part uses are written.
 ghost use mathlib.Core.Path.{_≡_};
-ghost use Prim.Native.Nat.{_+_, _*_, _<_};
-ghost use Rattle.storing.specs.Stored.{byteAt, strided, copies, stored, storedValues, storedCalibration, storedGlobal, storedConfiguration};
+ghost use mathlib.Core.List.{map};
+ghost use Prim.Native.Nat.{_+_, _*_, _<_, _≤_};
+ghost use lib.ListN.{take, getD};
+ghost use Rattle.bits.specs.Bits.{over};
+ghost use Rattle.tables.specs.Lists.{allSame};
+ghost use Rattle.storing.specs.Stored.{byteOf, strided, stored, storedValues, storedCalibration, storedGlobal, storedConfiguration, copies};
 use parts::Command;
 use registers::Registers;
 
-// The low byte of a field of the slice.
-fn byte_at(slice: [u16; 48], at: usize) -> u8
-    requires { ⌜ at < 48 ⌝ }
-    ensures { λ r. ⌜ r ≡ byteAt slice at ⌝ }
+// Values of the slice, from a first one on, each a stride after the last, over the first values that a device holds.
+fn every(slice: [u16; 48], first: usize, stride: usize, count: usize, held: [u16; 24]) -> [u16; 24]
+    requires { ⌜ (first + stride * 23 < 48) × (count ≤ 24) ⌝ }
+    ensures { λ r. ⌜ r ≡ over (strided slice first stride count) held ⌝ }
 {
-    (slice[at] % 256) as u8
-}
-
-// The three bytes of a slice are the same.
-fn same_copies(slice: [u16; 48]) -> bool
-    ensures { λ r. ⌜ r ≡ copies slice ⌝ }
-{
-    let first = byte_at(slice, 0);
-    first == byte_at(slice, 1) && first == byte_at(slice, 2)
-}
-
-// 24 values of the slice, from a first one on, each a stride after the last.
-fn every(slice: [u16; 48], first: usize, stride: usize) -> [u16; 24]
-    requires { ⌜ first + stride * 23 < 48 ⌝ }
-    ensures { λ r. ⌜ r ≡ strided slice first stride 24 ⌝ }
-{
-    let mut values = [0u16; 24];
+    let mut values = held;
     let mut i: usize = 0;
-    while i < 24 {
+    while i < count {
         let at = first + stride * i;
         values[i] = slice[at];
         i += 1;
@@ -36,63 +25,100 @@ fn every(slice: [u16; 48], first: usize, stride: usize) -> [u16; 24]
     values
 }
 
-// The 24 values become MUX0, and MUX1 stays; multiplexed, of the 48 values each second one becomes MUX0, and the others MUX1.
+// The low bytes of the first fields of the slice, over the first bytes that a device holds.
+fn bytes_over(slice: [u16; 48], count: usize, held: [u8; 3]) -> [u8; 3]
+    requires { ⌜ count ≤ 3 ⌝ }
+    ensures { λ r. ⌜ r ≡ over (map byteOf (take count slice)) held ⌝ }
+{
+    let mut bytes = held;
+    let mut i: usize = 0;
+    while i < count {
+        bytes[i] = (slice[i] % 256) as u8;
+        i += 1;
+    }
+    bytes
+}
+
+// The low bytes of the first fields of the slice are all the same.
+fn same_copies(slice: [u16; 48], count: usize) -> bool
+    requires { ⌜ count ≤ 3 ⌝ }
+    ensures { λ r. ⌜ r ≡ allSame (map byteOf (take count slice)) (byteOf (getD slice 0 0)) ⌝ }
+{
+    let first = slice[0] % 256;
+    let mut i: usize = 0;
+    while i < count {
+        if slice[i] % 256 != first {
+            return false;
+        }
+        i += 1;
+    }
+    true
+}
+
+// The values become MUX0, and MUX1 stays; multiplexed, each second value becomes MUX0, and the others MUX1.
 fn store_values(registers: Registers) -> Registers
     ensures { λ r. ⌜ r ≡ storedValues registers ⌝ }
 {
+    let outputs = parts::outputs_of(registers.part);
     let slice = registers.slice;
+    let waiting0 = registers.waiting0;
+    let waiting1 = registers.waiting1;
     let mut next = registers;
     if next.configuration % 2 == 0 {
-        let values = every(slice, 0, 1);
+        let values = every(slice, 0, 1, outputs, waiting0);
         next.waiting0 = values;
         next
     } else {
-        let even = every(slice, 0, 2);
-        let odd = every(slice, 1, 2);
+        let even = every(slice, 0, 2, outputs, waiting0);
+        let odd = every(slice, 1, 2, outputs, waiting1);
         next.waiting0 = even;
         next.waiting1 = odd;
         next
     }
 }
 
-// The three bytes become the calibration of the banks.
+// The bytes become the calibration of the banks.
 fn store_calibration(registers: Registers) -> Registers
     ensures { λ r. ⌜ r ≡ storedCalibration registers ⌝ }
 {
+    let banks = parts::constants_of(registers.part).banks as usize;
     let slice = registers.slice;
-    let blue = byte_at(slice, 0);
-    let green = byte_at(slice, 1);
-    let red = byte_at(slice, 2);
-    let bytes = [blue, green, red];
+    let held = registers.calibration;
+    let bytes = bytes_over(slice, banks, held);
     let mut next = registers;
     next.calibration = bytes;
     next
 }
 
-// The byte becomes the waiting global byte, where its three copies are the same.
+// A slice of bytes holds copies of one.
+fn has_copies(registers: Registers) -> bool
+    ensures { λ r. ⌜ r ≡ copies registers ⌝ }
+{
+    let banks = parts::constants_of(registers.part).banks as usize;
+    let slice = registers.slice;
+    same_copies(slice, banks)
+}
+
+// The byte becomes the waiting global byte, where its copies are the same.
 fn store_global(registers: Registers) -> Registers
     ensures { λ r. ⌜ r ≡ storedGlobal registers ⌝ }
 {
-    let slice = registers.slice;
-    if same_copies(slice) {
-        let byte = byte_at(slice, 0);
+    if has_copies(registers) {
         let mut next = registers;
-        next.waiting = byte;
+        next.waiting = (registers.slice[0] % 256) as u8;
         next
     } else {
         registers
     }
 }
 
-// The byte becomes the configuration, where its three copies are the same.
+// The byte becomes the configuration, where its copies are the same.
 fn store_configuration(registers: Registers) -> Registers
     ensures { λ r. ⌜ r ≡ storedConfiguration registers ⌝ }
 {
-    let slice = registers.slice;
-    if same_copies(slice) {
-        let byte = byte_at(slice, 0);
+    if has_copies(registers) {
         let mut next = registers;
-        next.configuration = byte;
+        next.configuration = (registers.slice[0] % 256) as u8;
         next
     } else {
         registers

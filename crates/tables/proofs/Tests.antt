@@ -8,16 +8,19 @@ use Prim.Native.Nat.{ℕ, _+_, _<_, _^_}
 use native.Mathlib.Numerals.{add-one}
 use native.Mathlib.Omega.{arith}
 use lib.Bits.{bitOr, or-lt, or-add-and, and-le-l, and-le-r}
-use lib.Dec.{ltb}
+use lib.Dec.{eqb, ltb}
 use lib.ListN.{length, getD, drop}
 use lib.Seq.{drop-cons}
 use borrow.Author.Tests.{ltb-true, ltb-false, lt-ltb, le-ltb}
-use Rattle.tables.specs.Lists.{allBelow, orAll}
+use Rattle.tables.specs.Lists.{allBelow, allSame, orAll}
 use Rattle.tables.proofs.Booleans.{and-true, and-assoc}
 
 -- the rest of a list is its next number and what comes after
 pub allBelow-drop : (xs : List ℕ) (m i : ℕ) → i < length xs → allBelow (drop i xs) m ≡ (ltb (getD xs i 0) m && allBelow (drop (i + 1) xs) m)
 allBelow-drop xs m i h = rw (add-one, drop-cons xs i 0)
+
+pub allSame-drop : (xs : List ℕ) (b i : ℕ) → i < length xs → allSame (drop i xs) b ≡ (eqb (getD xs i 0) b && allSame (drop (i + 1) xs) b)
+allSame-drop xs b i h = rw (add-one, drop-cons xs i 0)
 
 -- by which arm control came
 pub by-way : {A B C : Type 0} → A ⊎ B → (A → C) → (B → C) → C

@@ -3,7 +3,7 @@ use Prim.Native.Nat.{ℕ}
 use mathlib.Core.Bool.{Bool, true, _&&_}
 use mathlib.Core.List.{List, [], _∷_}
 use lib.Bits.{bitOr}
-use lib.Dec.{ltb}
+use lib.Dec.{eqb, ltb}
 
 -- each passes a test
 abbrev pub every : {A : Type 0} → (A → Bool) → List A → Bool
@@ -14,6 +14,11 @@ every f (x ∷ xs) = f x && every f xs
 abbrev pub allBelow : List ℕ → ℕ → Bool
 allBelow [] m = true
 allBelow (x ∷ xs) m = ltb x m && allBelow xs m
+
+-- each number is b
+abbrev pub allSame : List ℕ → ℕ → Bool
+allSame [] b = true
+allSame (x ∷ xs) b = eqb x b && allSame xs b
 
 -- the bits of a number and of each of a list
 abbrev pub orAll : List ℕ → ℕ → ℕ

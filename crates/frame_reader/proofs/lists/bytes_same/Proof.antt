@@ -1,5 +1,5 @@
 -- After i turns: the list passes where nothing differed so far and the rest passes.
-use Rattle.frame_reader.specs.Reading.{allSame}
+use Rattle.tables.specs.Lists.{allSame}
 use mathlib.Core.Bool.{_&&_}
 use borrow.Author.Tests.{eq-eqb, ne-eqb}
 use borrow.Author.Needs.{needs}
@@ -9,7 +9,7 @@ use mathlib.Core.Path.{_≡_, refl}
 use Prim.Native.Nat.{_≤_, _-_}
 use Rattle.tables.proofs.Tests as loops
 use Rattle.tables.proofs.Booleans.{and-false, and-true}
-use Rattle.frame_reader.proofs.Tests.{allSame-drop}
+use Rattle.tables.proofs.Tests.{allSame-drop}
 use Rattle.frame_reader.proofs.lists.bytes_same.Statement.{statement}
 use Rattle.frame_reader.proofs.lists.bytes_same.Tie as tie
 

@@ -1,5 +1,5 @@
 -- The bytes behind the header are a part of the frame.
-use Rattle.frame_reader.specs.Reading.{allSame}
+use Rattle.tables.specs.Lists.{allSame}
 use lib.ListN.{take, drop, getD}
 use Prim.Native.Nat.{ℕ, _+_, _-_}
 use mathlib.Core.Path.{_≡_, ap, _∙_}

@@ -1,6 +1,6 @@
 -- The bytes so far are the first bytes of the packed data bits, pasted over what was lent. Assumes nothing.
 use Rattle.serial.specs.States.{dataBits}
-use Rattle.serial.proofs.Laws.{paste-next, paste-over}
+use Rattle.bits.proofs.Laws.{paste-next, paste-over}
 use Rattle.bits.specs.Bits.{bytesOf, bytesFor}
 use Rattle.bits.proofs.Laws.{length-bytesOf}
 use mathlib.Core.Path.{_≡_, refl, sym, ap, _∙_}

@@ -1,6 +1,7 @@
 -- The states so far are the first states of the frame, pasted over what was lent. Assumes nothing.
 use Rattle.serial.specs.States.{frameStates}
-use Rattle.serial.proofs.Laws.{length-frameStates, getD-frameStates, paste-next, paste-over, load-le}
+use Rattle.bits.proofs.Laws.{paste-next, paste-over}
+use Rattle.serial.proofs.Laws.{length-frameStates, getD-frameStates, load-le}
 use mathlib.Core.Path.{_≡_, refl, sym, ap, _∙_}
 use Prim.Native.Nat.{ℕ, _+_, _-_, _/_, _%_, _^_, _≤_, _<_, _*_}
 use native.Mathlib.Omega.{arith}

@@ -1,27 +1,28 @@
-use native.Mathlib.Nat.{ne-of-lt, mul-le-mul-left, not-suc-le-zero}
-use lib.ListN.{set, length-set, length, getD}
-use mathlib.Core.Path.{sym, _∙_, _≡_, refl}
-use lib.Seq.{ext-getD, getD-set-same, getD-set-other}
-use borrow.Author.Count.{below-more}
+use native.Mathlib.Nat.{mul-le-mul-left}
+use lib.ListN.{length, length-set}
+use lib.Seq.{paste, paste-zero}
+use mathlib.Core.Path.{sym, _∙_, _≡_}
 use borrow.Author.Needs.{needs}
 use native.Mathlib.Omega.{arith}
-use Prim.Native.Nat.{ℕ, _+_, _≤_, _<_, _-_, _*_}
+use Prim.Native.Nat.{_≤_, _-_}
+use Rattle.bits.proofs.Laws.{paste-over, paste-next}
+use Rattle.storing.specs.Stored.{strided}
 use Rattle.storing.proofs.Lists.{length-strided, getD-strided}
 use Rattle.storing.proofs.storing.every.Statement.{statement}
 use Rattle.storing.proofs.storing.every.Tie as tie
 
 abbrev Inv-loop : tie.InvT-loop
-Inv-loop first stride slice values₀ i₀ values i =
-    (i ≤ 24) × (length values ≡ 24) × ((j : ℕ) → j < i → getD values j 0 ≡ getD slice (first + stride * j) 0)
+Inv-loop first stride count slice values₀ i₀ values i =
+    (i ≤ count) × (length values ≡ 24) × (values ≡ paste values₀ 0 (strided slice first stride count) i)
 
 abbrev μ-loop : tie.MeasureT-loop
-μ-loop first stride slice values₀ i₀ values i = 24 - i
+μ-loop first stride count slice values₀ i₀ values i = count - i
 
 at-most : (c : tie.In-loop Inv-loop μ-loop) → c .before .loop .i ≤ 23
-at-most c = omega arith
+at-most c = omega (arith, c .before .before .pre .1)
 
 loop-holds : tie.Need-loop-holds Inv-loop μ-loop
-loop-holds c = (search needs, refl, λ j h. absurd (not-suc-le-zero h))
+loop-holds c = (search needs, search needs, paste-zero (c .args .held) 0 (strided (c .args .t1) (c .args .first) (c .args .stride) (c .args .count)))
 
 mul-at : tie.Need-mul-at Inv-loop μ-loop
 mul-at c = omega (arith, mul-le-mul-left (c .before .before .args .stride) (at-most c))
@@ -36,34 +37,37 @@ array-read-values : tie.Need-array-read-values Inv-loop μ-loop
 array-read-values c = omega (arith, mul-le-mul-left (c .before .before .args .stride) (at-most c))
 
 mul-values-2 : tie.Need-mul-values-2 Inv-loop μ-loop
-mul-values-2 c = search needs
+mul-values-2 c = omega (arith, at-most c)
 
 array-write-values : tie.Need-array-write-values Inv-loop μ-loop
-array-write-values c = search needs
+array-write-values c = omega (arith, at-most c)
 
 add-i : tie.Need-add-i Inv-loop μ-loop
-add-i c = search needs
+add-i c = omega (arith, at-most c)
 
 loop-less : tie.Need-loop-less Inv-loop μ-loop
 loop-less c = search needs
 
 loop-again : tie.Need-loop-again Inv-loop μ-loop
-loop-again c = let n = c .before .before .args in
-    let i = c .before .loop .i in
-    let vs = c .before .loop .values in
-    let short : i < length vs = omega arith in (
+loop-again c =
+    let a = c .before .before .args in
+    let l = c .before .loop in
+    let ys = strided (a .t1) (a .first) (a .stride) (a .count) in
+    let short : length (a .held) ≡ 24 = search needs in (
       search needs,
-      simp length-set (c .before .loop .inv .1),
-      below-more (λ (j : ℕ). getD (set vs i (getD (n .t1) (n .first + n .stride * i) 0)) j 0 ≡ getD (n .t1) (n .first + n .stride * j) 0) i
-          (λ j h. getD-set-other vs i j _ 0 (λ e. ne-of-lt h e) ∙ c .before .loop .inv .2 j h)
-          (getD-set-same vs i _ 0 short),
+      simp length-set (l .inv .1),
+      paste-next ys (a .held) (l .values) (l .i) _ (l .inv .2) (omega (arith, c .loop-test .taken, length-strided (a .t1) (a .first) (a .stride) (a .count)))
+          (omega (arith, at-most c, short))
+          (sym (getD-strided (a .t1) (a .first) (a .stride) (a .count) (l .i) (c .loop-test .taken))),
     )
 
 returns : tie.Need-returns Inv-loop μ-loop
-returns c = let e : c .before .loop .i ≡ 24 = omega arith in
-    let n = c .before .before .args in
-    ext-getD 0 _ _ (c .before .loop .inv .1 ∙ sym (length-strided (n .t1) (n .first) (n .stride) 24))
-    (λ j h. c .before .loop .inv .2 j (omega arith) ∙ sym (getD-strided (n .t1) (n .first) (n .stride) 24 j (omega arith)))
+returns c =
+    let a = c .before .before .args in
+    let l = c .before .loop in
+    let e : length (strided (a .t1) (a .first) (a .stride) (a .count)) ≡ l .i =
+        length-strided (a .t1) (a .first) (a .stride) (a .count) ∙ omega (arith, c .loop-test .left) in
+    l .inv .2 ∙ paste-over (strided (a .t1) (a .first) (a .stride) (a .count)) (a .held) (l .i) e
 
 pub every-spec : {M : Type 1} → statement M
 every-spec =

@@ -3,17 +3,21 @@ use borrow.Author.Needs.{needs}
 use Rattle.storing.proofs.storing.store_global.Statement.{statement}
 use Rattle.storing.proofs.storing.store_global.Tie as tie
 
-same-copies-requires : tie.Need-same-copies-requires
-same-copies-requires c κs = search needs
+has-copies-requires : tie.Need-has-copies-requires
+has-copies-requires c κs = search needs
 
-byte-at-requires : tie.Need-byte-at-requires
-byte-at-requires c κs = search needs
+element-copy-out-next : tie.Need-element-copy-out-next
+element-copy-out-next c = search needs
+
+cast-next : tie.Need-cast-next
+cast-next c = search needs
 
 returns : tie.Need-returns
-returns c = rw (c .byte-at .ensures, sym (c .before .before .same-copies .ensures) ∙ c .before .if1 .taken)
+returns c = rw (sym (c .before .before .has-copies .ensures) ∙ c .before .if1 .taken)
 
 returns-2 : tie.Need-returns-2
-returns-2 c = rw (sym (c .before .same-copies .ensures) ∙ c .if1 .left)
+returns-2 c = rw (sym (c .before .has-copies .ensures) ∙ c .if1 .left)
 
 pub store-global-spec : {M : Type 1} → statement M
-store-global-spec = tie.close (tie.spec same-copies-requires byte-at-requires returns returns-2)
+store-global-spec =
+    tie.close (tie.spec has-copies-requires element-copy-out-next cast-next returns returns-2)

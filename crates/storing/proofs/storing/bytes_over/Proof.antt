@@ -1,0 +1,83 @@
+use lib.ListN.{length, length-set, take}
+use lib.Seq.{paste, paste-zero}
+use mathlib.Core.List.{map}
+use mathlib.Core.Path.{sym, _∙_, _≡_}
+use borrow.Author.Needs.{needs}
+use native.Mathlib.Omega.{arith}
+use Prim.Native.Nat.{_≤_, _-_}
+use Rattle.bits.proofs.Laws.{paste-over, paste-next}
+use Rattle.storing.specs.Stored.{byteOf}
+use Rattle.storing.proofs.Lists.{length-bytes, getD-bytes}
+use Rattle.storing.proofs.storing.bytes_over.Statement.{statement}
+use Rattle.storing.proofs.storing.bytes_over.Tie as tie
+
+abbrev Inv-loop : tie.InvT-loop
+Inv-loop count slice bytes₀ i₀ bytes i =
+    (i ≤ count) × (length bytes ≡ 3) × (bytes ≡ paste bytes₀ 0 (map byteOf (take count slice)) i)
+
+abbrev μ-loop : tie.MeasureT-loop
+μ-loop count slice bytes₀ i₀ bytes i = count - i
+
+at-most : (c : tie.In-loop Inv-loop μ-loop) → c .before .loop .i ≤ 2
+at-most c = omega (arith, c .before .before .pre)
+
+loop-holds : tie.Need-loop-holds Inv-loop μ-loop
+loop-holds c = (search needs, search needs, paste-zero (c .args .held) 0 (map byteOf (take (c .args .count) (c .args .t1))))
+
+mul-bytes : tie.Need-mul-bytes Inv-loop μ-loop
+mul-bytes c = omega (arith, at-most c)
+
+array-read-bytes : tie.Need-array-read-bytes Inv-loop μ-loop
+array-read-bytes c = omega (arith, at-most c)
+
+cast-bytes : tie.Need-cast-bytes Inv-loop μ-loop
+cast-bytes c = search needs
+
+array-write-bytes : tie.Need-array-write-bytes Inv-loop μ-loop
+array-write-bytes c = omega (arith, at-most c)
+
+add-i : tie.Need-add-i Inv-loop μ-loop
+add-i c = omega (arith, at-most c)
+
+loop-less : tie.Need-loop-less Inv-loop μ-loop
+loop-less c = search needs
+
+loop-again : tie.Need-loop-again Inv-loop μ-loop
+loop-again c =
+    let a = c .before .before .args in
+    let l = c .before .loop in
+    let ys = map byteOf (take (a .count) (a .t1)) in
+    let short : length (a .held) ≡ 3 = search needs in
+    let long : length (a .t1) ≡ 48 = search needs in (
+      search needs,
+      simp length-set (l .inv .1),
+      paste-next ys (a .held) (l .bytes) (l .i) _ (l .inv .2)
+          (omega (arith, c .loop-test .taken, length-bytes (a .count) (a .t1) (omega (arith, c .before .before .pre, long))))
+          (omega (arith, at-most c, short))
+          (sym (getD-bytes (a .count) (a .t1) (l .i) (c .loop-test .taken))),
+    )
+
+returns : tie.Need-returns Inv-loop μ-loop
+returns c =
+    let a = c .before .before .args in
+    let l = c .before .loop in
+    let long : length (a .t1) ≡ 48 = search needs in
+    let e : length (map byteOf (take (a .count) (a .t1))) ≡ l .i =
+        length-bytes (a .count) (a .t1) (omega (arith, c .before .before .pre, long)) ∙ omega (arith, c .loop-test .left) in
+    l .inv .2 ∙ paste-over (map byteOf (take (a .count) (a .t1))) (a .held) (l .i) e
+
+pub bytes-over-spec : {M : Type 1} → statement M
+bytes-over-spec =
+    tie.close
+    (tie.spec
+    Inv-loop
+    μ-loop
+    loop-holds
+    mul-bytes
+    array-read-bytes
+    cast-bytes
+    array-write-bytes
+    add-i
+    loop-less
+    loop-again
+    returns)

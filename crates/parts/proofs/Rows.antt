@@ -2,7 +2,7 @@
 -- code have room for. By cases on the command. Assumes nothing.
 use mathlib.Core.Path.{_≡_, refl, _∙_}
 use Prim.Native.Nat.{ℕ, _+_, _-_, _*_, _/_, _%_, _^_, _<_, _≤_}
-use native.Mathlib.Nat.{le-refl, le-trans, lt-of-lt-of-le, mul-pos, mul-le-mul, mul-assoc, mul-comm, mul-mod-right}
+use native.Mathlib.Nat.{le-refl, le-trans, lt-of-lt-of-le, mul-pos, mul-le-mul, mul-le-mul-left, div-lt-iff-lt-mul}
 use native.Mathlib.Omega.{arith}
 use lib.Dec.{lit<, lit≤}
 use lib.Pow.{pow-pos, pow-mono}
@@ -24,6 +24,19 @@ slice-whole p Individual m = omega arith
 slice-whole p Calibration m = omega arith
 slice-whole p Global m = omega arith
 slice-whole p Configuration m = omega arith
+
+-- no slice has more fields than two for each output
+pub fields-used : (p : Part) (c : Command) (m : ℕ) → m < 2 → sliceFields p c m ≤ 2 * outputs p
+fields-used p Individual m h =
+    let two : 1 + m ≤ 2 = omega arith in
+    omega (arith, mul-le-mul-left (outputs p) two)
+fields-used p Calibration m h = omega arith
+fields-used p Global m h = omega arith
+fields-used p Configuration m h = omega arith
+
+-- a bit of a slice is of one of its fields
+pub field-of : (p : Part) (c : Command) (m t : ℕ) → 0 < fieldWidth p c → t < sliceBits p c m → t / fieldWidth p c < sliceFields p c m
+field-of p c m t w h = div-lt-iff-lt-mul w .1 h
 
 -- ---- of one that can be used
 module _ (p : Part) (u : Usable p) where

@@ -1,66 +1,37 @@
-use Rattle.parts.specs.Parts.{partOf}
+use mathlib.Core.Path.{_≡_, sym, _∙_}
+use lib.Dec.{ltb}
+use borrow.Author.Tests.{lt-ltb, le-ltb}
+use Rattle.parts.specs.Parts.{partOf, limit}
+use Rattle.widths.specs.Widths.{valuesBelow}
 use Rattle.widths.proofs.Together.{fit-by-bits}
 use borrow.Author.Needs.{needs}
 use Rattle.widths.proofs.widths.values_fit.Statement.{statement}
 use Rattle.widths.proofs.widths.values_fit.Tie as tie
 
+bits-from-requires : tie.Need-bits-from-requires
+bits-from-requires c κs = search needs
+
 value-limit-requires : tie.Need-value-limit-requires
 value-limit-requires c κs = search needs
 
-slice-aggregate-or-all : tie.Need-slice-aggregate-or-all
-slice-aggregate-or-all c = search needs
+is-unused-zero-requires : tie.Need-is-unused-zero-requires
+is-unused-zero-requires c κs = search needs
 
-or-all-requires : tie.Need-or-all-requires
-or-all-requires c κs = search needs
-
-slice-aggregate-or-all-2 : tie.Need-slice-aggregate-or-all-2
-slice-aggregate-or-all-2 c = search needs
-
-or-all-requires-2 : tie.Need-or-all-requires-2
-or-all-requires-2 c κs = search needs
-
-slice-aggregate-or-all-3 : tie.Need-slice-aggregate-or-all-3
-slice-aggregate-or-all-3 c = search needs
-
-or-all-requires-3 : tie.Need-or-all-requires-3
-or-all-requires-3 c κs = search needs
-
-slice-aggregate-or-all-4 : tie.Need-slice-aggregate-or-all-4
-slice-aggregate-or-all-4 c = search needs
-
-or-all-requires-4 : tie.Need-or-all-requires-4
-or-all-requires-4 c κs = search needs
-
-slice-aggregate-or-all-5 : tie.Need-slice-aggregate-or-all-5
-slice-aggregate-or-all-5 c = search needs
-
-or-all-requires-5 : tie.Need-or-all-requires-5
-or-all-requires-5 c κs = search needs
+-- the bits of all values
+bits : (c : tie.After-value-limit)
+    → let r = c .before .before .args .registers in
+    ltb (c .before .bits-from .result) (c .value-limit .result) ≡ valuesBelow r 0 (limit (partOf (r .part)))
+bits c =
+    let r = c .before .before .args .registers in
+    rw (c .before .bits-from .ensures, c .value-limit .ensures) (fit-by-bits r 0 (partOf (r .part) .width))
 
 returns : tie.Need-returns
-returns c =
-    let d = c .before .before in
-    let e = d .before .before in
-    let f = e .before .before in
-    let g = f .before .before in
-    let v = g .before .before .before .before .before .before .before in
-    let r = v .before .args .registers in
-    rw (c .or-all5 .ensures, d .or-all4 .ensures, e .or-all3 .ensures, f .or-all2 .ensures, g .or-all .ensures, v .value-limit .ensures)
-    (fit-by-bits (r .waiting0) (r .waiting1) (r .active0) (r .active1) (r .slice) (partOf (r .part) .width))
+returns c = rw (sym (bits (c .before .before)) ∙ lt-ltb _ _ (c .before .if1 .taken)) (c .is-unused-zero .ensures)
+
+returns-2 : tie.Need-returns-2
+returns-2 c = rw (sym (bits (c .before)) ∙ le-ltb _ _ (c .if1 .left)) (le-ltb _ _ (c .if1 .left))
 
 pub values-fit-spec : {M : Type 1} → statement M
 values-fit-spec =
     tie.close
-    (tie.spec
-    value-limit-requires
-    slice-aggregate-or-all
-    or-all-requires
-    slice-aggregate-or-all-2
-    or-all-requires-2
-    slice-aggregate-or-all-3
-    or-all-requires-3
-    slice-aggregate-or-all-4
-    or-all-requires-4
-    slice-aggregate-or-all-5
-    or-all-requires-5
-    returns)
+    (tie.spec bits-from-requires value-limit-requires is-unused-zero-requires returns returns-2)

@@ -4,13 +4,12 @@ use mathlib.Core.Path.{_≡_, refl, ap, _∙_}
 use mathlib.Core.Bool.{Bool, true, _&&_}
 use mathlib.Core.List.{List}
 use Prim.Native.Nat.{ℕ, _+_, _-_, _*_, _/_, _%_, _<_, _≤_}
-use native.Mathlib.Nat.{mod-lt}
+use native.Mathlib.Nat.{mod-lt, lt-of-lt-of-le}
 use native.Mathlib.Omega.{arith}
 use lib.Dec.{eqb, ltb, lit<}
 use lib.ListN.{replicate}
-use borrow.Author.Tests.{lt-ltb, le-leb, leb-true}
-use Rattle.parts.specs.Parts.{partOf, multiplex, limit, fieldWidth}
-use Rattle.tables.specs.Lists.{allBelow}
+use borrow.Author.Tests.{lt-ltb, ltb-true, le-leb, leb-true}
+use Rattle.parts.specs.Parts.{partOf, outputs, multiplex, limit, fieldWidth}
 use Rattle.parts.specs.declared.command.Command.{Command}
 use Rattle.phases.specs.Phases.{placeOf, phaseOf, windowOf, heard, rising, opened, opening, counting, samePlace}
 use Rattle.registers.specs.Held.{showing, zeros}
@@ -24,8 +23,8 @@ use Rattle.registers.specs.declared.registers.Registers.{Registers}
 use Rattle.device.specs.declared.device.Device.{Device}
 use Rattle.device.specs.declared.device.Stepped.{Stepped}
 use Rattle.parts.proofs.Laws.{usable}
-use Rattle.parts.proofs.Rows.{limit-pos, slice-bits-pos}
-use Rattle.widths.proofs.Below.{below-zeros, Below, below-of, of-below, stored-below, took-below, showing-below}
+use Rattle.parts.proofs.Rows.{limit-pos, field-width-pos, slice-bits-pos, fields-used, field-of}
+use Rattle.widths.proofs.Below.{Fit, fit-zeros, below-drop, Below, below-of, of-below, stored-below, took-below, showing-below}
 use Rattle.device.proofs.Places.{place-fits}
 use Rattle.phases.proofs.Places.{Small, phase-small}
 use Rattle.tables.proofs.Booleans.{and-both, both-and, cond-both}
@@ -73,10 +72,10 @@ module _ (r : Registers) where
 
 -- ---- the step
 
-abbrev Fit : Stepped → Type 0
-Fit s = fits (s .device) ≡ true
+abbrev Fits : Stepped → Type 0
+Fits s = fits (s .device) ≡ true
 
-high-fits : (r : Registers) (p : Phase) (s : ℕ) → Below r → Good r p → Fit (stepHigh r p s)
+high-fits : (r : Registers) (p : Phase) (s : ℕ) → Below r → Good r p → Fits (stepHigh r p s)
 high-fits r (Hunting window) s b g = device-fits r (rising window (s % 2)) b (rising-good r window (s % 2) (mod-lt s (lit< tt)))
 high-fits r (Opening read) s b g =
     device-fits r (opening read (s % 2)) b (opening-good r read (s % 2) (leb-true 2 read (and-both _ _ (g .1) .0)))
@@ -84,8 +83,12 @@ high-fits r (Counting c read) s b g =
     device-fits r (counting c read (s % 2)) b (counting-good r c read (s % 2) (leb-true 1 read (and-both _ _ (g .1) .0)))
 high-fits r (Slice c n t) s b g =
     let h = and-both (ltb n 1024) (ltb t (sliceLength r c)) (g .1) in
-    let f = took-below r c (t / fieldWidth (partOf (r .part)) c) (s % 2) b in
-    cond-both Fit (ltb (t + 1) (sliceLength r c)) _ _
+    let p = partOf (r .part) in
+    let m = multiplex (r .configuration) in
+    let k : t / fieldWidth p c < 2 * outputs p =
+        lt-of-lt-of-le (field-of p c m t (field-width-pos p (usable (r .part)) c) (ltb-true t (sliceLength r c) (h .1))) (fields-used p c m (mod-lt (r .configuration) (lit< tt))) in
+    let f = took-below r c (t / fieldWidth p c) (s % 2) k b in
+    cond-both Fits (ltb (t + 1) (sliceLength r c)) _ _
     (λ q. device-fits _ (Slice c n (t + 1)) f (lit< tt, both-and _ _ (h .0) q))
     (λ _. device-fits _ Passing (stored-below _ c f) (lit< tt, refl))
 high-fits r Passing s b g = device-fits r Passing b g
@@ -97,7 +100,7 @@ kept d s h =
     let t = and-both (placeFits (d .place) (d .registers)) _ h in
     let b = below-of (d .registers) (t .1) in
     let g = phase-good (d .place) (d .registers) (t .0) in
-    cond-both Fit (ltb s 2) _ _
+    cond-both Fits (ltb s 2) _ _
     (λ _. device-fits (d .registers) (heard (phaseOf (d .place)) s) b (mod-lt (windowOf (phaseOf (d .place)) * 2 + s) (lit< tt), refl))
     (λ _. high-fits (d .registers) (phaseOf (d .place)) s b g)
 
@@ -146,7 +149,17 @@ kept-faulted d kind flag l h =
 
 pub kept-fresh : (part : ℕ) → fits (freshDevice part) ≡ true
 kept-fresh part =
-    let z : (n : ℕ) → allBelow (replicate n 0) (limit (partOf part)) ≡ true = λ n. below-zeros n (limit (partOf part)) (limit-pos (partOf part)) in
+    let p = partOf part in
+    let z : (n k : ℕ) → Fit n (limit p) (replicate k 0) = λ n k. fit-zeros n (limit p) k (limit-pos p) in
     device-fits (zeros part) (Hunting 0)
-    (record { hot = lit< tt; lit = lit< tt; waiting0s = z 24; waiting1s = z 24; active0s = z 24; active1s = z 24; slices = z 48 })
+    (record {
+      hot = lit< tt;
+      lit = lit< tt;
+      calibrations = below-drop (p .banks) (replicate 3 0) 1 refl;
+      waiting0s = z (outputs p) 24;
+      waiting1s = z (outputs p) 24;
+      active0s = z (outputs p) 24;
+      active1s = z (outputs p) 24;
+      slices = z (2 * outputs p) 48;
+    })
     (lit< tt, refl)

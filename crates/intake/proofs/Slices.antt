@@ -40,8 +40,11 @@ pushed-mod v b m =
     let f : v * 2 + b ≡ m * (q * 2) + (v % m * 2 + b) = omega arith in
     sym (ap (λ (x : ℕ). x % m) f ∙ mul-add-mod-self-left m (q * 2) (v % m * 2 + b))
 
+width-divides : (w : ℕ) → w ≤ 14 → 65536 % 2 ^ w ≡ 0
+width-divides w h = ?
+
 limit-divides : (c : Command) (part : ℕ) → 65536 % fieldLimit (partOf part) c ≡ 0
-limit-divides Individual part = each-row (λ p. 65536 % limit p ≡ 0) refl refl part
+limit-divides Individual part = width-divides (partOf part .width) (usable part .narrow)
 limit-divides Calibration part = refl
 limit-divides Global part = refl
 limit-divides Configuration part = refl
@@ -67,17 +70,11 @@ field-within w t f p h =
     let l : (t / w + 1) * w ≤ f * w = mul-le-mul-right w (omega arith) in
     omega arith
 
-fields-le : (c : Command) (part mux : ℕ) → mux < 2 → sliceFields (partOf part) c mux ≤ 48
-fields-le Individual part mux h = each-row (λ p. 8 * p .banks * (1 + mux) ≤ 48) (omega arith) (omega arith) part
-fields-le Calibration part mux h = each-row (λ p. p .banks ≤ 48) (lit≤ tt) (lit≤ tt) part
-fields-le Global part mux h = each-row (λ p. p .banks ≤ 48) (lit≤ tt) (lit≤ tt) part
-fields-le Configuration part mux h = each-row (λ p. p .banks ≤ 48) (lit≤ tt) (lit≤ tt) part
-
 pub slot-within : (r : Registers) (c : Command) (t : ℕ) → t < sliceLength r c → t / fieldWidth (partOf (r .part)) c < 48
 slot-within r c t h =
     let p = field-width-pos (partOf (r .part)) (usable (r .part)) c in
-    let k : t / fieldWidth (partOf (r .part)) c < sliceFields (partOf (r .part)) c (multiplex (r .configuration)) = div-lt-iff-lt-mul p .1 h in
-    omega (arith, fields-le c (r .part) (multiplex (r .configuration)) (mod-lt (r .configuration) (lit< tt)))
+    let k = field-of (partOf (r .part)) c (multiplex (r .configuration)) t p h in
+    omega (arith, fields-le (partOf (r .part)) (usable (r .part)) c (multiplex (r .configuration)) (mod-lt (r .configuration) (lit< tt)))
 
 -- the same, as the code has the width
 pub slot-width : (r : Registers) (c : Command) (t w : ℕ) → w ≡ fieldWidth (partOf (r .part)) c → t < sliceLength r c → t / w < 48
@@ -228,7 +225,7 @@ least-pos a b p q = cond-both (λ (x : ℕ). 0 < x) (leb a b) a b (λ _. p) (λ 
 -- a slice is no longer than 48 fields of 14 bits
 pub slice-le : (r : Registers) (c : Command) → sliceLength r c ≤ 672
 slice-le r c =
-    le-trans (mul-le-mul-right (fieldWidth (partOf (r .part)) c) (fields-le c (r .part) (multiplex (r .configuration)) (mod-lt (r .configuration) (lit< tt))))
+    le-trans (mul-le-mul-right (fieldWidth (partOf (r .part)) c) (fields-le (partOf (r .part)) (usable (r .part)) c (multiplex (r .configuration)) (mod-lt (r .configuration) (lit< tt))))
     (omega (arith, field-narrow (partOf (r .part)) (usable (r .part)) c))
 
 -- the bits that field t / w lacks, or as many as there are states

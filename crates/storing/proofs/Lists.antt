@@ -1,13 +1,13 @@
 -- The length and the elements of `strided`, by induction on the number of values; values that stand one after another are a `take`, by
 -- their elements. The same of a slice's bytes. Assumes nothing.
 use mathlib.Core.Path.{_≡_, refl, ap, sym, _∙_}
-use mathlib.Core.List.{List, map}
+use mathlib.Core.List.{List}
 use Prim.Native.Nat.{ℕ, zero, suc, _+_, _*_, _<_, _≤_}
 use native.Mathlib.Nat.{mul-suc, mul-zero, add-zero, le-of-suc-le-suc, not-suc-le-zero}
 use native.Mathlib.Omega.{arith}
 use lib.ListN.{length, getD, take, drop, length-drop, length-map, List·getD-map}
 use lib.Seq.{ext-getD, getD-take, getD-drop, length-take-le}
-use Rattle.storing.specs.Stored.{strided, byteOf}
+use Rattle.storing.specs.Stored.{strided, byteOf, bytesOf}
 
 pub length-strided : (s : List ℕ) (a k n : ℕ) → length (strided s a k n) ≡ n
 unfolding strided
@@ -32,8 +32,10 @@ strided-take s a n h =
 
 -- ---- the low bytes of the first fields
 
-pub length-bytes : (n : ℕ) (s : List ℕ) → n ≤ length s → length (map byteOf (take n s)) ≡ n
-length-bytes n s h = length-map (take n s) byteOf ∙ length-take-le n s h
+pub length-bytes : (s : List ℕ) (n : ℕ) → length (bytesOf s n) ≡ n
+length-bytes s n = length-map (strided s 0 1 n) byteOf ∙ length-strided s 0 1 n
 
-pub getD-bytes : (n : ℕ) (s : List ℕ) (i : ℕ) → i < n → getD (map byteOf (take n s)) i 0 ≡ byteOf (getD s i 0)
-getD-bytes n s i h = List·getD-map byteOf (take n s) i 0 ∙ ap byteOf (getD-take n s i 0 h)
+pub getD-bytes : (s : List ℕ) (n i : ℕ) → i < n → getD (bytesOf s n) i 0 ≡ byteOf (getD s i 0)
+getD-bytes s n i h =
+    let one : 0 + 1 * i ≡ i = omega arith in
+    List·getD-map byteOf (strided s 0 1 n) i 0 ∙ ap byteOf (getD-strided s 0 1 n i h ∙ ap (λ (m : ℕ). getD s m 0) one)

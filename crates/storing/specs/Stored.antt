@@ -4,7 +4,7 @@ use Prim.Native.Nat.{ℕ, zero, suc, _+_, _%_}
 use mathlib.Core.Bool.{Bool, cond}
 use mathlib.Core.List.{List, [], _∷_, map}
 use lib.Dec.{eqb}
-use lib.ListN.{getD, take}
+use lib.ListN.{getD}
 use Rattle.bits.specs.Bits.{over}
 use Rattle.tables.specs.Lists.{allSame}
 use Rattle.parts.specs.Parts.{partOf, outputs, multiplex}
@@ -33,9 +33,13 @@ storedValues r =
 abbrev pub byteOf : ℕ → ℕ
 byteOf v = v % 256
 
+-- the low bytes of its first n fields
+abbrev pub bytesOf : List ℕ → ℕ → List ℕ
+bytesOf s n = map byteOf (strided s 0 1 n)
+
 -- the bytes of a slice of bytes: one for each bank
 abbrev pub sliceBytes : Registers → List ℕ
-sliceBytes r = map byteOf (take (partOf (r .part) .banks) (r .slice))
+sliceBytes r = bytesOf (r .slice) (partOf (r .part) .banks)
 
 -- the first of them
 abbrev pub firstByte : Registers → ℕ

@@ -1,12 +1,11 @@
 // What the last bit of a slice stores: the individual values, the calibration, the waiting global byte or the configuration. Only the places that
 // the part uses are written.
 ghost use mathlib.Core.Path.{_≡_};
-ghost use mathlib.Core.List.{map};
 ghost use Prim.Native.Nat.{_+_, _*_, _<_, _≤_};
-ghost use lib.ListN.{take, getD};
+ghost use lib.ListN.{getD};
 ghost use Rattle.bits.specs.Bits.{over};
 ghost use Rattle.tables.specs.Lists.{allSame};
-ghost use Rattle.storing.specs.Stored.{byteOf, strided, stored, storedValues, storedCalibration, storedGlobal, storedConfiguration, copies};
+ghost use Rattle.storing.specs.Stored.{byteOf, bytesOf, strided, stored, storedValues, storedCalibration, storedGlobal, storedConfiguration, copies};
 use parts::Command;
 use registers::Registers;
 
@@ -28,7 +27,7 @@ fn every(slice: [u16; 48], first: usize, stride: usize, count: usize, held: [u16
 // The low bytes of the first fields of the slice, over the first bytes that a device holds.
 fn bytes_over(slice: [u16; 48], count: usize, held: [u8; 3]) -> [u8; 3]
     requires { ⌜ count ≤ 3 ⌝ }
-    ensures { λ r. ⌜ r ≡ over (map byteOf (take count slice)) held ⌝ }
+    ensures { λ r. ⌜ r ≡ over (bytesOf slice count) held ⌝ }
 {
     let mut bytes = held;
     let mut i: usize = 0;
@@ -42,7 +41,7 @@ fn bytes_over(slice: [u16; 48], count: usize, held: [u8; 3]) -> [u8; 3]
 // The low bytes of the first fields of the slice are all the same.
 fn same_copies(slice: [u16; 48], count: usize) -> bool
     requires { ⌜ count ≤ 3 ⌝ }
-    ensures { λ r. ⌜ r ≡ allSame (map byteOf (take count slice)) (byteOf (getD slice 0 0)) ⌝ }
+    ensures { λ r. ⌜ r ≡ allSame (bytesOf slice count) (byteOf (getD slice 0 0)) ⌝ }
 {
     let first = slice[0] % 256;
     let mut i: usize = 0;

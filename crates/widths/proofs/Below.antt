@@ -19,7 +19,7 @@ use Rattle.registers.specs.Held.{holding, showing, took}
 use Rattle.bits.specs.Bits.{over}
 use Rattle.bits.proofs.Laws.{drop-over}
 use Rattle.storing.specs.Stored.{stored, strided, sliceBytes, copies}
-use Rattle.storing.proofs.Lists.{length-strided}
+use Rattle.storing.proofs.Lists.{length-strided, length-bytes}
 use Rattle.widths.specs.Widths.{flagsFit, pairBelow, valuesBelow, unusedZero, valuesFit}
 use Rattle.registers.specs.declared.registers.Registers.{Registers}
 use Rattle.parts.proofs.Laws.{usable}
@@ -178,21 +178,21 @@ values-over r a k xs b f =
     (below-strided (r .slice) (limit p) a k (outputs p) (b .slices .below) (limit-pos p)) f
 
 -- the bytes of a slice, stored over those in use
-bytes-over : (r : Registers) → length (sliceBytes r) ≡ partOf (r .part) .banks → Below r
+bytes-over : (r : Registers) → Below r
     → allBelow (drop (partOf (r .part) .banks) (over (sliceBytes r) (r .calibration))) 1 ≡ true
-bytes-over r e b =
+bytes-over r b =
+    let e : length (sliceBytes r) ≡ partOf (r .part) .banks = length-bytes (r .slice) (partOf (r .part) .banks) in
     subst (λ (k : ℕ). allBelow (drop k (over (sliceBytes r) (r .calibration))) 1 ≡ true) e (rw (drop-over (sliceBytes r) (r .calibration), e) (b .calibrations))
 
--- a slice has a field for each bank
-pub stored-below : (r : Registers) (c : Command) → length (sliceBytes r) ≡ partOf (r .part) .banks → Below r → Below (stored r c)
-stored-below r Individual e b =
+pub stored-below : (r : Registers) (c : Command) → Below r → Below (stored r c)
+stored-below r Individual b =
     cond-both Below (eqb (multiplex (r .configuration)) 0) _ _
     (λ _. holding-below r _ _ _ _ _ _ b (b .calibrations) (values-over r 0 1 (r .waiting0) b (b .waiting0s)) (b .waiting1s) (b .slices))
     (λ _. holding-below r _ _ _ _ _ _ b (b .calibrations) (values-over r 0 2 (r .waiting0) b (b .waiting0s)) (values-over r 1 2 (r .waiting1) b (b .waiting1s)) (b .slices))
-stored-below r Calibration e b = holding-below r _ _ _ _ _ _ b (bytes-over r e b) (b .waiting0s) (b .waiting1s) (b .slices)
-stored-below r Global e b =
+stored-below r Calibration b = holding-below r _ _ _ _ _ _ b (bytes-over r b) (b .waiting0s) (b .waiting1s) (b .slices)
+stored-below r Global b =
     cond-both Below (copies r) _ _ (λ _. holding-below r _ _ _ _ _ _ b (b .calibrations) (b .waiting0s) (b .waiting1s) (b .slices)) (λ _. b)
-stored-below r Configuration e b =
+stored-below r Configuration b =
     cond-both Below (copies r) _ _ (λ _. holding-below r _ _ _ _ _ _ b (b .calibrations) (b .waiting0s) (b .waiting1s) (b .slices)) (λ _. b)
 
 -- a bit of a slice goes into a field that is in use

@@ -1,19 +1,18 @@
-use lib.ListN.{length, length-set, take}
+use lib.ListN.{length, length-set}
 use lib.Seq.{paste, paste-zero}
-use mathlib.Core.List.{map}
 use mathlib.Core.Path.{sym, _∙_, _≡_}
 use borrow.Author.Needs.{needs}
 use native.Mathlib.Omega.{arith}
 use Prim.Native.Nat.{_≤_, _-_}
 use Rattle.bits.proofs.Laws.{paste-over, paste-next}
-use Rattle.storing.specs.Stored.{byteOf}
+use Rattle.storing.specs.Stored.{bytesOf}
 use Rattle.storing.proofs.Lists.{length-bytes, getD-bytes}
 use Rattle.storing.proofs.storing.bytes_over.Statement.{statement}
 use Rattle.storing.proofs.storing.bytes_over.Tie as tie
 
 abbrev Inv-loop : tie.InvT-loop
 Inv-loop count slice bytes₀ i₀ bytes i =
-    (i ≤ count) × (length bytes ≡ 3) × (bytes ≡ paste bytes₀ 0 (map byteOf (take count slice)) i)
+    (i ≤ count) × (length bytes ≡ 3) × (bytes ≡ paste bytes₀ 0 (bytesOf slice count) i)
 
 abbrev μ-loop : tie.MeasureT-loop
 μ-loop count slice bytes₀ i₀ bytes i = count - i
@@ -22,7 +21,7 @@ at-most : (c : tie.In-loop Inv-loop μ-loop) → c .before .loop .i ≤ 2
 at-most c = omega (arith, c .before .before .pre)
 
 loop-holds : tie.Need-loop-holds Inv-loop μ-loop
-loop-holds c = (search needs, search needs, paste-zero (c .args .held) 0 (map byteOf (take (c .args .count) (c .args .t1))))
+loop-holds c = (search needs, search needs, paste-zero (c .args .held) 0 (bytesOf (c .args .t1) (c .args .count)))
 
 mul-bytes : tie.Need-mul-bytes Inv-loop μ-loop
 mul-bytes c = omega (arith, at-most c)
@@ -46,25 +45,23 @@ loop-again : tie.Need-loop-again Inv-loop μ-loop
 loop-again c =
     let a = c .before .before .args in
     let l = c .before .loop in
-    let ys = map byteOf (take (a .count) (a .t1)) in
-    let short : length (a .held) ≡ 3 = search needs in
-    let long : length (a .t1) ≡ 48 = search needs in (
+    let ys = bytesOf (a .t1) (a .count) in
+    let short : length (a .held) ≡ 3 = search needs in (
       search needs,
       simp length-set (l .inv .1),
       paste-next ys (a .held) (l .bytes) (l .i) _ (l .inv .2)
-          (omega (arith, c .loop-test .taken, length-bytes (a .count) (a .t1) (omega (arith, c .before .before .pre, long))))
+          (omega (arith, c .loop-test .taken, length-bytes (a .t1) (a .count)))
           (omega (arith, at-most c, short))
-          (sym (getD-bytes (a .count) (a .t1) (l .i) (c .loop-test .taken))),
+          (sym (getD-bytes (a .t1) (a .count) (l .i) (c .loop-test .taken))),
     )
 
 returns : tie.Need-returns Inv-loop μ-loop
 returns c =
     let a = c .before .before .args in
     let l = c .before .loop in
-    let long : length (a .t1) ≡ 48 = search needs in
-    let e : length (map byteOf (take (a .count) (a .t1))) ≡ l .i =
-        length-bytes (a .count) (a .t1) (omega (arith, c .before .before .pre, long)) ∙ omega (arith, c .loop-test .left) in
-    l .inv .2 ∙ paste-over (map byteOf (take (a .count) (a .t1))) (a .held) (l .i) e
+    let e : length (bytesOf (a .t1) (a .count)) ≡ l .i =
+        length-bytes (a .t1) (a .count) ∙ omega (arith, c .loop-test .left) in
+    l .inv .2 ∙ paste-over (bytesOf (a .t1) (a .count)) (a .held) (l .i) e
 
 pub bytes-over-spec : {M : Type 1} → statement M
 bytes-over-spec =

@@ -1,7 +1,6 @@
 use lib.Dec.{eqb}
-use lib.ListN.{length, getD, take, drop, drop-of-length-le}
+use lib.ListN.{length, getD, drop, drop-of-length-le}
 use mathlib.Core.Bool.{_&&_}
-use mathlib.Core.List.{map}
 use mathlib.Core.Path.{sym, refl, ap, _∙_, _≡_}
 use borrow.Author.Needs.{needs}
 use borrow.Author.Tests.{eq-eqb, ne-eqb}
@@ -9,14 +8,14 @@ use native.Mathlib.Omega.{arith}
 use Prim.Native.Nat.{ℕ, _+_, _≤_, _-_}
 use Rattle.tables.specs.Lists.{allSame}
 use Rattle.tables.proofs.Tests.{allSame-drop}
-use Rattle.storing.specs.Stored.{byteOf}
+use Rattle.storing.specs.Stored.{byteOf, bytesOf}
 use Rattle.storing.proofs.Lists.{length-bytes, getD-bytes}
 use Rattle.storing.proofs.storing.same_copies.Statement.{statement}
 use Rattle.storing.proofs.storing.same_copies.Tie as tie
 
 abbrev Inv-loop : tie.InvT-loop
 Inv-loop count slice first i₀ i =
-    (i ≤ count) × (allSame (map byteOf (take count slice)) first ≡ allSame (drop i (map byteOf (take count slice))) first)
+    (i ≤ count) × (allSame (bytesOf slice count) first ≡ allSame (drop i (bytesOf slice count)) first)
 
 abbrev μ-loop : tie.MeasureT-loop
 μ-loop count slice first i₀ i = count - i
@@ -34,17 +33,16 @@ at-most c = omega (arith, c .before .before .pre)
 next : (c : tie.In-loop Inv-loop μ-loop)
     → let a = c .before .before .args in
     let first = byteOf (getD (a .t1) 0 0) in
-    let bytes = map byteOf (take (a .count) (a .t1)) in
+    let bytes = bytesOf (a .t1) (a .count) in
     allSame bytes first ≡ (eqb (byteOf (getD (a .t1) (c .before .loop .i) 0)) first && allSame (drop (c .before .loop .i + 1) bytes) first)
 next c =
     let a = c .before .before .args in
     let i = c .before .loop .i in
     let first = byteOf (getD (a .t1) 0 0) in
-    let bytes = map byteOf (take (a .count) (a .t1)) in
-    let long : length (a .t1) ≡ 48 = search needs in
+    let bytes = bytesOf (a .t1) (a .count) in
     c .before .loop .inv .1
-    ∙ allSame-drop bytes first i (omega (arith, c .loop-test .taken, length-bytes (a .count) (a .t1) (omega (arith, c .before .before .pre, long))))
-    ∙ ap (λ (b : ℕ). eqb b first && allSame (drop (i + 1) bytes) first) (getD-bytes (a .count) (a .t1) i (c .loop-test .taken))
+    ∙ allSame-drop bytes first i (omega (arith, c .loop-test .taken, length-bytes (a .t1) (a .count)))
+    ∙ ap (λ (b : ℕ). eqb b first && allSame (drop (i + 1) bytes) first) (getD-bytes (a .t1) (a .count) i (c .loop-test .taken))
 
 mul-if1 : tie.Need-mul-if1 Inv-loop μ-loop
 mul-if1 c = omega (arith, at-most c)
@@ -67,10 +65,9 @@ loop-again c = (search needs, next (c .before) ∙ rw (eq-eqb _ _ (c .if1 .left)
 returns-2 : tie.Need-returns-2 Inv-loop μ-loop
 returns-2 c =
     let a = c .before .before .args in
-    let bytes = map byteOf (take (a .count) (a .t1)) in
-    let long : length (a .t1) ≡ 48 = search needs in
+    let bytes = bytesOf (a .t1) (a .count) in
     let end : length bytes ≤ c .before .loop .i =
-        omega (arith, c .loop-test .left, length-bytes (a .count) (a .t1) (omega (arith, c .before .before .pre, long))) in
+        omega (arith, c .loop-test .left, length-bytes (a .t1) (a .count)) in
     sym (c .before .loop .inv .1 ∙ rw (drop-of-length-le bytes end))
 
 pub same-copies-spec : {M : Type 1} → statement M

@@ -3,15 +3,16 @@
 use mathlib.Core.Path.{_≡_, refl, sym, ap, _∙_, subst}
 use mathlib.Core.Bool.{Bool, true, false, cond}
 use mathlib.Core.List.{List, [], _∷_}
-use Prim.Native.Nat.{ℕ, zero, suc, _+_, _-_, _*_, _/_, _%_, _<_, _≤_}
-use native.Mathlib.Nat.{div-add-mod, div-add-mod', div-mul-le-self, div-eq-of-lt-le, div-lt-iff-lt-mul, mod-lt, mod-mod-of-dvd, dvd-of-mod-eq-zero, mul-add-mod-self-left, mul-assoc, mul-le-mul-right, le-trans}
+use Prim.Native.Nat.{ℕ, zero, suc, _+_, _-_, _*_, _/_, _%_, _^_, _<_, _≤_}
+use native.Mathlib.Nat.{div-add-mod, div-add-mod', div-mul-le-self, div-eq-of-lt-le, div-lt-iff-lt-mul, mod-lt, mod-mod-of-dvd, dvd-of-mod-eq-zero, mul-add-mod-self-left, mul-mod-right, mul-assoc, mul-le-mul-right, le-trans}
 use native.Mathlib.Omega.{arith}
 use lib.Dec.{ltb, leb, lit<, lit≤}
+use lib.Pow.{pow-add}
 use lib.ListN.{length, getD, set, drop}
 use lib.Seq.{getD-set-same, set-set}
 use borrow.Author.Tests.{lt-ltb, le-ltb, ltb-true, ltb-false, leb-true, leb-false}
 use Rattle.parts.specs.Parts.{partOf, multiplex, limit, fieldWidth, fieldLimit, sliceFields}
-use Rattle.parts.proofs.Laws.{usable, each-row}
+use Rattle.parts.proofs.Laws.{usable}
 use Rattle.parts.specs.declared.command.Command.{Command}
 use Rattle.parts.specs.declared.command.Command.the-variants.{Individual, Calibration, Global, Configuration}
 use Rattle.phases.specs.Phases.{pushed}
@@ -19,7 +20,7 @@ use Rattle.registers.specs.Held.{withSlice, fault, raised}
 use Rattle.storing.specs.Stored.{stored}
 use Rattle.device.specs.Step.{at, moved, sending, sliceLength}
 use Rattle.tables.proofs.Booleans.{cond-both}
-use Rattle.parts.proofs.Rows.{field-width-pos, field-narrow}
+use Rattle.parts.proofs.Rows.{field-width-pos, field-narrow, fields-le, field-of}
 use Rattle.phases.specs.declared.phase.Phase.the-variants.{Slice, Passing}
 use Rattle.phases.specs.declared.phase.Sent.the-variants.{Header}
 use Rattle.registers.specs.declared.registers.Registers.{Registers}
@@ -40,14 +41,11 @@ pushed-mod v b m =
     let f : v * 2 + b ≡ m * (q * 2) + (v % m * 2 + b) = omega arith in
     sym (ap (λ (x : ℕ). x % m) f ∙ mul-add-mod-self-left m (q * 2) (v % m * 2 + b))
 
-width-divides : (w : ℕ) → w ≤ 14 → 65536 % 2 ^ w ≡ 0
-width-divides w h = ?
-
 limit-divides : (c : Command) (part : ℕ) → 65536 % fieldLimit (partOf part) c ≡ 0
-limit-divides Individual part = width-divides (partOf part .width) (usable part .narrow)
-limit-divides Calibration part = refl
-limit-divides Global part = refl
-limit-divides Configuration part = refl
+limit-divides c part =
+    let w = fieldWidth (partOf part) c in
+    let e : w + (16 - w) ≡ 16 = omega (arith, field-narrow (partOf part) (usable part) c) in
+    ap (λ (k : ℕ). 2 ^ k % 2 ^ w) (sym e) ∙ ap (λ (n : ℕ). n % 2 ^ w) (pow-add 2 w (16 - w)) ∙ mul-mod-right (2 ^ w) (2 ^ (16 - w))
 
 -- a number below 65536 is reduced at the end
 pub pushed-late : (c : Command) (part v b : ℕ) → pushed v b 65536 % fieldLimit (partOf part) c ≡ (v * 2 + b) % fieldLimit (partOf part) c

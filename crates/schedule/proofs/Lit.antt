@@ -157,7 +157,6 @@ even-bit output = at (eqb (output % 2) 1) refl where
   at true e = let h = eqb-true (output % 2) 1 e in sym (eq-eqb (nameNumber output % 2) 0 (omega arith))
   at false e = let h = eqb-false (output % 2) 1 e in sym (ne-eqb (nameNumber output % 2) 0 (λ z. h (omega arith)))
 
-
 -- a position that is not over is one of the part's
 position-within :
     (p : Part) (configuration output subframe clock phase : ℕ)

@@ -166,7 +166,6 @@ number-next states at k h =
       single true = refl
       single false = refl
 
-
 -- twice the load bit
 pub load-le : (t : Bool) → cond t 0 2 ≤ 2
 load-le true = omega arith

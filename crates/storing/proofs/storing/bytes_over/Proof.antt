@@ -60,7 +60,7 @@ returns c =
     let a = c .before .before .args in
     let l = c .before .loop in
     let e : length (bytesOf (a .t1) (a .count)) ≡ l .i =
-        length-bytes (a .t1) (a .count) ∙ omega (arith, c .loop-test .left) in
+    length-bytes (a .t1) (a .count) ∙ omega (arith, c .loop-test .left) in
     l .inv .2 ∙ paste-over (bytesOf (a .t1) (a .count)) (a .held) (l .i) e
 
 pub bytes-over-spec : {M : Type 1} → statement M

@@ -66,7 +66,7 @@ returns c =
     let a = c .before .before .args in
     let l = c .before .loop in
     let e : length (strided (a .t1) (a .first) (a .stride) (a .count)) ≡ l .i =
-        length-strided (a .t1) (a .first) (a .stride) (a .count) ∙ omega (arith, c .loop-test .left) in
+    length-strided (a .t1) (a .first) (a .stride) (a .count) ∙ omega (arith, c .loop-test .left) in
     l .inv .2 ∙ paste-over (strided (a .t1) (a .first) (a .stride) (a .count)) (a .held) (l .i) e
 
 pub every-spec : {M : Type 1} → statement M

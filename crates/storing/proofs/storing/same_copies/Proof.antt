@@ -67,7 +67,7 @@ returns-2 c =
     let a = c .before .before .args in
     let bytes = bytesOf (a .t1) (a .count) in
     let end : length bytes ≤ c .before .loop .i =
-        omega (arith, c .loop-test .left, length-bytes (a .t1) (a .count)) in
+    omega (arith, c .loop-test .left, length-bytes (a .t1) (a .count)) in
     sym (c .before .loop .inv .1 ∙ rw (drop-of-length-le bytes end))
 
 pub same-copies-spec : {M : Type 1} → statement M

@@ -2,7 +2,7 @@
 
 use crate::Random;
 use model::frame::Tail;
-use model::part::{values_per_device, Part};
+use model::part::Part;
 use model::set::Set;
 
 /// A part's number.
@@ -12,7 +12,7 @@ pub fn part(random: &mut Random) -> u16 {
 
 /// A number that is no part's.
 pub fn unknown_part(random: &mut Random) -> u16 {
-    random.pick(&[0, 1, 6972, 6973, 6976, 16_974, u16::MAX])
+    random.pick(&[0, 1, 6971, 6976, 16_974, u16::MAX])
 }
 
 /// A set that no number refuses, with values at their limits among the others.
@@ -20,12 +20,12 @@ pub fn set(random: &mut Random, part: u16, devices: usize) -> Set {
     let known = Part::of(part).expect("a part's number");
     let configuration = random.byte();
     let subframes = known.subframes(configuration) as usize;
-    let count = devices * values_per_device(configuration);
+    let count = devices * known.values(configuration);
     Set {
         part,
         devices,
         configuration,
-        calibration: random.bytes(3 * devices),
+        calibration: random.bytes(devices * known.banks()),
         global: random.below(subframes) as u8,
         individual: (0..count).map(|_| value(random, known)).collect(),
     }

@@ -5,7 +5,7 @@ use crate::tally::{Case, Tally};
 use cases::{sets, Random};
 use model::bits::{bits_of, pack};
 use model::frame::{frame_bits, header, Tail, Told};
-use model::part::{values_per_device, Command, Part};
+use model::part::{Command, Part};
 use model::reader::{self, Contents};
 use model::set::Set;
 use model::writer;
@@ -175,7 +175,8 @@ fn read_case(case: &mut Case, random: &mut Random) {
         told.tail = sets::tail(random);
     }
 
-    let full = [3, values_per_device(told.configuration)].map(|n| n * told.devices.min(1023));
+    let known = Part::of(part).expect("a part's number");
+    let full = [known.banks(), known.values(told.configuration)].map(|n| n * told.devices.min(1023));
     let [mut bytes_room, mut values_room] = full;
     if random.one_in(20) {
         bytes_room = bytes_room.saturating_sub(random.between(1, 3));

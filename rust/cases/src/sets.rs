@@ -5,9 +5,15 @@ use model::frame::Tail;
 use model::part::Part;
 use model::set::Set;
 
-/// A part's number.
-pub fn part(random: &mut Random) -> u16 {
-    random.pick(&[6974, 6975])
+/// The part's number of a case: the four take turns, so that each has as many cases.
+pub fn part(case: u64) -> u16 {
+    Part::ALL[case as usize % Part::ALL.len()].number()
+}
+
+/// The number of another part.
+pub fn other_part(random: &mut Random, part: u16) -> u16 {
+    let others = Part::ALL.map(Part::number).into_iter();
+    random.pick(&others.filter(|&other| other != part).collect::<Vec<_>>())
 }
 
 /// A number that is no part's.

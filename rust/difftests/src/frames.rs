@@ -73,12 +73,7 @@ fn write_case(case: &mut Case, random: &mut Random, part: u16) {
     let needed = frame_bits(&few, part_of(&told, part))
         .div_ceil(8)
         .min(100_000);
-    let room = match random.below(30) {
-        0 => needed.saturating_sub(1),
-        1 => random.below(needed + 1),
-        2..=15 => needed,
-        _ => needed + random.below(20),
-    };
+    let room = any_room(random, needed);
     let mut out = random.bytes(room);
     let expected = writer::write(&told, &given, room);
     let mut after = out.clone();
@@ -99,6 +94,16 @@ fn write_case(case: &mut Case, random: &mut Random, part: u16) {
     if found.refusal == 0 {
         let frame = &out[..found.value as usize];
         reads_back(case, random, &told, &given, frame);
+    }
+}
+
+/// Room for so many bytes, seldom too little.
+fn any_room(random: &mut Random, needed: usize) -> usize {
+    match random.below(30) {
+        0 => needed.saturating_sub(1),
+        1 => random.below(needed + 1),
+        2..=15 => needed,
+        _ => needed + random.below(20),
     }
 }
 
@@ -174,17 +179,7 @@ fn read_case(case: &mut Case, random: &mut Random, part: u16) {
         told.tail = sets::tail(random);
     }
 
-    let known = part_of(&told, part);
-    let full =
-        [known.banks(), known.values(told.configuration)].map(|n| n * told.devices.min(1023));
-    let [mut bytes_room, mut values_room] = full;
-    if random.one_in(20) {
-        bytes_room = bytes_room.saturating_sub(random.between(1, 3));
-        values_room = values_room.saturating_sub(random.between(1, 3));
-    } else if random.one_in(2) {
-        bytes_room += random.below(4);
-        values_room += random.below(4);
-    }
+    let [bytes_room, values_room] = any_list_rooms(random, &told, part_of(&told, part));
     let (mut bytes, mut values) = (random.bytes(bytes_room), random.words(values_room));
     let room = match told.command {
         Command::Individual => values_room,
@@ -213,6 +208,19 @@ fn read_case(case: &mut Case, random: &mut Random, part: u16) {
     if let Ok(contents) = expected {
         writes_again(case, random, &told, &contents, &frame);
     }
+}
+
+/// Room for the calibration bytes and for the values of a frame, seldom too little.
+fn any_list_rooms(random: &mut Random, told: &Told, part: Part) -> [usize; 2] {
+    let (is_short, is_long) = (random.one_in(20), random.one_in(2));
+    [part.banks(), part.values(told.configuration)].map(|of_device| {
+        let full = of_device * told.devices.min(1023);
+        match (is_short, is_long) {
+            (true, _) => full.saturating_sub(random.between(1, 3)),
+            (false, true) => full + random.below(4),
+            (false, false) => full,
+        }
+    })
 }
 
 /// Demand 2: an accepted frame is written again to the same bytes.

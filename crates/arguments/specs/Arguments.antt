@@ -36,7 +36,7 @@ abbrev pub valueOf : Parsed → ℕ
 valueOf (P.Value n) = n
 valueOf P.Bad = 0
 
--- 6974 or 6975
+-- a part's number
 abbrev pub isPart : Parsed → Bool
 isPart (P.Value n) = known n
 isPart P.Bad = false

@@ -15,7 +15,7 @@ fn main() {
         print(asked, b"");
         return;
     };
-    // The frames of 512 multiplexed devices of the wider part, and one byte by which left-over input is seen.
+    // The frames of 512 multiplexed devices of the part with the longest slices, and one byte by which left-over input is seen.
     let mut input = [0u8; 47629];
     let got = io::read_full(STDIN_FILENO, &mut input);
     print(asked, &input[..got]);

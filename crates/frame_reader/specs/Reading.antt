@@ -1,7 +1,7 @@
 -- What the frame reader answers, and what it leaves in the two lent lists, for any input. A row's test is a total function: fields past
 -- the end of a frame that is too short read as 0.
 use Prim.Native.Nat.{ℕ, _+_}
-use mathlib.Core.Bool.{Bool, true, false, not, _&&_, _||_}
+use mathlib.Core.Bool.{Bool, false, not, _||_}
 use mathlib.Core.List.{List, [], _∷_, _++_}
 use lib.Dec.{eqb, ltb}
 use lib.ListN.{length, getD, drop}

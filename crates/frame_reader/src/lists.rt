@@ -2,8 +2,7 @@
 ghost use mathlib.Core.Path.{_≡_};
 ghost use Prim.Native.Nat.{_+_, _<_, _≤_};
 ghost use lib.ListN.{length, take, drop, getD};
-ghost use Rattle.tables.specs.Lists.{allBelow};
-ghost use Rattle.tables.specs.Lists.{allSame};
+ghost use Rattle.tables.specs.Lists.{allBelow, allSame};
 
 // Every byte is the given one. No early end, so that the loop is vectorised.
 fn bytes_same(bytes: &[u8], byte: u8) -> bool

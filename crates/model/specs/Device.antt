@@ -6,7 +6,7 @@ use lib.Dec.{eqb}
 use lib.ListN.{replicate}
 use Rattle.tables.specs.Lists.{allSame}
 use Rattle.bits.specs.Bits.{digit, number, split}
-use Rattle.parts.specs.Parts.{Part, multiplex, sliceFields, sliceBits}
+use Rattle.parts.specs.Parts.{Part, outputs, multiplex, sliceFields, sliceBits}
 use Rattle.parts.specs.Wire.{State, low, high, header, frame, clocked}
 use Rattle.parts.specs.declared.command.Command.{Command}
 use Rattle.parts.specs.declared.command.Command.the-variants.{Individual, Calibration, Global, Configuration}
@@ -165,7 +165,7 @@ flagged kind flag r = record {
 
 -- a value of 0 for every output, in both phases
 abbrev pub dark : Part → Values
-dark p = record { global = 0; mux0 = replicate (8 * p .banks) 0; mux1 = replicate (8 * p .banks) 0 }
+dark p = record { global = 0; mux0 = replicate (outputs p) 0; mux1 = replicate (outputs p) 0 }
 
 -- zeros and no faults
 abbrev pub zeros : Part → Registers

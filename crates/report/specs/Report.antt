@@ -31,7 +31,7 @@ frontOf t input = take (bytesFor (frameSize t)) input
 abbrev pub behind : Told → List ℕ → List ℕ
 behind t input = drop (bytesFor (frameSize t)) input
 
--- what the reader answers for it, with room for the values of 512 devices
+-- what the reader answers for it, with room for the bytes and the values of 512 devices of any part
 unfoldable pub answerOf : Told → List ℕ → Read
 answerOf t input = read t noTail (frontOf t input) 1536 24576
 

@@ -6,10 +6,10 @@ use mathlib.Core.Bool.{Bool, true, false, _&&_, _||_, cond, and-comm}
 use Prim.Native.Nat.{ℕ, zero, suc, _+_, _-_, _*_, _%_, _<_, _≤_, min, max}
 use native.Mathlib.Nat.{add-zero, zero-add, zero-mul, one-mul, add-mul}
 use native.Mathlib.Omega.{arith}
-use lib.Dec.{ltb, leb, eqb, lit≤}
+use lib.Dec.{ltb, leb, eqb}
 use borrow.Author.Tests.{eqb-true, eqb-false, eq-eqb, ne-eqb, ltb-true, ltb-false, leb-true, leb-false, lt-ltb, le-ltb, le-leb, lt-leb}
 use Rattle.bits.specs.Bits.{digit}
-use Rattle.parts.specs.Parts.{Part, partOf, subframes, multiplex}
+use Rattle.parts.specs.Parts.{Part, outputs, subframes, multiplex}
 use Rattle.subframes.specs.Subframes.{howManyFrom, isOn}
 use Rattle.schedule.specs.Answers.{positionOver}
 use Rattle.schedule.specs.Light.{total, nameNumber, litAt, litBy, isEven, inRun, litFrom, litTo, litCount, isLit, litFirst, litEnd}
@@ -150,7 +150,7 @@ dark-last p v output c h = rw (le-ltb c (p .clocks - p .edge) h) (sym (and-false
 pub lit-inside : (p : Part) (v output c : ℕ) → p .edge ≤ c → c < p .clocks - p .edge → litBy p v output c ≡ litAt p v output c
 lit-inside p v output c h k = rw (le-leb (p .edge) c h, lt-ltb c (p .clocks - p .edge) k)
 
--- B7, output 0, is odd
+-- output 0, the 7 of its bank, is odd
 pub even-bit : (output : ℕ) → eqb (output % 2) 1 ≡ isEven output
 even-bit output = at (eqb (output % 2) 1) refl where
   at : (t : Bool) → eqb (output % 2) 1 ≡ t → t ≡ isEven output
@@ -161,13 +161,13 @@ even-bit output = at (eqb (output % 2) 1) refl where
 position-within :
     (p : Part) (configuration output subframe clock phase : ℕ)
     → positionOver p configuration output subframe clock phase ≡ false
-    → (output < 8 * p .banks) × (subframe < subframes p configuration) × (clock < p .clocks) × (phase ≤ multiplex configuration)
+    → (output < outputs p) × (subframe < subframes p configuration) × (clock < p .clocks) × (phase ≤ multiplex configuration)
 unfolding positionOver
 position-within p configuration output subframe clock phase e =
-    let f = or-none (leb (8 * p .banks) output) (leb (subframes p configuration) subframe || (leb (p .clocks) clock || ltb (multiplex configuration) phase)) e in
+    let f = or-none (leb (outputs p) output) (leb (subframes p configuration) subframe || (leb (p .clocks) clock || ltb (multiplex configuration) phase)) e in
     let g = or-none (leb (subframes p configuration) subframe) (leb (p .clocks) clock || ltb (multiplex configuration) phase) (f .1) in
     let h = or-none (leb (p .clocks) clock) (ltb (multiplex configuration) phase) (g .1) in
-    (leb-false (8 * p .banks) output (f .0), leb-false (subframes p configuration) subframe (g .0), leb-false (p .clocks) clock (h .0), ltb-false (multiplex configuration) phase (h .1))
+    (leb-false (outputs p) output (f .0), leb-false (subframes p configuration) subframe (g .0), leb-false (p .clocks) clock (h .0), ltb-false (multiplex configuration) phase (h .1))
 
 -- a subframe that has a clock has clock 0
 pub position-zero :
@@ -178,6 +178,6 @@ unfolding positionOver
 position-zero p configuration output subframe clock phase e =
     let w = position-within p configuration output subframe clock phase e in
     let h : 0 < p .clocks = omega (arith, w .2) in
-    or-second (lt-leb (8 * p .banks) output (w .0))
+    or-second (lt-leb (outputs p) output (w .0))
     (or-second (lt-leb (subframes p configuration) subframe (w .1))
     (or-second (lt-leb (p .clocks) 0 h) (le-ltb (multiplex configuration) phase (w .3))))

@@ -1,10 +1,10 @@
 -- What the questions about light answer, for any input: the refusal of their table, or the answer of Light.
-use Prim.Native.Nat.{ℕ, _*_}
+use Prim.Native.Nat.{ℕ}
 use mathlib.Core.Bool.{Bool, not, _||_}
 use mathlib.Core.List.{List, [], _∷_}
 use lib.Dec.{ltb, leb}
 use Rattle.tables.specs.Refusals.{Row, _when_, first, answer}
-use Rattle.parts.specs.Parts.{Part, known, partOf, multiplex, subframes, limit}
+use Rattle.parts.specs.Parts.{Part, known, partOf, multiplex, subframes, limit, outputs}
 use Rattle.subframes.specs.declared.answer.Asked.{Asked}
 use Rattle.subframes.specs.declared.answer.Asked.the-variants as asked
 use Rattle.schedule.specs.Light.{isLit, litFirst, litEnd}
@@ -14,7 +14,7 @@ use Rattle.schedule.specs.declared.answer.Clocks.the-variants as clocks
 -- an output, a subframe, a clock or a phase that the part and its configuration do not have: MUX1 only where multiplexed
 unfoldable pub positionOver : Part → ℕ → ℕ → ℕ → ℕ → ℕ → Bool
 positionOver p configuration output subframe clock phase =
-    leb (8 * p .banks) output || (leb (subframes p configuration) subframe || (leb (p .clocks) clock || ltb (multiplex configuration) phase))
+    leb (outputs p) output || (leb (subframes p configuration) subframe || (leb (p .clocks) clock || ltb (multiplex configuration) phase))
 
 -- ---- the table of refusals
 

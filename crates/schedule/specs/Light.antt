@@ -14,7 +14,7 @@ total f (suc n) = total f n + f n
 
 -- ---- clocks of an ON subframe
 
--- the number in an output's name: in wire order B7 to B0, G7 to G0, R7 to R0
+-- the number in an output's name: in wire order 7 to 0 of each bank, as Z7 to Z0, Y7 to Y0
 abbrev pub nameNumber : ℕ → ℕ
 nameNumber output = 7 - output % 8
 

@@ -5,6 +5,7 @@ ghost use Rattle.parts.specs.Parts.{partOf};
 ghost use Rattle.schedule.specs.Answers.{litRows, positionOver};
 use parts::constants_of;
 use parts::is_known;
+use parts::outputs_of;
 use parts::subframes_of;
 use parts::value_limit;
 
@@ -42,14 +43,13 @@ fn is_position_over(
 ) -> bool
     ensures { λ r. ⌜ r ≡ positionOver (partOf part) configuration output subframe clock phase ⌝ }
 {
-    let constants = constants_of(part);
-    if output >= 8 * (constants.banks as u32) {
+    if output as usize >= outputs_of(part) {
         return true;
     }
     if subframe >= subframes_of(part, configuration) as u32 {
         return true;
     }
-    if clock >= constants.clocks as u32 {
+    if clock >= constants_of(part).clocks as u32 {
         return true;
     }
     phase > (configuration % 2) as u32

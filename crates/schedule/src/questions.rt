@@ -1,4 +1,5 @@
-// The questions, from plain numbers. Subframes, clocks, outputs and phases are counted from 0, outputs in wire order (B7 is 0, R0 is 23).
+// The questions, from plain numbers. Subframes, clocks, outputs and phases are counted from 0, outputs in wire order (Z7 of a 6972 and
+// B7 of a 6974 are 0, Y0 is 15 and R0 is 23).
 ghost use mathlib.Core.Path.{_≡_};
 ghost use Rattle.schedule.specs.Answers.{litAnswer, litClocksAnswer};
 use crate::answer::Clocks;

@@ -5,13 +5,12 @@ use mathlib.Core.Bool.{Bool, true, false, cond}
 use mathlib.Core.List.{List, [], _∷_, _++_, map, map-append}
 use Prim.Native.Nat.{ℕ, zero, suc, _+_, _-_, _*_, _/_, _%_, _^_, _<_, _≤_}
 use native.Mathlib.Nat.{mod-lt, suc-mul, zero-add}
-use native.Mathlib.Numerals.{add-one}
 use native.Mathlib.Omega.{arith}
 use lib.Dec.{eqb, ltb}
 use borrow.Author.Tests.{ltb-true, ltb-false}
-use lib.ListN.{length, getD, set, take, drop, replicate, length-append, length-map, length-take, length-drop, List·getD-append, List·getD-map}
-use lib.Seq.{paste, paste-suc, take-length, getD-drop, getD-take, getD-append-add, drop-drop, take-suc, length-take-le}
-use Rattle.bits.specs.Bits.{isOne, digit, bits, number, fields, split, padded, bytesOf, bytesFor, over}
+use lib.ListN.{length, getD, take, drop, replicate, length-append, length-map, length-take, length-drop, List·getD-append, List·getD-map}
+use lib.Seq.{getD-drop, getD-take, getD-append-add, drop-drop, take-suc, length-take-le}
+use Rattle.bits.specs.Bits.{isOne, digit, bits, number, fields, split, padded, bytesOf, bytesFor}
 use Rattle.bits.proofs.Laws.{digit-isOne, length-padded, length-bits, length-fields, number-append}
 use Rattle.parts.specs.Wire.{low, high, dataBit, stateCode, stateAt, lows, highs, clocked, statesOf}
 use Rattle.serial.specs.States.{dataBits, digitAt, frameStates}

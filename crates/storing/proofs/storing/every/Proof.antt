@@ -16,7 +16,7 @@ Inv-loop first stride outputs slice values₀ i₀ values i =
     (i ≤ outputs) × (length values ≡ 24) × (values ≡ paste values₀ 0 (strided slice first stride outputs) i)
 
 abbrev μ-loop : tie.MeasureT-loop
-μ-loop first stride outputs slice values₀ i₀ values i = outputs - i
+μ-loop first stride outputs slice values₀ i₀ values i = 24 - i
 
 at-most : (c : tie.In-loop Inv-loop μ-loop) → c .before .loop .i ≤ 23
 at-most c = omega (arith, c .before .before .pre .1)
@@ -46,7 +46,7 @@ add-i : tie.Need-add-i Inv-loop μ-loop
 add-i c = omega (arith, at-most c)
 
 loop-less : tie.Need-loop-less Inv-loop μ-loop
-loop-less c = search needs
+loop-less c = omega (arith, at-most c)
 
 loop-again : tie.Need-loop-again Inv-loop μ-loop
 loop-again c =

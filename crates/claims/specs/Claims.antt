@@ -418,6 +418,6 @@ pub record AnyRow : Type 0 where
 
 -- ---- the lettered examples
 
--- a to k hold
+-- a to s hold
 abbrev pub ExamplesHold : Type 0
 ExamplesHold = Each examples

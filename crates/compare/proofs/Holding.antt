@@ -21,7 +21,8 @@ use Rattle.model.specs.Restore.{InUse}
 use Rattle.model.specs.Set.{Own, ownFrom}
 use Rattle.link.specs.View.{Arrays, Holds}
 use Rattle.differences.specs.declared.compared.Compared.{Compared}
-use Rattle.differences.specs.Groups.{differsAt, inTurns, bankBytes, outputValues, activeValues, Pair, _against_, groups, inGroups, compared, same}
+use Rattle.registers.specs.Held.{bankBytes, outputValues}
+use Rattle.differences.specs.Groups.{differsAt, inTurns, activeValues, Pair, _against_, groups, inGroups, compared, same}
 use Rattle.compare.specs.Differences.{ofSet, ofDevice}
 use Rattle.differences.proofs.Lists.{differs-refl, differs-equal, length-inTurns, evens-inTurns, odds-inTurns, inTurns-halves}
 use Rattle.differences.proofs.Groups.{group-same, byte-same, no-group}
@@ -69,10 +70,10 @@ module _ (p : Part) (o : Own) (s : Sized p o) where
 
 module _ (o : Own) (d : Device) where
   abbrev values0 : List ℕ
-  values0 = outputValues d (d .registers .active0)
+  values0 = outputValues (d .registers) (d .registers .active0)
 
   abbrev values1 : List ℕ
-  values1 = outputValues d (d .registers .active1)
+  values1 = outputValues (d .registers) (d .registers .active1)
 
   abbrev c : ℕ
   c = o .configuration
@@ -85,13 +86,13 @@ module _ (o : Own) (d : Device) where
 
   -- the device is of the set's part, of number n
   module _ (n : ℕ) (of : d .registers .part ≡ n) (s : Sized (partOf n) o) (r : Arrays d) where
-    length-bytes : length (bankBytes d) ≡ partOf n .banks
+    length-bytes : length (bankBytes (d .registers)) ≡ partOf n .banks
     length-bytes =
         let part = d .registers .part in
         length-take-le (partOf part .banks) (d .registers .calibration) (omega (arith, r .calibration, usable part .fewBanks))
         ∙ ap (λ (k : ℕ). partOf k .banks) of
 
-    length-values : (vs : List ℕ) → length vs ≡ 24 → length (outputValues d vs) ≡ outputs (partOf n)
+    length-values : (vs : List ℕ) → length vs ≡ 24 → length (outputValues (d .registers) vs) ≡ outputs (partOf n)
     length-values vs l =
         let part = d .registers .part in
         length-take-le (outputs (partOf part)) vs (omega (arith, l, outputs-le (partOf part) (usable part)))
@@ -141,7 +142,7 @@ module _ (o : Own) (d : Device) where
   pub holds-groups : (p : Part) (n : ℕ) (none : Compared) → Sized p o → Holds o d → inGroups n 1 (groups o d) none ≡ none
   holds-groups p n none s h =
       byte-same n 1 _ _ _ none (sym (h .configuration))
-      ∙ group-same n 2 (o .calibration) (bankBytes d) _ none (not-before (o .calibration) (bankBytes d) (sym (h .calibration)))
+      ∙ group-same n 2 (o .calibration) (bankBytes (d .registers)) _ none (not-before (o .calibration) (bankBytes (d .registers)) (sym (h .calibration)))
       ∙ byte-same n 3 _ _ _ none (sym (h .global))
       ∙ group-same n 4 (o .individual) (activeValues c d) _ none (not-before (o .individual) (activeValues c d) (holds-active p s h))
       ∙ no-group n 5 none

@@ -6,8 +6,9 @@ use Prim.Native.Nat.{ℕ, suc}
 use mathlib.Core.Bool.{cond}
 use mathlib.Core.List.{List, [], _∷_}
 use lib.Dec.{eqb, ltb}
-use lib.ListN.{length, take}
-use Rattle.parts.specs.Parts.{partOf, outputs, multiplex}
+use lib.ListN.{length}
+use Rattle.parts.specs.Parts.{multiplex}
+use Rattle.registers.specs.Held.{bankBytes, outputValues}
 use Rattle.device.specs.declared.device.Device.{Device}
 use Rattle.model.specs.Set.{Own}
 use Rattle.differences.specs.declared.compared.Compared.{Compared}
@@ -29,19 +30,11 @@ abbrev pub ownOf : ℕ → List ℕ → ℕ → List ℕ → Own
 ownOf configuration calibration global individual =
     record { configuration = configuration; calibration = calibration; global = global; individual = individual }
 
--- a device's calibration: a byte for each bank of its part
-abbrev pub bankBytes : Device → List ℕ
-bankBytes d = take (partOf (d .registers .part) .banks) (d .registers .calibration)
-
--- of values that it holds, those of its part's outputs
-abbrev pub outputValues : Device → List ℕ → List ℕ
-outputValues d values = take (outputs (partOf (d .registers .part))) values
-
--- its active values in wire order, by the set's multiplex bit
+-- a device's active values in wire order, by the set's multiplex bit
 abbrev pub activeValues : ℕ → Device → List ℕ
 activeValues configuration d =
-    cond (eqb (multiplex configuration) 0) (outputValues d (d .registers .active0))
-    (inTurns (outputValues d (d .registers .active0)) (outputValues d (d .registers .active1)))
+    cond (eqb (multiplex configuration) 0) (outputValues (d .registers) (d .registers .active0))
+    (inTurns (outputValues (d .registers) (d .registers .active0)) (outputValues (d .registers) (d .registers .active1)))
 
 -- what is compared, in order: what the set has and what the device holds
 infix 20 _against_
@@ -52,7 +45,7 @@ pub data Pair : Type 0 where
 abbrev pub groups : Own → Device → List Pair
 groups o d =
     ((o .configuration ∷ []) against (d .registers .configuration ∷ []))
-    ∷ ((o .calibration) against (bankBytes d)) ∷ ((o .global ∷ []) against (d .registers .active ∷ []))
+    ∷ ((o .calibration) against (bankBytes (d .registers))) ∷ ((o .global ∷ []) against (d .registers .active ∷ []))
     ∷ ((o .individual) against (activeValues (o .configuration) d))
     ∷ []
 

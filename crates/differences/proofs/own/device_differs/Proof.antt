@@ -6,7 +6,8 @@ use lib.ListN.{length, take}
 use Rattle.parts.specs.declared.part.Constants.{Constants}
 use Rattle.parts.proofs.Laws.{usable}
 use Rattle.model.specs.Set.{Own}
-use Rattle.differences.specs.Groups.{differsAt, bankBytes, ownOf, compared}
+use Rattle.registers.specs.Held.{bankBytes}
+use Rattle.differences.specs.Groups.{differsAt, ownOf, compared}
 use Rattle.differences.proofs.Groups.{configuration-differs, calibration-differs, global-differs, individual-differs, none-differs}
 use borrow.Author.Needs.{needs}
 use Rattle.differences.proofs.own.device_differs.Statement.{statement}
@@ -30,13 +31,13 @@ from-values c = from-bytes (c .before .before .before .before)
 abbrev own : tie.Start → Own
 own s = ownOf (s .args .configuration) (s .args .calibration .now) (s .args .global) (s .args .individual .now)
 
-byte-found : (c : tie.After-bytes-differ) → let s = from-bytes c in c .bytes-differ .result ≡ differsAt (own s .calibration) (bankBytes (s .args .device))
+byte-found : (c : tie.After-bytes-differ) → let s = from-bytes c in c .bytes-differ .result ≡ differsAt (own s .calibration) (bankBytes (s .args .device .registers))
 byte-found c =
     let s = from-bytes c in
     c .bytes-differ .ensures .0
     ∙ ap (λ (k : Constants). differsAt (own s .calibration) (take (k .banks) (s .args .device .registers .calibration))) (c .before .before .constants-of .ensures)
 
-calibration-same : (c : tie.Else2) → let s = from-bytes (c .before) in length (own s .calibration) ≤ differsAt (own s .calibration) (bankBytes (s .args .device))
+calibration-same : (c : tie.Else2) → let s = from-bytes (c .before) in length (own s .calibration) ≤ differsAt (own s .calibration) (bankBytes (s .args .device .registers))
 calibration-same c = omega (arith, c .if2 .left, byte-found (c .before))
 
 -- ---- the needs

@@ -1,12 +1,13 @@
 -- The length and the elements of `strided`, by induction on the number of values; values that stand one after another are a `take`, by
--- their elements. The same of a slice's bytes. Assumes nothing.
+-- their elements. The same of a slice's bytes, and of a list over the front of another. Assumes nothing.
 use mathlib.Core.Path.{_≡_, refl, ap, sym, _∙_}
-use mathlib.Core.List.{List}
-use Prim.Native.Nat.{ℕ, zero, suc, _+_, _*_, _<_, _≤_}
+use mathlib.Core.List.{List, _++_}
+use Prim.Native.Nat.{ℕ, zero, suc, _+_, _-_, _*_, _<_, _≤_}
 use native.Mathlib.Nat.{mul-suc, mul-zero, add-zero, le-of-suc-le-suc, not-suc-le-zero}
 use native.Mathlib.Omega.{arith}
-use lib.ListN.{length, getD, take, drop, length-drop, length-map, List·getD-map}
-use lib.Seq.{ext-getD, getD-take, getD-drop, length-take-le}
+use lib.ListN.{length, getD, take, drop, length-drop, length-map, List·getD-map, List·getD-append}
+use lib.Seq.{ext-getD, getD-take, getD-drop, getD-append-add, length-take-le}
+use Rattle.bits.specs.Bits.{over}
 use Rattle.storing.specs.Stored.{strided, byteOf, bytesOf}
 
 pub length-strided : (s : List ℕ) (a k n : ℕ) → length (strided s a k n) ≡ n
@@ -29,6 +30,20 @@ strided-take s a n h =
     (λ j l. let k : j < n = omega (arith, l, length-strided s a 1 n) in
     let one : a + 1 * j ≡ a + j = omega arith in
     getD-strided s a 1 n j k ∙ ap (λ (m : ℕ). getD s m 0) one ∙ sym (getD-take n (drop a s) j 0 k ∙ getD-drop a s j 0))
+
+-- ---- a list over the front of another
+
+pub getD-front : (ys l : List ℕ) (i : ℕ) → i < length ys → getD (over ys l) i 0 ≡ getD ys i 0
+unfolding over
+getD-front ys l i h = List·getD-append ys (drop (length ys) l) 0 i h
+
+pub getD-behind : (ys l : List ℕ) (i : ℕ) → length ys ≤ i → getD (over ys l) i 0 ≡ getD l i 0
+unfolding over
+getD-behind ys l i h =
+    let n : ℕ = i - length ys in
+    let e : length ys + n ≡ i = omega arith in
+    ap (λ (k : ℕ). getD (ys ++ drop (length ys) l) k 0) (sym e) ∙ getD-append-add ys (drop (length ys) l) n 0
+    ∙ getD-drop (length ys) l n 0 ∙ ap (λ (k : ℕ). getD l k 0) e
 
 -- ---- the low bytes of the first fields
 

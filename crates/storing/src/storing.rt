@@ -4,12 +4,14 @@ ghost use mathlib.Core.Path.{_≡_};
 ghost use Prim.Native.Nat.{_+_, _*_, _<_, _≤_};
 ghost use lib.ListN.{getD};
 ghost use Rattle.bits.specs.Bits.{over};
+ghost use Rattle.parts.specs.Parts.{partOf};
 ghost use Rattle.tables.specs.Lists.{allSame};
-ghost use Rattle.storing.specs.Stored.{byteOf, bytesOf, strided, stored, storedValues, storedCalibration, storedGlobal, storedConfiguration, copies};
+ghost use Rattle.storing.specs.Stored.{byteOf, bytesOf, strided, stored, storedValues, storedCalibration, storedGlobal, storedConfiguration};
 use parts::Command;
 use registers::Registers;
 
-// Values of the slice, from a first one on, each a stride after the last, over the first values that a device holds.
+// Values of the slice, from a first one on, each a stride after the last, over the first values that a device holds. The loop goes over all
+// places, so that it is vectorised.
 fn every(
     slice: [u16; 48],
     first: usize,
@@ -20,11 +22,12 @@ fn every(
     requires { ⌜ (first + stride * 23 < 48) × (outputs ≤ 24) ⌝ }
     ensures { λ r. ⌜ r ≡ over (strided slice first stride outputs) held ⌝ }
 {
-    let mut values = held;
+    let mut values = [0u16; 24];
     let mut i: usize = 0;
-    while i < outputs {
+    while i < 24 {
         let at = first + stride * i;
-        values[i] = slice[at];
+        let value = if i < outputs { slice[at] } else { held[i] };
+        values[i] = value;
         i += 1;
     }
     values
@@ -35,20 +38,25 @@ fn bytes_over(slice: [u16; 48], banks: usize, held: [u8; 3]) -> [u8; 3]
     requires { ⌜ banks ≤ 3 ⌝ }
     ensures { λ r. ⌜ r ≡ over (bytesOf slice banks) held ⌝ }
 {
-    let mut bytes = held;
+    let mut bytes = [0u8; 3];
     let mut i: usize = 0;
-    while i < banks {
-        bytes[i] = (slice[i] % 256) as u8;
+    while i < 3 {
+        let byte = if i < banks {
+            (slice[i] % 256) as u8
+        } else {
+            held[i]
+        };
+        bytes[i] = byte;
         i += 1;
     }
     bytes
 }
 
-// The low bytes of the first fields of the slice are all the same.
-fn same_copies(slice: [u16; 48], copies: usize) -> bool
-    requires { ⌜ copies ≤ 3 ⌝ }
-    ensures { λ r. ⌜ r ≡ allSame (bytesOf slice copies) (byteOf (getD slice 0 0)) ⌝ }
+// The low bytes of the first fields of the slice, one for each bank, are all the same.
+fn same_copies(slice: [u16; 48], part: u16) -> bool
+    ensures { λ r. ⌜ r ≡ allSame (bytesOf slice (partOf part .banks)) (byteOf (getD slice 0 0)) ⌝ }
 {
+    let copies = parts::constants_of(part).banks as usize;
     let first = slice[0] % 256;
     let mut i: usize = 0;
     while i < copies {
@@ -95,39 +103,34 @@ fn store_calibration(registers: Registers) -> Registers
     next
 }
 
-// A slice of bytes holds copies of one.
-fn has_copies(registers: Registers) -> bool
-    ensures { λ r. ⌜ r ≡ copies registers ⌝ }
-{
-    let banks = parts::constants_of(registers.part).banks as usize;
-    let slice = registers.slice;
-    same_copies(slice, banks)
-}
-
 // The byte becomes the waiting global byte, where its copies are the same.
 fn store_global(registers: Registers) -> Registers
     ensures { λ r. ⌜ r ≡ storedGlobal registers ⌝ }
 {
-    if has_copies(registers) {
-        let mut next = registers;
-        next.waiting = (registers.slice[0] % 256) as u8;
-        next
+    let slice = registers.slice;
+    let byte = if same_copies(slice, registers.part) {
+        (slice[0] % 256) as u8
     } else {
-        registers
-    }
+        registers.waiting
+    };
+    let mut next = registers;
+    next.waiting = byte;
+    next
 }
 
 // The byte becomes the configuration, where its copies are the same.
 fn store_configuration(registers: Registers) -> Registers
     ensures { λ r. ⌜ r ≡ storedConfiguration registers ⌝ }
 {
-    if has_copies(registers) {
-        let mut next = registers;
-        next.configuration = (registers.slice[0] % 256) as u8;
-        next
+    let slice = registers.slice;
+    let byte = if same_copies(slice, registers.part) {
+        (slice[0] % 256) as u8
     } else {
-        registers
-    }
+        registers.configuration
+    };
+    let mut next = registers;
+    next.configuration = byte;
+    next
 }
 
 // The last bit of a slice stores it.

@@ -3,21 +3,21 @@ use borrow.Author.Needs.{needs}
 use Rattle.storing.proofs.storing.store_global.Statement.{statement}
 use Rattle.storing.proofs.storing.store_global.Tie as tie
 
-has-copies-requires : tie.Need-has-copies-requires
-has-copies-requires c κs = search needs
+same-copies-requires : tie.Need-same-copies-requires
+same-copies-requires c κs = search needs
 
-element-copy-out-next : tie.Need-element-copy-out-next
-element-copy-out-next c = search needs
+array-read-byte : tie.Need-array-read-byte
+array-read-byte c = search needs
 
-cast-next : tie.Need-cast-next
-cast-next c = search needs
+cast-byte : tie.Need-cast-byte
+cast-byte c = search needs
 
 returns : tie.Need-returns
-returns c = rw (sym (c .before .before .has-copies .ensures) ∙ c .before .if1 .taken)
+returns c = rw (sym (c .before .same-copies .ensures) ∙ c .if1 .taken)
 
 returns-2 : tie.Need-returns-2
-returns-2 c = rw (sym (c .before .has-copies .ensures) ∙ c .if1 .left)
+returns-2 c = rw (sym (c .before .same-copies .ensures) ∙ c .if1 .left)
 
 pub store-global-spec : {M : Type 1} → statement M
 store-global-spec =
-    tie.close (tie.spec has-copies-requires element-copy-out-next cast-next returns returns-2)
+    tie.close (tie.spec same-copies-requires array-read-byte cast-byte returns returns-2)

@@ -1,13 +1,11 @@
 // The numbers of docs/RULES.md, "Numbers to hold against", run through the library. A line for each says the case, what it should
 // be, what came out, and `ok`, or `WRONG` where the two differ.
 mod frame_cases; // a to f and h: written, compared and read back
-mod light_cases; // i to k
 mod taken_cases; // what is refused, and what is just taken
 
 fn main() {
     frame_cases::run();
     frame_cases::run_with_tail();
     taken_cases::run_unused_bit();
-    light_cases::run();
     taken_cases::run();
 }

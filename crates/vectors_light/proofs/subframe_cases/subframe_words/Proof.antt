@@ -2,8 +2,8 @@
 use Prim.Native.Nat.{_≤_, _-_}
 use lib.ListN.{length}
 use borrow.Author.Needs.{needs}
-use Rattle.vectors.proofs.light_cases.subframe_words.Statement.{statement}
-use Rattle.vectors.proofs.light_cases.subframe_words.Tie as tie
+use Rattle.vectors_light.proofs.subframe_cases.subframe_words.Statement.{statement}
+use Rattle.vectors_light.proofs.subframe_cases.subframe_words.Tie as tie
 
 abbrev Inv-loop : tie.InvT-loop
 Inv-loop list i₀ i = i ≤ length list

@@ -1,5 +1,7 @@
 // Rules of one device that no number of docs/RULES.md shows, run through the library. A line for each says the case, what it should be, what
 // came out, and `ok`, or `WRONG` where the two differ.
+mod feeding; // a device that is given line states
+mod seen; // what a device is seen to do
 mod step_cases; // one device, stepped by value
 
 fn main() {

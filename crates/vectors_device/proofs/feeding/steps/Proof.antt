@@ -2,8 +2,8 @@
 use Prim.Native.Nat.{_≤_, _-_}
 use lib.ListN.{length}
 use borrow.Author.Needs.{needs}
-use Rattle.vectors_device.proofs.step_cases.steps.Statement.{statement}
-use Rattle.vectors_device.proofs.step_cases.steps.Tie as tie
+use Rattle.vectors_device.proofs.feeding.steps.Statement.{statement}
+use Rattle.vectors_device.proofs.feeding.steps.Tie as tie
 
 abbrev Inv-loop : tie.InvT-loop
 Inv-loop states fed₀ i₀ fed i = i ≤ length states

@@ -1,9 +1,23 @@
 /*
- * Bractbeacon: frames, chains and light of MAX6974 and MAX6975 LED drivers.
+ * Bractbeacon: frames, chains and light of MAX6972, MAX6973, MAX6974 and MAX6975 LED drivers.
  *
  * The functions are those of the static library target/staticlib/libbractbeacon.a (`tools/library`, x86-64 Linux).
  * Each has one result and one content of every lent list, for any numbers; the library's contracts say which.
  * docs/RULES.md has all rules: what a set, a frame, a device and light are, and when each number is given.
+ *
+ * Parts
+ *   A part is given as its number. What goes by the part is named below by the words of this table.
+ *
+ *                                6972        6973        6974           6975
+ *   banks of eight outputs       2: Z, Y     2: Z, Y     3: B, G, R     3: B, G, R
+ *   outputs                      16          16          24             24
+ *   value width, bits            12          14          12             14
+ *   edge zone, clocks            16          32          16             32
+ *   clocks per subframe          4096        16,384      4096           16,384
+ *
+ *   Outputs are in wire order, from 0: Z7 to Z0, Y7 to Y0; or B7 to B0, G7 to G0, R7 to R0. A device's share of a list
+ *   of settings is one byte for each bank, or one value for each output, and multiplexed (the configuration's D0 is 1)
+ *   two for each output, of MUX0 and then of MUX1.
  *
  * Refusals
  *   A refusal is a number of one table, BB_REFUSED_PART to BB_REFUSED_POSITION_OR_RECORD below, 0 where the call is
@@ -32,7 +46,7 @@ extern "C" {
 
 /* Refusals: each is given exactly when what stands beside it holds and no lower one applies. */
 enum {
-    BB_REFUSED_PART = 1,        /* the part is neither 6974 nor 6975 */
+    BB_REFUSED_PART = 1,        /* the part is none of 6972, 6973, 6974 and 6975 */
     BB_REFUSED_DEVICES = 2,     /* the number of devices is not 1 to 1023 */
     BB_REFUSED_TAIL_LENGTH = 3, /* the tail length is over 64 */
     BB_REFUSED_LENGTH = 4,      /* a settings list, a frame or a return has another length than its rule says; a
@@ -49,7 +63,8 @@ enum {
     BB_REFUSED_TAIL = 12,       /* the tail is not the one sent */
     BB_REFUSED_POSITION_OR_RECORD = 13 /* a device number, position (subframe, clock or output), window, line state,
                                    fault kind (0 overtemperature, 1 open LED) or phase is out of range, or a device
-                                   record holds a value over its width or numbers that fit none of the phases below */
+                                   record holds a value over its width, something in a place that its part does not
+                                   use, or numbers that fit none of the phases below */
 };
 
 /* Commands, C1 C0. */
@@ -93,26 +108,28 @@ struct bb_answer {
 
 /*
  * What a device holds. Any numbers may stand in a record that a caller lends: each call judges them.
- * A record fits when both flags are 0 or 1, every value and every slot of `slice` is below 2^12 (6974) or 2^14 (6975),
- * and its place fits its phase.
+ * The arrays have places for three banks. A part of two banks uses the front of each: calibration[0] and [1], places 0
+ * to 15 of the four lists of values, and slots 0 to 31 of `slice`; the places behind hold 0.
+ * A record fits when both flags are 0 or 1, every value and every slot of `slice` is below 2^(value width), every place
+ * that its part does not use is 0, and its place in the frame fits its phase.
  */
 struct bb_registers {
-    uint16_t part;           /* 6974 or 6975 */
+    uint16_t part;           /* 6972, 6973, 6974 or 6975 */
     uint8_t overtemperature; /* fault flag: 0 or 1 */
     uint8_t openled;         /* fault flag: 0 or 1 */
     uint8_t configuration;   /* D0 multiplex, D4 GLB4 */
-    uint8_t calibration[3];  /* B, G, R */
+    uint8_t calibration[3];  /* one byte for each bank: Z, Y, or B, G, R */
     uint8_t waiting;         /* global byte, until the frame boundary */
     uint8_t active;          /* global byte in use */
-    uint16_t waiting0[24];   /* MUX0 values, until the frame boundary; B7 to B0, G7 to G0, R7 to R0 */
+    uint16_t waiting0[24];   /* MUX0 values, until the frame boundary; one for each output, in wire order */
     uint16_t waiting1[24];   /* MUX1 values likewise */
     uint16_t active0[24];    /* MUX0 values in use */
     uint16_t active1[24];    /* MUX1 values in use while D0 is 1 */
-    /* The slice coming in, a slot for each field, in wire order. A slot is a shift register: the bit at position t of
-     * the slice goes to slot k = t / (bits of a field), slot = (slot * 2 + bit) modulo 2^(value width) in an individual
-     * slice and modulo 256 in any other. Slots are not cleared, so bits of a slice that was cut off may stand in them.
-     * A slot over 255 fits also where a calibration, global or configuration slice comes in: its low 8 bits are what is
-     * stored, and what copies are compared by. */
+    /* The slice coming in, a slot for each field of the device's share, in wire order. A slot is a shift register: the
+     * bit at position t of the slice goes to slot k = t / (bits of a field), slot = (slot * 2 + bit) modulo 2^(value
+     * width) in an individual slice and modulo 256 in any other. Slots are not cleared, so bits of a slice that was cut
+     * off, or of an earlier and longer one, may stand in them. A slot over 255 fits also where a calibration, global or
+     * configuration slice comes in: its low 8 bits are what is stored, and what copies are compared by. */
     uint16_t slice[48];
 };
 
@@ -195,8 +212,9 @@ uint8_t bb_unpack(const uint8_t *bytes, size_t length, size_t at, uint32_t width
 struct bb_answer bb_subframes(uint16_t part, uint8_t configuration);
 
 /*
- * Bits of one device's slice by command, part and the configuration's D0. A frame has 24 bits, N slices and its tail;
- * packed, (bits + 7) / 8 bytes. Refused with 1.
+ * Bits of one device's slice by command, part and the configuration's D0: individual, the value width for each value of
+ * its share; else 8 for each bank. A frame has 24 bits, N slices and its tail; packed, (bits + 7) / 8 bytes.
+ * Refused with 1.
  */
 struct bb_answer bb_slice_bits(uint8_t command, uint16_t part, uint8_t configuration);
 
@@ -205,13 +223,14 @@ struct bb_answer bb_slice_bits(uint8_t command, uint16_t part, uint8_t configura
 /*
  * Writes a frame into `out` and answers the number of bytes written. It is told part, number of devices, command,
  * configuration and tail (a number and its length in bits), and given its own command's values:
- *   individual     `values`, 24 for each device, 48 where the configuration's D0 is 1; `byte` and `bytes` are ignored
- *   calibration    `bytes`, B, G, R for each device; `byte` and `values` are ignored
- *   global         `byte`; both lists are ignored
- *   configuration  `byte`; both lists and the told configuration are ignored
+ *   individual     `values`, for each device one for each output, two where the configuration's D0 is 1; `byte` and
+ *                  `bytes` are ignored
+ *   calibration    `bytes`, for each device one for each bank; `byte` and `values` are ignored
+ *   global         `byte`, which goes out once for each bank; both lists are ignored
+ *   configuration  `byte`, likewise; both lists and the told configuration are ignored
  * Refusals:
  *   1, 2, 3  part, devices, tail length
- *   4        the command's list is not 3 bytes, or 24 or 48 values, for each device
+ *   4        the command's list is not as long as the shares of so many devices
  *   5        `room` is below the frame's bytes
  *   6        an individual value is not below 2^width, a global byte is not below S, or tail bits stand above the
  *            tail's length
@@ -323,10 +342,10 @@ struct bb_answer bb_on(uint16_t part, uint8_t configuration, uint8_t global, uin
 struct bb_signed bb_lead(uint16_t part, uint8_t configuration, uint8_t global, uint32_t start, uint32_t length);
 
 /*
- * Whether an output is lit (1) or not (0) at a clock of a subframe, from numbers. The output is 0 (B7) to 23 (R0), in
- * wire order; the phase is 0 (MUX0) or, multiplexed, 1 (MUX1).
- * Refused with 1, with 6 where the value is not below 2^width, and with 13 for an output over 23, a subframe not below
- * S, a clock not below 4096 (6974) or 16,384 (6975), a phase over 1, or phase 1 where D0 is 0.
+ * Whether an output is lit (1) or not (0) at a clock of a subframe, from numbers. The output is given in wire order, 0
+ * (Z7 or B7) to 15 (Y0) or 23 (R0); the phase is 0 (MUX0) or, multiplexed, 1 (MUX1).
+ * Refused with 1, with 6 where the value is not below 2^width, and with 13 for an output not below the part's outputs,
+ * a subframe not below S, a clock not below the clocks per subframe, a phase over 1, or phase 1 where D0 is 0.
  */
 struct bb_answer bb_lit(uint16_t part, uint8_t configuration, uint8_t global, uint16_t value, uint32_t output,
                         uint32_t subframe, uint32_t clock, uint32_t phase);
@@ -340,8 +359,7 @@ struct bb_answer bb_device_lit(struct bb_device device, uint32_t output, uint32_
 
 /*
  * The clocks of a subframe at which an output is lit, as one run: bb_lit answers 1 at each clock from `first` on and
- * before `end`, and 0 at every other. Both are 0 in a subframe that is not ON, and for a value not over the edge zone,
- * 16 (6974) or 32 (6975).
+ * before `end`, and 0 at every other. Both are 0 in a subframe that is not ON, and for a value not over the edge zone.
  * Refused as bb_lit is, apart from the clock.
  */
 struct bb_clocks bb_lit_clocks(uint16_t part, uint8_t configuration, uint8_t global, uint16_t value, uint32_t output,
@@ -357,8 +375,8 @@ struct bb_clocks bb_device_lit_clocks(struct bb_device device, uint32_t output, 
  * Global bytes are compared as stored; MUX1 values only where the set's D0 is 1.
  * Refusals:
  *   1, 2  the set's part or a record's; the set's devices or the chain's
- *   4     `calibration` is not 3 bytes, or `individual` not 24 (48 where D0 is 1) values, for each device of the set;
- *         the chain has another number of devices or another part; records differ in part
+ *   4     `calibration` or `individual` is not as long as the shares of the set's devices; the chain has another number
+ *         of devices or another part; records differ in part
  *   6     the set's global byte is not below S, or an individual value is not below 2^width
  *   13    a record does not fit
  */

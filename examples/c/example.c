@@ -1,6 +1,7 @@
 /*
  * From a set to a running sign, through include/bractbeacon.h: frames, line states, a run on three devices, what comes
- * back, the light, the comparison. Prints what came out and exits with 1 where it is not what docs/RULES.md says.
+ * back, the light, the comparison; and what is different with 16 outputs. Prints what came out and exits with 1 where
+ * it is not what docs/RULES.md says.
  *
  *   tools/library
  *   gcc -std=c11 -Wall -Wextra -Iinclude examples/c/example.c -Ltarget/staticlib -lbractbeacon -o target/example
@@ -160,6 +161,28 @@ static void light(const struct bb_device *chain)
            bb_lit(6975, 0, 31, 33, 23, 0, 32, 1).refusal == BB_REFUSED_POSITION_OR_RECORD);
 }
 
+/* A part of two banks, Z and Y: two calibration bytes, two copies of a byte, 16 outputs. */
+static void sixteen_outputs(void)
+{
+    static const uint8_t calibration[] = {0xE8, 0x54, 0x00, 0xA9, 0x10};
+    static const uint8_t global[] = {0xE8, 0xA8, 0x00, 0x60, 0x60};
+    static const uint8_t zy[2] = {0xA9, 0x10};
+    static const uint16_t values[16];
+    uint8_t frame[32];
+
+    struct bb_answer written =
+        bb_write(6972, 1, BB_CALIBRATION, 0, 0, 0, 0, zy, sizeof zy, values, 16, frame, sizeof frame);
+    print_bytes("calibration of a 6972", frame, written.value);
+    expect("Z, Y", written.value == sizeof calibration && memcmp(frame, calibration, sizeof calibration) == 0);
+    written = bb_write(6972, 1, BB_GLOBAL, 0, 0, 0, GLOBAL, zy, sizeof zy, values, 16, frame, sizeof frame);
+    expect("two copies", written.value == sizeof global && memcmp(frame, global, sizeof global) == 0);
+    written = bb_write(6972, 1, BB_INDIVIDUAL, 0, 0, 0, 0, zy, sizeof zy, values, 16, frame, sizeof frame);
+    expect("16 values of 12 bits", written.refusal == 0 && written.value == 3 + 24);
+    expect("Y0 is an output", bb_lit(6972, 0, 127, VALUE, 15, 0, 0, 0).refusal == 0);
+    expect("there is no output 16",
+           bb_lit(6972, 0, 127, VALUE, 16, 0, 0, 0).refusal == BB_REFUSED_POSITION_OR_RECORD);
+}
+
 int main(void)
 {
     struct set set;
@@ -176,6 +199,7 @@ int main(void)
     frames_of_one(&set);
     restore(&set, chain);
     light(chain);
+    sixteen_outputs();
     printf("%s\n", mismatches == 0 ? "all as docs/RULES.md says" : "not as docs/RULES.md says");
     return mismatches != 0;
 }

@@ -1,4 +1,6 @@
 -- Each claim of specs/Claims, under its name, from the theorem that proves it. Assumes nothing.
+use Rattle.parts.specs.Parts.{partOf}
+use Rattle.parts.proofs.Laws.{usable}
 use Rattle.frame_laws.proofs.RoundTrip.{written-read, read-written}
 use Rattle.subframes.proofs.Claims as subframes
 use Rattle.schedule.proofs.Claims as light
@@ -10,6 +12,7 @@ use Rattle.claims.proofs.Chains as chains
 use Rattle.claims.proofs.Demand as demand
 use Rattle.claims.proofs.Compared as compared
 use Rattle.claims.proofs.RestoredSame.{restored-same}
+use Rattle.claims.proofs.AnyRow.{any-row}
 use Rattle.claims.proofs.Examples.{examples-hold}
 
 pub acceptedExactly : claim.AcceptedExactly
@@ -58,10 +61,10 @@ pub named : claim.Named
 named = compared.named
 
 pub frameOn : claim.FrameOn
-frameOn = subframes.frame-on
+frameOn part configuration global = subframes.frame-on (partOf part) configuration global (usable part .subframes configuration .0)
 
 pub windowLead : claim.WindowLead
-windowLead = subframes.window-lead
+windowLead part configuration global = subframes.window-lead (partOf part) configuration global (usable part .subframes configuration .0)
 
 pub litClocks : claim.LitClocks
 litClocks = record {
@@ -73,6 +76,9 @@ litClocks = record {
 
 pub litCount : claim.LitCount
 litCount = lit-count
+
+pub anyRow : claim.AnyRow
+anyRow = any-row
 
 pub examplesHold : claim.ExamplesHold
 examplesHold = examples-hold

@@ -5,6 +5,7 @@ use mathlib.Core.Bool.{Bool, true, false, _&&_}
 use Prim.Native.Nat.{ℕ, suc}
 use native.Mathlib.Omega.{arith}
 use lib.Dec.{ltb, leb, lit≤}
+use lib.ListN.{drop}
 use borrow.Author.Tests.{ltb-true, ltb-false, le-leb, lt-leb}
 use Rattle.bits.specs.Bits.{bits, number, fields, split, padded, bytesOf, over}
 use Rattle.parts.specs.Parts.{partOf}
@@ -36,6 +37,38 @@ lit-to part value even to h configuration global output s clock phase a e q =
     ∙ ap (λ (n : ℕ). Is (inRun (litFrom (partOf part) value even) n clock)) h
     ∙ ap (λ (b : Bool). Is (leb (litFrom (partOf part) value even) clock && b)) (before-next clock to)
 
+-- of the 16-output parts, l to s
+sixteen : Each (drop 11 examples)
+unfolding bits number fields split padded bytesOf over commandCount header frame clocked frameBits frameOf writeRefusal written writtenOut heldFields readRefusal threeStates chain run stepRecord howManyFrom onAnswer leadAnswer
+sixteen = (
+  ((refl, refl, refl), tt),
+  (
+    ((refl, refl, refl), tt),
+    (
+      ((refl, refl, refl), tt),
+      (
+        ((refl, refl, refl), tt),
+        (
+          ((refl, refl, refl), tt),
+          (
+            (refl, tt),
+            (
+              (
+                lit-to 6972 2560 true 2559 refl,
+                (
+                  lit-to 6972 2560 false 4079 refl,
+                  (dark 6973 32 true (lit≤ tt), (dark 6973 32 false (lit≤ tt), (lit-to 6973 33 true 32 refl, (lit-to 6973 33 false 16351 refl, tt)))),
+                ),
+              ),
+              ((refl, (refl, tt)), tt),
+            ),
+          ),
+        ),
+      ),
+    ),
+  ),
+)
+
 pub examples-hold : Each examples
 unfolding bits number fields split padded bytesOf over commandCount header frame clocked frameBits frameOf writeRefusal written writtenOut heldFields readRefusal threeStates chain run stepRecord howManyFrom onAnswer leadAnswer
 examples-hold = (
@@ -60,7 +93,7 @@ examples-hold = (
                     (lit-to 6974 2560 true 2559 refl, (lit-to 6974 2560 false 4079 refl, tt)),
                     (
                       (dark 6975 32 true (lit≤ tt), (dark 6975 32 false (lit≤ tt), (lit-to 6975 33 true 32 refl, (lit-to 6975 33 false 16351 refl, tt)))),
-                      tt,
+                      sixteen,
                     ),
                   ),
                 ),

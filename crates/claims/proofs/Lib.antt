@@ -5,5 +5,6 @@ pub mod Chains
 pub mod Demand
 pub mod Compared
 pub mod RestoredSame
+pub mod AnyRow
 pub mod Examples
 pub mod Claims

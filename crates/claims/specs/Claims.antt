@@ -8,12 +8,12 @@ use mathlib.Core.Bool.{Bool, true, false}
 use mathlib.Core.List.{List, [], _∷_, _++_, map, flatten}
 use lib.Dec.{leb}
 use lib.IntN.{pos, negℤ}
-use lib.ListN.{length, take, getD}
+use lib.ListN.{length, take, getD, replicate}
 use lib.Signed.{_<ℤ_}
 use Rattle.bits.specs.Bits.{digit, fields, bytesOf, bytesFor, over}
-use Rattle.parts.specs.Parts.{Part, partOf, subframes, restoreOrder}
+use Rattle.parts.specs.Parts.{Part, partOf, outputs, subframes, restoreOrder, Usable}
 use Rattle.tables.specs.Refusals.{first}
-use Rattle.parts.specs.Wire.{State, stateAt, stateCode, lows}
+use Rattle.parts.specs.Wire.{State, stateAt, stateCode, lows, dataBit}
 use Rattle.parts.specs.declared.command.Command.{Command}
 use Rattle.parts.specs.declared.command.Command.the-variants.{Individual}
 use Rattle.serial.specs.States.{dataBits, frameStates, frameRows, clockedAnswer, clockedOut, stateRows, dataBytesAnswer, dataBytesOut}
@@ -37,10 +37,10 @@ use Rattle.calls.specs.Calls.{roomFor, returned, runTable, runRoom}
 use Rattle.calls.specs.History.{Call, fresh, run, boundary, tableOf, refusalOf, effect, after, afterCalls, statesGiven, answered, answers, Runs, Settles}
 use Rattle.calls.specs.Told.{partTold, flagIn, flagTold, ownTable}
 use Rattle.model.specs.Lists.{All, Pairwise}
-use Rattle.model.specs.Device.{faults, stepDevice}
+use Rattle.model.specs.Device.{faults, stepDevice, registersIn}
 use Rattle.model.specs.Device as model
-use Rattle.model.specs.Set.{Set, Own, owned}
-use Rattle.model.specs.Restore.{returnsOf, CutFields}
+use Rattle.model.specs.Set.{Set, Own, OwnProper, owned}
+use Rattle.model.specs.Restore.{piecesStates, statesUntil, returnsOf, RegistersHold, CutFields}
 use Rattle.device.specs.Run.{stepRecord}
 use Rattle.link.specs.View.{deviceOf, Arrays, registersAt, registersAll, Holds}
 use Rattle.link.specs.Called.{called}
@@ -372,8 +372,52 @@ pub record LitClocks : Type 0 where
 abbrev pub LitCount : Type 0
 LitCount = (p : Part) (value output : ℕ) → howManyFrom (litAt p value output) 0 (p .clocks) ≡ litCount p value
 
+-- ---- any row: nothing above is said of a number of banks or a width
+
+-- what a restore does to devices of the model that have the row p, in any phases and with any registers, where os is each device's own
+pub record RowRestores (p : Part) (os : List Own) (ds : List model.Device) (gap tail : Command → List Bool) (last : List Bool) : Type 0 where
+  pub restored : Pairwise RegistersHold os (registersIn (model.boundary ((model.runChain ds (piecesStates p os gap tail ++ lows last)) .0)))
+  pub returned : map dataBit ((model.runChain ds (piecesStates p os gap tail ++ lows last)) .1) ≡ flatten (returnsOf tail (registersIn ds))
+  pub cut :
+      (k device : ℕ) (o : Own) (r : model.Registers)
+      → 1 ≤ device
+      → device ≤ length os
+      → CutFields (λ c. leb (statesUntil p os gap tail c device) k) (getD os (device - 1) o) (getD (registersIn ds) (device - 1) r)
+      (getD (registersIn ((model.runChain ds (take k (piecesStates p os gap tail ++ lows last))) .0)) (device - 1) r)
+
+-- a made-up row of four banks with values of 8 bits, and one of one bank with values of 10 bits
+abbrev pub fourBanks : Part
+fourBanks = record { name = 1; banks = 4; width = 8; edge = 4; clocks = 256; subframesBy = 16 ∷ 8 ∷ 4 ∷ 2 ∷ [] }
+
+abbrev pub oneBank : Part
+oneBank = record { name = 2; banks = 1; width = 10; edge = 8; clocks = 1024; subframesBy = 100 ∷ 50 ∷ 100 ∷ 50 ∷ [] }
+
+-- a device's own of a row, all its bytes and values 1 but the configuration
+abbrev pub ones : Part → Own
+ones p = record { configuration = 0; calibration = replicate (p .banks) 1; global = 1; individual = replicate (outputs p) 1 }
+
+-- demand 3 and the light of any row; a fifth row may have any number of banks and any width, and one that a record has room for is usable
+pub record AnyRow : Type 0 where
+  pub restores :
+      (p : Part) (os : List Own) (ds : List model.Device) (gap tail : Command → List Bool) (last : List Bool)
+      → 1 ≤ length ds
+      → length ds ≤ 1023
+      → Pairwise (λ o r. OwnProper p o × (r .part ≡ p)) os (registersIn ds)
+      → RowRestores p os ds gap tail last
+  pub frameOn :
+      (p : Part) (configuration global : ℕ)
+      → 1 ≤ subframes p configuration
+      → howManyFrom (isOn p configuration global) 0 (subframes p configuration) ≡ level p configuration global + 1
+  pub windowLead :
+      (p : Part) (configuration global from w : ℕ)
+      → 1 ≤ subframes p configuration
+      → (negℤ (pos (subframes p configuration)) <ℤ leadOf p configuration global from w) × (leadOf p configuration global from w <ℤ pos (subframes p configuration))
+  pub madeUp : OwnProper fourBanks (ones fourBanks) × OwnProper oneBank (ones oneBank)
+  pub parts : (part : ℕ) → Usable (partOf part)
+  pub fifth : Usable oneBank
+
 -- ---- the lettered examples
 
--- a to k hold
+-- a to s hold
 abbrev pub ExamplesHold : Type 0
 ExamplesHold = Each examples

@@ -1,4 +1,4 @@
--- The lettered examples of docs/RULES.md, a to k, as one list in the order of their letters and with the numbers given there.
+-- The lettered examples of docs/RULES.md, a to s, as one list in the order of their letters and with the numbers given there.
 use Prim.Native.Nat.{ℕ, zero, suc, _-_}
 use mathlib.Core.Path.{_≡_}
 use mathlib.Core.Bool.{Bool, true, false, _&&_}
@@ -14,7 +14,7 @@ use Rattle.parts.specs.declared.command.Command.{Command}
 use Rattle.parts.specs.declared.command.Command.the-variants.{Individual, Calibration, Global, Configuration}
 use Rattle.serial.specs.States.{dataBits}
 use Rattle.frame_writer.specs.Writing.{written, writtenOut}
-use Rattle.frames.specs.Frames.{toldOf, tailOf, noTail}
+use Rattle.frames.specs.Frames.{toldOf, tailOf, noTail, fieldCount}
 use Rattle.frame_reader.specs.Reading.{readRefusal}
 use Rattle.frames.specs.declared.told.Told.{Told}
 use Rattle.frames.specs.declared.told.Tail.{Tail}
@@ -38,13 +38,13 @@ abbrev times : ℕ → List ℕ → List ℕ
 times zero xs = []
 times (suc n) xs = xs ++ times n xs
 
--- three 6974 devices, of which the first and the last have open LEDs
-abbrev pub threeDevices : List Device
-threeDevices = faulted (freshDevice 6974) 1 1 ∷ freshDevice 6974 ∷ faulted (freshDevice 6974) 1 1 ∷ []
+-- three devices of a part, of which the first and the last have open LEDs
+abbrev pub threeDevices : ℕ → List Device
+threeDevices part = faulted (freshDevice part) 1 1 ∷ freshDevice part ∷ faulted (freshDevice part) 1 1 ∷ []
 
--- a calibration frame for them with the tail 0xA5 in 8 bits
-unfoldable pub threeStates : List ℕ
-threeStates = statesOf (frame Calibration 0 (fields 8 (times 3 (0xA9 ∷ 0x10 ∷ 0x01 ∷ []))) (bits 8 0xA5))
+-- a calibration frame for them, each with these bytes, and with the tail 0xA5 in 8 bits
+unfoldable pub threeStates : List ℕ → List ℕ
+threeStates bytes = statesOf (frame Calibration 0 (fields 8 (times 3 bytes)) (bits 8 0xA5))
 
 -- ---- what an example says
 
@@ -63,6 +63,8 @@ pub data Example : Type 0 where
   lit : ℕ → ℕ → Bool → ℕ → ℕ → Example
   -- is lit at no clock
   dark : ℕ → ℕ → Bool → Example
+  -- whether an output of a part is lit is refused with a number, or answered where it is 0
+  output : ℕ → ℕ → ℕ → Example
 
 -- what is answered of every output of a parity with a value, at every clock of every ON subframe, in every phase that there is
 abbrev pub Lights : ℕ → ℕ → Bool → (ℕ → Bool) → Type 0
@@ -73,18 +75,19 @@ Lights part value even said =
     → isEven output ≡ even
     → litAnswer part configuration global value output s clock phase ≡ Is (said clock)
 
--- the lent lists have room for one device
+-- the lent lists have room for what the frame holds
 abbrev pub Says : Example → Type 0
 Says (sends t tail byte bytes values bs) =
     (written t tail byte bytes values (length bs) ≡ W.Bytes (length bs))
     × (writtenOut t tail byte bytes values (replicate (length bs) 0) ≡ bs)
-    × (readRefusal t tail bs 3 24 ≡ 0)
-Says (refuses t tail bs n) = readRefusal t tail bs 3 24 ≡ n
+    × (readRefusal t tail bs (fieldCount t) (fieldCount t) ≡ 0)
+Says (refuses t tail bs n) = readRefusal t tail bs (fieldCount t) (fieldCount t) ≡ n
 Says (returns ds states bs) = bytesOf (dataBits (returned ds states)) ≡ bs
 Says (subframe part global s b) = onAnswer part 0 global s ≡ Is b
 Says (lead part global from to z) = leadAnswer part 0 global from (suc to - from) ≡ By z
 Says (lit part value even from to) = Lights part value even (λ clock. leb from clock && leb clock to)
 Says (dark part value even) = Lights part value even (λ clock. false)
+Says (output part number n) = first (litRows part 0 0 number 0 0 0) ≡ n
 
 -- all that stands under one letter
 abbrev pub All-say : List Example → Type 0
@@ -94,7 +97,7 @@ All-say (e ∷ es) = Says e × All-say es
 -- ---- the list
 
 pub data Letter : Type 0 where
-  a b c d e f g h i j k : Letter
+  a b c d e f g h i j k l m n o p q r s : Letter
 
 infix 10 _says_
 pub data Lettered : Type 0 where
@@ -105,7 +108,7 @@ abbrev pub Each : List Lettered → Type 0
 Each [] = Unit {0}
 Each ((letter says es) ∷ rest) = All-say es × Each rest
 
--- a to k
+-- a to s
 abbrev pub examples : List Lettered
 examples =
     (a says sends (told 6974 1 Configuration) noTail 0x00 [] [] (0xE8 ∷ 0xFC ∷ 0x00 ∷ 0x00 ∷ 0x00 ∷ 0x00 ∷ []) ∷ [])
@@ -115,7 +118,7 @@ examples =
     ∷ (e says sends (told 6974 1 Individual) noTail 0 [] (replicate 24 2560) (0xE8 ∷ 0x00 ∷ 0x00 ∷ times 12 (0xA0 ∷ 0x0A ∷ 0x00 ∷ [])) ∷ [])
     ∷ (f says sends (told 6975 1 Individual) noTail 0 [] (replicate 24 1)
     (0xE8 ∷ 0x00 ∷ 0x00 ∷ times 6 (0x00 ∷ 0x04 ∷ 0x00 ∷ 0x10 ∷ 0x00 ∷ 0x40 ∷ 0x01 ∷ [])) ∷ [])
-    ∷ (g says returns threeDevices threeStates (0xE8 ∷ 0x54 ∷ 0x02 ∷ 0xA5 ∷ []) ∷ [])
+    ∷ (g says returns (threeDevices 6974) (threeStates (0xA9 ∷ 0x10 ∷ 0x01 ∷ [])) (0xE8 ∷ 0x54 ∷ 0x02 ∷ 0xA5 ∷ []) ∷ [])
     ∷ (h says sends (told 6974 1 Configuration) (tailOf 0b101 3) 0x00 [] [] (0xE8 ∷ 0xFC ∷ 0x00 ∷ 0x00 ∷ 0x00 ∷ 0x00 ∷ 0xA0 ∷ [])
     ∷ refuses (told 6974 1 Configuration) (tailOf 0b101 3) (0xE8 ∷ 0xFC ∷ 0x00 ∷ 0x00 ∷ 0x00 ∷ 0x00 ∷ 0xA1 ∷ []) 11 ∷ [])
     ∷ (i says subframe 6974 96 0 false
@@ -124,4 +127,16 @@ examples =
     ∷ lead 6974 96 0 0 (negℤ (pos 97)) ∷ lead 6974 96 1 3 (pos 93) ∷ [])
     ∷ (j says lit 6974 2560 true 16 2559 ∷ lit 6974 2560 false 1536 4079 ∷ [])
     ∷ (k says dark 6975 32 true ∷ dark 6975 32 false ∷ lit 6975 33 true 32 32 ∷ lit 6975 33 false 16351 16351 ∷ [])
+    ∷ (l says sends (told 6972 1 Configuration) noTail 0x00 [] [] (0xE8 ∷ 0xFC ∷ 0x00 ∷ 0x00 ∷ 0x00 ∷ []) ∷ [])
+    ∷ (m says sends (told 6972 1 Calibration) noTail 0 (0xA9 ∷ 0x10 ∷ []) [] (0xE8 ∷ 0x54 ∷ 0x00 ∷ 0xA9 ∷ 0x10 ∷ []) ∷ [])
+    ∷ (n says sends (told 6972 1 Global) noTail 96 [] [] (0xE8 ∷ 0xA8 ∷ 0x00 ∷ 0x60 ∷ 0x60 ∷ []) ∷ [])
+    ∷ (o says sends (told 6972 1 Individual) noTail 0 [] (replicate 16 2560) (0xE8 ∷ 0x00 ∷ 0x00 ∷ times 8 (0xA0 ∷ 0x0A ∷ 0x00 ∷ [])) ∷ [])
+    ∷ (p says sends (told 6973 1 Individual) noTail 0 [] (replicate 16 1)
+    (0xE8 ∷ 0x00 ∷ 0x00 ∷ times 4 (0x00 ∷ 0x04 ∷ 0x00 ∷ 0x10 ∷ 0x00 ∷ 0x40 ∷ 0x01 ∷ [])) ∷ [])
+    ∷ (q says returns (threeDevices 6972) (threeStates (0xA9 ∷ 0x10 ∷ [])) (0xE8 ∷ 0x54 ∷ 0x02 ∷ 0xA5 ∷ []) ∷ [])
+    ∷ (r says lit 6972 2560 true 16 2559
+    ∷ lit 6972 2560 false 1536 4079 ∷ dark 6973 32 true ∷ dark 6973 32 false
+    ∷ lit 6973 33 true 32 32
+    ∷ lit 6973 33 false 16351 16351 ∷ [])
+    ∷ (s says output 6972 16 13 ∷ output 6974 16 0 ∷ [])
     ∷ []

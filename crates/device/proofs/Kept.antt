@@ -86,7 +86,7 @@ high-fits r (Slice c n t) s b g =
     let p = partOf (r .part) in
     let m = multiplex (r .configuration) in
     let k : t / fieldWidth p c < 2 * outputs p =
-        lt-of-lt-of-le (field-of p c m t (field-width-pos p (usable (r .part)) c) (ltb-true t (sliceLength r c) (h .1))) (fields-used p c m (mod-lt (r .configuration) (lit< tt))) in
+    lt-of-lt-of-le (field-of p c m t (field-width-pos p (usable (r .part)) c) (ltb-true t (sliceLength r c) (h .1))) (fields-used p c m (mod-lt (r .configuration) (lit< tt))) in
     let f = took-below r c (t / fieldWidth p c) (s % 2) k b in
     cond-both Fits (ltb (t + 1) (sliceLength r c)) _ _
     (λ q. device-fits _ (Slice c n (t + 1)) f (lit< tt, both-and _ _ (h .0) q))

@@ -40,8 +40,8 @@ activeValue-lt d output phase h =
     let m = limit (partOf (r .part)) in
     let b = below-of r (and-both (placeFits (d .place) r) (flagsFit r && valuesFit r) h .1) in
     cond-both (λ (x : ℕ). x < m) (eqb phase 0) (getD (r .active0) output 0) (getD (r .active1) output 0)
-    (λ _. below-at (r .active0) m output (b .active0s) (limit-pos (partOf (r .part))))
-    (λ _. below-at (r .active1) m output (b .active1s) (limit-pos (partOf (r .part))))
+    (λ _. below-at (r .active0) m output (b .active0s .below) (limit-pos (partOf (r .part))))
+    (λ _. below-at (r .active1) m output (b .active1s .below) (limit-pos (partOf (r .part))))
 
 position-alone : (k f v p : Bool) → k ≡ false → f ≡ false → v ≡ false
     → first ((1 when k) ∷ (6 when v) ∷ (13 when p) ∷ []) ≡ first ((1 when k) ∷ (13 when f || p) ∷ [])

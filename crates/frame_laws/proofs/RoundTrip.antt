@@ -26,7 +26,8 @@ use Rattle.frame_writer.specs.declared.answer.Written.the-variants as W
 use Rattle.frame_reader.specs.declared.answer.Read.{Read}
 use Rattle.frame_reader.specs.declared.answer.Read.the-variants as R
 use Rattle.frames.proofs.Tests as tests
-use Rattle.frame_reader.proofs.Tests.{same-replicate, replicate-same}
+use Rattle.frame_reader.proofs.Tests.{replicate-same}
+use Rattle.tables.proofs.Tests.{same-replicate}
 use Rattle.frames.proofs.Accepted as accepted
 use Rattle.frame_writer.proofs.Writable as writer
 use Rattle.frames.proofs.Lengths as lengths

@@ -9,10 +9,6 @@ use borrow.Author.Tests.{eqb-true, eq-eqb}
 use Rattle.tables.proofs.Booleans.{and-left, and-right}
 use Rattle.tables.specs.Lists.{allSame}
 
-pub same-replicate : (n b : ℕ) → allSame (replicate n b) b ≡ true
-same-replicate zero b = refl
-same-replicate (suc n) b = ap (λ (d : Bool). d && allSame (replicate n b) b) (eq-eqb b b refl) ∙ same-replicate n b
-
 -- a list of one byte is that byte again and again
 pub replicate-same : (l : List ℕ) (b : ℕ) → allSame l b ≡ true → replicate (length l) b ≡ l
 replicate-same [] b e = refl

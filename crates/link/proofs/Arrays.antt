@@ -1,23 +1,28 @@
 -- The arrays of a record keep the lengths that their types say: a fresh device has them, and a step, a boundary and a fault setting keep them.
 -- By cases on the step. Assumes nothing.
-use mathlib.Core.Path.{_≡_, refl}
+use mathlib.Core.Path.{_≡_, refl, _∙_}
+use native.Mathlib.Omega.{arith}
 use mathlib.Core.List.{List}
 use Prim.Native.Nat.{ℕ, _+_, _/_, _%_}
 use lib.Dec.{eqb, ltb}
 use lib.ListN.{length, length-set}
-use Rattle.parts.specs.Parts.{partOf, multiplex, fieldWidth, fieldLimit}
+use Rattle.bits.specs.Bits.{over}
+use Rattle.bits.proofs.Laws.{length-over}
+use Rattle.parts.proofs.Laws.{usable}
+use Rattle.parts.proofs.Rows.{outputs-le}
+use Rattle.parts.specs.Parts.{partOf, outputs, multiplex, fieldWidth, fieldLimit}
 use Rattle.parts.specs.declared.command.Command.{Command}
 use Rattle.parts.specs.declared.command.Command.the-variants.{Individual, Calibration, Global, Configuration}
 use Rattle.phases.specs.Phases.{phaseOf}
 use Rattle.registers.specs.Held.{holding, showing, took}
-use Rattle.storing.specs.Stored.{stored, copies}
+use Rattle.storing.specs.Stored.{strided, sliceBytes, stored, copies}
 use Rattle.device.specs.Step.{freshDevice, bounded, faulted, sliceLength, stepHigh}
 use Rattle.phases.specs.declared.phase.Phase.{Phase}
 use Rattle.phases.specs.declared.phase.Phase.the-variants.{Hunting, Opening, Counting, Slice, Passing, Lost}
 use Rattle.registers.specs.declared.registers.Registers.{Registers}
 use Rattle.device.specs.declared.device.Device.{Device}
 use Rattle.device.specs.declared.device.Stepped.{Stepped}
-use Rattle.storing.proofs.Lists.{length-strided}
+use Rattle.storing.proofs.Lists.{length-strided, length-bytes}
 use Rattle.tables.proofs.Booleans.{cond-both}
 use Rattle.device.specs.Run.{stepRecord}
 use Rattle.link.specs.View.{Sizes, Arrays}
@@ -36,16 +41,26 @@ showing-sizes h a0 a1 =
 
 -- ---- a step
 
+-- what goes over the values, or the calibration, of a device has no more of them
+values-size : (r : Registers) (a k : ℕ) (vs : List ℕ) → length vs ≡ 24 → length (over (strided (r .slice) a k (outputs (partOf (r .part)))) vs) ≡ 24
+values-size r a k vs e =
+    let p = partOf (r .part) in
+    length-over (strided (r .slice) a k (outputs p)) vs (omega (arith, length-strided (r .slice) a k (outputs p), outputs-le p (usable (r .part)))) ∙ e
+
+bytes-size : (r : Registers) → length (r .calibration) ≡ 3 → length (over (sliceBytes r) (r .calibration)) ≡ 3
+bytes-size r e =
+    length-over (sliceBytes r) (r .calibration) (omega (arith, length-bytes (r .slice) (partOf (r .part) .banks), usable (r .part) .fewBanks)) ∙ e
+
 stored-sizes : (r : Registers) (c : Command) → Sizes r → Sizes (stored r c)
 stored-sizes r Individual h =
     cond-both Sizes (eqb (multiplex (r .configuration)) 0) _ _
-    (λ _. holding-sizes h (h .calibration) (length-strided (r .slice) 0 1 24) (h .waiting1) (h .slice))
-    (λ _. holding-sizes h (h .calibration) (length-strided (r .slice) 0 2 24) (length-strided (r .slice) 1 2 24) (h .slice))
-stored-sizes r Calibration h = holding-sizes h refl (h .waiting0) (h .waiting1) (h .slice)
+    (λ _. holding-sizes h (h .calibration) (values-size r 0 1 (r .waiting0) (h .waiting0)) (h .waiting1) (h .slice))
+    (λ _. holding-sizes h (h .calibration) (values-size r 0 2 (r .waiting0) (h .waiting0)) (values-size r 1 2 (r .waiting1) (h .waiting1)) (h .slice))
+stored-sizes r Calibration h = holding-sizes h (bytes-size r (h .calibration)) (h .waiting0) (h .waiting1) (h .slice)
 stored-sizes r Global h =
-    cond-both Sizes (copies (r .slice)) _ _ (λ _. holding-sizes h (h .calibration) (h .waiting0) (h .waiting1) (h .slice)) (λ _. h)
+    cond-both Sizes (copies r) _ _ (λ _. holding-sizes h (h .calibration) (h .waiting0) (h .waiting1) (h .slice)) (λ _. h)
 stored-sizes r Configuration h =
-    cond-both Sizes (copies (r .slice)) _ _ (λ _. holding-sizes h (h .calibration) (h .waiting0) (h .waiting1) (h .slice)) (λ _. h)
+    cond-both Sizes (copies r) _ _ (λ _. holding-sizes h (h .calibration) (h .waiting0) (h .waiting1) (h .slice)) (λ _. h)
 
 high-sizes : (r : Registers) (p : Phase) (s : ℕ) → Sizes r → Sizes ((stepHigh r p s) .device .registers)
 high-sizes r (Hunting w) s h = h

@@ -135,8 +135,8 @@ module _ {A : Type 0} (f : Registers → A)
   stored-keeps : (r : Registers) (c : Command) → Same r (stored r c)
   stored-keeps r Individual = cond-both (Same r) (eqb (multiplex (r .configuration)) 0) _ _ (λ _. untouched r _ _ _ _ _ _) (λ _. untouched r _ _ _ _ _ _)
   stored-keeps r Calibration = untouched r _ _ _ _ _ _
-  stored-keeps r Global = cond-both (Same r) (copies (r .slice)) _ _ (λ _. untouched r _ _ _ _ _ _) (λ _. refl)
-  stored-keeps r Configuration = cond-both (Same r) (copies (r .slice)) _ _ (λ _. untouched r _ _ _ _ _ _) (λ _. refl)
+  stored-keeps r Global = cond-both (Same r) (copies r) _ _ (λ _. untouched r _ _ _ _ _ _) (λ _. refl)
+  stored-keeps r Configuration = cond-both (Same r) (copies r) _ _ (λ _. untouched r _ _ _ _ _ _) (λ _. refl)
 
   high-keeps : (r : Registers) (p : Phase) (s : ℕ) → Same r ((stepHigh r p s) .device .registers)
   high-keeps r (Hunting w) s = refl

@@ -3,14 +3,16 @@
 use mathlib.Core.Path.{_≡_, refl, ap, _∙_}
 use mathlib.Core.Bool.{Bool, true, false, cond}
 use mathlib.Core.List.{List, [], _∷_, map}
-use Prim.Native.Nat.{ℕ, zero, suc, _-_}
+use Prim.Native.Nat.{ℕ, zero, suc, _-_, _≤_}
+use native.Mathlib.Omega.{arith}
 use lib.Dec.{eqb}
-use lib.ListN.{length, length-map, getD, set, replicate, List·getD-map}
+use lib.ListN.{length, length-map, getD, set, take, replicate, List·getD-map}
 use borrow.Author.Tests.{eq-eqb}
 use Rattle.bits.specs.Bits.{isOne, digit}
-use Rattle.parts.specs.Parts.{partOf}
+use Rattle.parts.specs.Parts.{partOf, outputs}
 use Rattle.parts.specs.Wire.{State, stateAt}
-use Rattle.parts.proofs.Laws.{banks-three}
+use Rattle.parts.proofs.Laws.{usable}
+use Rattle.parts.proofs.Rows.{outputs-le}
 use Rattle.registers.specs.Held.{flagged, showing}
 use Rattle.phases.specs.Phases.{phaseOf}
 use Rattle.device.specs.Step.{freshDevice, faulted}
@@ -39,9 +41,17 @@ one-digit false = refl
 
 -- ---- a fresh device
 
+take-replicate : (n k v : ℕ) → n ≤ k → take n (replicate k v) ≡ replicate n v
+take-replicate zero k v h = refl
+take-replicate (suc n) zero v h = absurd (omega arith)
+take-replicate (suc n) (suc k) v h = ap (λ (vs : List ℕ). v ∷ vs) (take-replicate n k v (omega arith))
+
 fresh-same : (part : ℕ) → deviceOf (freshDevice part) ≡ model.freshDevice (partOf part)
 unfolding deviceOf
-fresh-same part = rw (banks-three part)
+fresh-same part =
+    let p = partOf part in
+    let u = usable part in
+    rw (take-replicate (p .banks) 3 0 (u .fewBanks), take-replicate (outputs p) 24 0 (outputs-le p u))
 
 replicate-map : {A B : Type 0} (f : A → B) (n : ℕ) (x : A) → map f (replicate n x) ≡ replicate n (f x)
 replicate-map f zero x = refl
@@ -57,7 +67,7 @@ flagged-registers r kind flag = go (eqb kind 0)
         ≡ record {
           part = partOf (r .part);
           configuration = r .configuration;
-          calibration = r .calibration;
+          calibration = registersOf r .calibration;
           waiting = registersOf r .waiting;
           active = registersOf r .active;
           overtemperature = cond b flag (isOne (r .overtemperature));

@@ -1,13 +1,13 @@
--- A record seen as a device of the model: its registers field by field, its phase with the bits that have come as a list. A record keeps the
+-- A record seen as a device of the model: what its part uses of its registers, field by field, its phase with the bits that have come as a list. A record keeps the
 -- command bits and the count bits as a number after a leading one, and the bits of a slice in the slice's fields.
 use mathlib.Core.Path.{_≡_}
 use mathlib.Core.Bool.{Bool, cond}
 use mathlib.Core.List.{List, [], _∷_, _++_, map}
 use Prim.Native.Nat.{ℕ, zero, suc, _-_, _/_, _%_}
 use lib.Dec.{eqb, ltb}
-use lib.ListN.{length, getD}
+use lib.ListN.{length, getD, take}
 use Rattle.bits.specs.Bits.{isOne, bits}
-use Rattle.parts.specs.Parts.{partOf, fieldWidth}
+use Rattle.parts.specs.Parts.{partOf, outputs, fieldWidth}
 use Rattle.phases.specs.Phases.{phaseOf}
 use Rattle.device.specs.Step.{sliceLength}
 use Rattle.phases.specs.declared.phase.Phase.{Phase}
@@ -34,14 +34,18 @@ gotten w (v ∷ vs) t = cond (ltb t w) (bits t v) (bits w v ++ gotten w vs (t - 
 
 -- ---- a record
 
--- its registers; a flag is up where it is not 0
+-- of a list of values, those that are in use: one for each output
+abbrev pub inUse : Registers → List ℕ → List ℕ
+inUse r vs = take (outputs (partOf (r .part))) vs
+
+-- its registers in use; a flag is up where it is not 0
 abbrev pub registersOf : Registers → model.Registers
 registersOf r = record {
   part = partOf (r .part);
   configuration = r .configuration;
-  calibration = r .calibration;
-  waiting = record { global = r .waiting; mux0 = r .waiting0; mux1 = r .waiting1 };
-  active = record { global = r .active; mux0 = r .active0; mux1 = r .active1 };
+  calibration = take (partOf (r .part) .banks) (r .calibration);
+  waiting = record { global = r .waiting; mux0 = inUse r (r .waiting0); mux1 = inUse r (r .waiting1) };
+  active = record { global = r .active; mux0 = inUse r (r .active0); mux1 = inUse r (r .active1) };
   overtemperature = isOne (r .overtemperature);
   openled = isOne (r .openled);
 }

@@ -4,6 +4,7 @@ use mathlib.Core.Bool.{Bool, true, false, _&&_, cond}
 use mathlib.Core.List.{List, [], _∷_, _++_, map, flatten}
 use lib.Dec.{eqb}
 use lib.ListN.{replicate}
+use Rattle.tables.specs.Lists.{allSame}
 use Rattle.bits.specs.Bits.{digit, number, split}
 use Rattle.parts.specs.Parts.{Part, outputs, multiplex, sliceFields, sliceBits}
 use Rattle.parts.specs.Wire.{State, low, high, header, frame, clocked}
@@ -73,15 +74,10 @@ odds [] = []
 odds (x ∷ []) = []
 odds (x ∷ y ∷ r) = y ∷ odds r
 
--- all bytes are one
-abbrev pub alike : ℕ → List ℕ → Bool
-alike a [] = true
-alike a (b ∷ bs) = eqb a b && alike a bs
-
 -- copies of one byte, or the old one where they differ
 abbrev pub agreed : List ℕ → ℕ → ℕ
 agreed [] old = old
-agreed (a ∷ bs) old = cond (alike a bs) a old
+agreed (a ∷ bs) old = cond (allSame bs a) a old
 
 -- the registers with another configuration
 abbrev pub withConfiguration : ℕ → Registers → Registers

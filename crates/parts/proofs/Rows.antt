@@ -74,8 +74,12 @@ module _ (p : Part) (u : Usable p) where
   fields-le Global m h = omega (arith, u .fewBanks)
   fields-le Configuration m h = omega (arith, u .fewBanks)
 
+  -- a slice has 8 bits at least
+  pub slice-bits-some : (c : Command) (m : ℕ) → 8 ≤ sliceBits p c m
+  slice-bits-some c m = mul-le-mul (fields-some c m) (field-wide c)
+
   pub slice-bits-pos : (c : Command) (m : ℕ) → 0 < sliceBits p c m
-  slice-bits-pos c m = mul-pos (fields-some c m) (field-width-pos c)
+  slice-bits-pos c m = le-trans (lit≤ tt) (slice-bits-some c m)
 
   -- a value has 256 to 16384 values
   pub limit-wide : 256 ≤ limit p

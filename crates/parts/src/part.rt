@@ -20,7 +20,7 @@ impl Max6972 {
     pub const CLOCKS: u16 = 4096;
 
     // Subframes per frame: plain, multiplexed, with GLB4, both.
-    pub const SUBFRAMES: [u16; 4] = [128, 64, 128, 64];
+    pub const SUBFRAMES: [u16; 4] = Max6974::SUBFRAMES;
 }
 
 pub struct Max6973;
@@ -36,7 +36,7 @@ impl Max6973 {
 
     pub const CLOCKS: u16 = 16384;
 
-    pub const SUBFRAMES: [u16; 4] = [32, 16, 8, 4];
+    pub const SUBFRAMES: [u16; 4] = Max6975::SUBFRAMES;
 }
 
 pub struct Max6974;

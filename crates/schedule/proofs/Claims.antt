@@ -2,12 +2,12 @@
 -- laws of Lit, which hold for any row. Assumes nothing.
 use mathlib.Core.Path.{_≡_, refl, sym, ap, ap₂, _∙_}
 use mathlib.Core.Bool.{Bool, true, false, cond}
-use Prim.Native.Nat.{ℕ, _+_, _*_, _≤_}
+use Prim.Native.Nat.{ℕ, _+_, _*_, _<_, _≤_}
 use native.Mathlib.Omega.{arith}
 use lib.Dec.{eqb}
 use Rattle.tables.specs.Refusals.{first, answer}
 use Rattle.tables.proofs.Rows.{clear, none, accepted}
-use Rattle.parts.specs.Parts.{partOf, subframes}
+use Rattle.parts.specs.Parts.{Part, partOf, subframes}
 use Rattle.subframes.specs.declared.answer.Asked.the-variants as asked
 use Rattle.subframes.specs.Subframes.{howManyFrom, level, isOn}
 use Rattle.subframes.proofs.Claims.{frame-on}
@@ -90,9 +90,9 @@ lit-clocks-accepted part configuration value output subframe clock phase a =
 
 -- in a frame, over its subframes and their clocks, g + 1 times as many clocks are lit as in an ON subframe
 pub frame-lit :
-    (part configuration global value output : ℕ)
-    → total (λ s. howManyFrom (isLit (partOf part) configuration global value output s) 0 (partOf part .clocks)) (subframes (partOf part) configuration)
-    ≡ (level (partOf part) configuration global + 1) * litCount (partOf part) value
-frame-lit part configuration global value output =
-    total-lit (partOf part) configuration global value output (subframes (partOf part) configuration)
-    ∙ ap (λ (n : ℕ). n * litCount (partOf part) value) (frame-on part configuration global)
+    (p : Part) (configuration global value output : ℕ)
+    → 0 < subframes p configuration
+    → total (λ s. howManyFrom (isLit p configuration global value output s) 0 (p .clocks)) (subframes p configuration)
+    ≡ (level p configuration global + 1) * litCount p value
+frame-lit p configuration global value output h =
+    total-lit p configuration global value output (subframes p configuration) ∙ ap (λ (n : ℕ). n * litCount p value) (frame-on p configuration global h)

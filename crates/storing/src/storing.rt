@@ -10,13 +10,19 @@ use parts::Command;
 use registers::Registers;
 
 // Values of the slice, from a first one on, each a stride after the last, over the first values that a device holds.
-fn every(slice: [u16; 48], first: usize, stride: usize, count: usize, held: [u16; 24]) -> [u16; 24]
-    requires { ⌜ (first + stride * 23 < 48) × (count ≤ 24) ⌝ }
-    ensures { λ r. ⌜ r ≡ over (strided slice first stride count) held ⌝ }
+fn every(
+    slice: [u16; 48],
+    first: usize,
+    stride: usize,
+    outputs: usize,
+    held: [u16; 24],
+) -> [u16; 24]
+    requires { ⌜ (first + stride * 23 < 48) × (outputs ≤ 24) ⌝ }
+    ensures { λ r. ⌜ r ≡ over (strided slice first stride outputs) held ⌝ }
 {
     let mut values = held;
     let mut i: usize = 0;
-    while i < count {
+    while i < outputs {
         let at = first + stride * i;
         values[i] = slice[at];
         i += 1;
@@ -25,13 +31,13 @@ fn every(slice: [u16; 48], first: usize, stride: usize, count: usize, held: [u16
 }
 
 // The low bytes of the first fields of the slice, over the first bytes that a device holds.
-fn bytes_over(slice: [u16; 48], count: usize, held: [u8; 3]) -> [u8; 3]
-    requires { ⌜ count ≤ 3 ⌝ }
-    ensures { λ r. ⌜ r ≡ over (bytesOf slice count) held ⌝ }
+fn bytes_over(slice: [u16; 48], banks: usize, held: [u8; 3]) -> [u8; 3]
+    requires { ⌜ banks ≤ 3 ⌝ }
+    ensures { λ r. ⌜ r ≡ over (bytesOf slice banks) held ⌝ }
 {
     let mut bytes = held;
     let mut i: usize = 0;
-    while i < count {
+    while i < banks {
         bytes[i] = (slice[i] % 256) as u8;
         i += 1;
     }
@@ -39,13 +45,13 @@ fn bytes_over(slice: [u16; 48], count: usize, held: [u8; 3]) -> [u8; 3]
 }
 
 // The low bytes of the first fields of the slice are all the same.
-fn same_copies(slice: [u16; 48], count: usize) -> bool
-    requires { ⌜ count ≤ 3 ⌝ }
-    ensures { λ r. ⌜ r ≡ allSame (bytesOf slice count) (byteOf (getD slice 0 0)) ⌝ }
+fn same_copies(slice: [u16; 48], copies: usize) -> bool
+    requires { ⌜ copies ≤ 3 ⌝ }
+    ensures { λ r. ⌜ r ≡ allSame (bytesOf slice copies) (byteOf (getD slice 0 0)) ⌝ }
 {
     let first = slice[0] % 256;
     let mut i: usize = 0;
-    while i < count {
+    while i < copies {
         if slice[i] % 256 != first {
             return false;
         }

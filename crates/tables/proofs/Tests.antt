@@ -4,14 +4,14 @@ use mathlib.Core.Path.{_≡_, refl, sym, ap, _∙_}
 use mathlib.Core.Bool.{Bool, true, false, _&&_}
 use mathlib.Core.List.{List, [], _∷_}
 use mathlib.Core.Logic.{_⊎_, ⊎-elim}
-use Prim.Native.Nat.{ℕ, _+_, _<_, _^_}
+use Prim.Native.Nat.{ℕ, zero, suc, _+_, _<_, _^_}
 use native.Mathlib.Numerals.{add-one}
 use native.Mathlib.Omega.{arith}
 use lib.Bits.{bitOr, or-lt, or-add-and, and-le-l, and-le-r}
 use lib.Dec.{eqb, ltb}
-use lib.ListN.{length, getD, drop}
+use lib.ListN.{length, getD, drop, replicate}
 use lib.Seq.{drop-cons}
-use borrow.Author.Tests.{ltb-true, ltb-false, lt-ltb, le-ltb}
+use borrow.Author.Tests.{eq-eqb, ltb-true, ltb-false, lt-ltb, le-ltb}
 use Rattle.tables.specs.Lists.{allBelow, allSame, orAll}
 use Rattle.tables.proofs.Booleans.{and-true, and-assoc}
 
@@ -21,6 +21,10 @@ allBelow-drop xs m i h = rw (add-one, drop-cons xs i 0)
 
 pub allSame-drop : (xs : List ℕ) (b i : ℕ) → i < length xs → allSame (drop i xs) b ≡ (eqb (getD xs i 0) b && allSame (drop (i + 1) xs) b)
 allSame-drop xs b i h = rw (add-one, drop-cons xs i 0)
+
+pub same-replicate : (n b : ℕ) → allSame (replicate n b) b ≡ true
+same-replicate zero b = refl
+same-replicate (suc n) b = ap (λ (d : Bool). d && allSame (replicate n b) b) (eq-eqb b b refl) ∙ same-replicate n b
 
 -- by which arm control came
 pub by-way : {A B C : Type 0} → A ⊎ B → (A → C) → (B → C) → C

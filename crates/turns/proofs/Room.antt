@@ -1,23 +1,26 @@
--- A run of n states returns at most n + 23, so an accepted run never lacks room. A device may send more than it takes only while a slice ends
--- within the next 23 bits; what a device that is not passing sends begins with a low state, and after a low state no device has a surplus.
+-- A run of n states returns at most n + 23, so an accepted run never lacks room. A device sends a header's 24 states only after it has kept
+-- the 16 high states of a header and a slice of 8 or more, as any usable row has, so it sends at most 23 more than it takes. What a device that
+-- is not passing sends begins with a low state, and after a low state no device has a surplus.
 use mathlib.Core.Path.{_≡_, refl, subst}
-use mathlib.Core.Bool.{Bool, true, false, not, _&&_}
+use mathlib.Core.Bool.{Bool, true, false, _&&_}
 use mathlib.Core.List.{List, [], _∷_, _++_}
-use Prim.Native.Nat.{ℕ, suc, _+_, _-_, _*_, _/_, _%_, _≤_}
-use native.Mathlib.Nat.{le-trans, mul-le-mul-left}
+use Prim.Native.Nat.{ℕ, suc, _+_, _-_, _*_, _/_, _%_, _^_, _<_, _≤_}
+use native.Mathlib.Nat.{lt-of-lt-of-le, lt-of-not-le, not-le-of-lt, pow-suc}
 use native.Mathlib.Omega.{arith}
-use lib.Dec.{ltb, eqb, lit≤}
+use lib.Dec.{ltb, eqb, lit<}
+use lib.Ieee.{size}
+use lib.Ieee.Digits.{size-lt, size-le}
 use lib.ListN.{length, length-append}
+use lib.Pow.{pow-mono}
 use borrow.Author.Tests.{ltb-true, ltb-false}
 use Rattle.machine.specs.Machine.{chain}
 use Rattle.machine.specs.Machine as machine
 use Rattle.machine.proofs.Machine.{run-nil}
-use Rattle.parts.specs.Parts.{Part, partOf, multiplex, fieldWidth, fieldLimit}
-use Rattle.tables.specs.Refusals.{first}
+use Rattle.parts.specs.Parts.{partOf, multiplex, fieldWidth, fieldLimit}
 use Rattle.parts.specs.Wire.{header, statesOf}
 use Rattle.parts.specs.declared.command.Command.{Command}
 use Rattle.parts.specs.declared.command.Command.the-variants.{Individual, Calibration, Global, Configuration}
-use Rattle.parts.proofs.Laws.{usable, each-row, banks-three, command-code}
+use Rattle.parts.proofs.Laws.{usable, command-code}
 use Rattle.phases.specs.Phases.{phaseOf, placeOf, heard, rising, opened, opening, counting, samePlace}
 use Rattle.registers.specs.Held.{took, fault, raised}
 use Rattle.device.specs.Step.{step, stepHigh, moved, sliceLength, sentStates, at}
@@ -29,7 +32,7 @@ use Rattle.phases.specs.declared.phase.Phase.the-variants.{Hunting, Opening, Co
 use Rattle.registers.specs.declared.registers.Registers.{Registers}
 use Rattle.device.specs.declared.device.Device.{Device}
 use Rattle.device.specs.declared.device.Stepped.{Stepped}
-use Rattle.parts.proofs.Rows.{field-width-pos}
+use Rattle.parts.proofs.Rows.{slice-bits-some}
 use Rattle.tables.proofs.Booleans.{and-both, cond-both}
 use Rattle.calls.specs.Chain.{through, allFit}
 use Rattle.calls.proofs.Accepted.{Accepted}
@@ -38,29 +41,40 @@ use Rattle.turns.proofs.LeavingStates.{header-is, length-header-states}
 use Rattle.turns.proofs.Taking.{passer, Fine, on, ends, passes-at, fine-low, fine-step}
 use Rattle.turns.proofs.Turns.{no-way}
 
+-- ---- bits read of a command or a count
+
+-- the digits of the number that is read after its leading one
+abbrev bitsRead : ℕ → ℕ
+bitsRead a = size a - 1
+
+read-most : (a j : ℕ) → a < 2 ^ suc j → bitsRead a ≤ j
+read-most a j h = omega (arith, size-le a (suc j) h)
+
+read-least : (a j : ℕ) → 2 ^ j ≤ a → j ≤ bitsRead a
+read-least a j h =
+    let more : j < size a = lt-of-not-le (λ g. not-le-of-lt (lt-of-lt-of-le (size-lt a) (pow-mono g)) h) in
+    omega (arith, more)
+
+-- with one bit more
+read-next : (a b : ℕ) → b < 2 → bitsRead (a * 2 + b) ≤ 1 + bitsRead a
+read-next a b h = omega (arith, size-le (a * 2 + b) (suc (size a)) (omega (arith, h, size-lt a, pow-suc 2 (size a))))
+
 -- ---- what a device may send more than it takes
+
+-- 24 less the high states that must still come before it sends: six of a command, ten of a count, and its slice, taken as 8 until it begins
 abbrev credit : Registers → Phase → ℕ
 credit r (Hunting w) = 0
-credit r (Opening a) = 0
-credit r (Counting c a) = 0
+credit r (Opening a) = 24 - (6 - bitsRead a + 10 + 8)
+credit r (Counting c a) = 24 - (10 - bitsRead a + 8)
 credit r (Slice c n t) = 24 - (sliceLength r c - t)
 credit r Passing = 0
 credit r Lost = 0
 
--- a slice has at least 24 bits
-values-long : (mux : ℕ) (w : Part) → 1 ≤ w .width → w .banks ≡ 3 → 24 ≤ 8 * w .banks * (1 + mux) * w .width
-values-long mux w h e =
-    rw e (le-trans (le-of-mul mux) (mul-le-mul-left (24 * (1 + mux)) h))
-  where
-    le-of-mul : (m : ℕ) → 24 ≤ 24 * (1 + m) * 1
-    le-of-mul m = omega arith
+-- a slice has 8 bits at least
+long : (r : Registers) (c : Command) → 8 ≤ sliceLength r c
+long r c = slice-bits-some (partOf (r .part)) (usable (r .part)) c (multiplex (r .configuration))
 
-long : (r : Registers) (c : Command) → 24 ≤ sliceLength r c
-long r Individual = values-long (multiplex (r .configuration)) (partOf (r .part)) (field-width-pos (partOf (r .part)) (usable (r .part)) Individual) (banks-three (r .part))
-long r Calibration = each-row (λ p. 24 ≤ p .banks * 8) (lit≤ tt) (lit≤ tt) (r .part)
-long r Global = each-row (λ p. 24 ≤ p .banks * 8) (lit≤ tt) (lit≤ tt) (r .part)
-long r Configuration = each-row (λ p. 24 ≤ p .banks * 8) (lit≤ tt) (lit≤ tt) (r .part)
-
+-- what a clock sends, and the credit after it, are one more than k at most
 abbrev Owes : ℕ → Stepped → Type 0
 Owes k st = length (sentStates (st .sent)) + credit (st .device .registers) (phaseOf (st .device .place)) ≤ 1 + k
 
@@ -73,28 +87,38 @@ credit-at r (Slice c n t) = rw (command-code c)
 credit-at r Passing = refl
 credit-at r Lost = refl
 
--- a phase without credit, after a clock that sent nothing
+-- after a clock that sent nothing
 moved-owes : (r : Registers) (p : Phase) (k : ℕ) → credit r p ≤ 1 + k → Owes k (moved r p)
 moved-owes r p k h = omega (arith, credit-at r p, h)
 
-abbrev Free : Registers → Phase → Type 0
-Free r p = credit r p ≤ 1
+-- a phase has one more credit than the phase before it at most
+abbrev OneMore : Registers → Phase → Phase → Type 0
+OneMore r p q = credit r q ≤ 1 + credit r p
 
-opened-none : (r : Registers) (x : ℕ) → Free r (opened x)
-opened-none r x =
-    cond-both (Free r) (eqb x 0) _ _ (λ _. omega arith)
-    (λ _. cond-both (Free r) (eqb x 21) _ _ (λ _. omega arith)
-    (λ _. cond-both (Free r) (eqb x 42) _ _ (λ _. omega arith)
-    (λ _. cond-both (Free r) (eqb x 63) _ _ (λ _. omega arith) (λ _. omega arith))))
+opened-more : (r : Registers) (a x : ℕ) → 32 ≤ a → OneMore r (Opening a) (opened x)
+opened-more r a x h =
+    cond-both (OneMore r (Opening a)) (eqb x 0) _ _ (λ _. begun Individual)
+    (λ _. cond-both (OneMore r (Opening a)) (eqb x 21) _ _ (λ _. begun Calibration)
+    (λ _. cond-both (OneMore r (Opening a)) (eqb x 42) _ _ (λ _. begun Global)
+    (λ _. cond-both (OneMore r (Opening a)) (eqb x 63) _ _ (λ _. begun Configuration) (λ _. omega arith))))
+  where
+    begun : (c : Command) → OneMore r (Opening a) (Counting c 1)
+    begun c = omega (arith, read-most 1 0 (lit< tt), read-least a 5 h)
 
 high-credit : (r : Registers) (p : Phase) (s : ℕ) → Owes (credit r p) (stepHigh r p s)
-high-credit r (Hunting w) s = moved-owes r (rising w (s % 2)) 0 (cond-both (Free r) (eqb w 0xE8) _ _ (λ _. omega arith) (λ _. omega arith))
+high-credit r (Hunting w) s =
+    moved-owes r (rising w (s % 2)) 0
+    (cond-both (OneMore r (Hunting w)) (eqb w 0xE8) _ _ (λ _. omega (arith, read-most (2 + s % 2) 1 (omega arith))) (λ _. omega arith))
 high-credit r (Opening a) s =
     let n = a * 2 + s % 2 in
-    moved-owes r (opening a (s % 2)) 0 (cond-both (Free r) (ltb n 64) _ _ (λ _. omega arith) (λ _. opened-none r (n - 64)))
+    moved-owes r (opening a (s % 2)) (credit r (Opening a))
+    (cond-both (OneMore r (Opening a)) (ltb n 64) _ _ (λ _. omega (arith, read-next a (s % 2) (omega arith)))
+    (λ e. opened-more r a (n - 64) (omega (arith, ltb-false n 64 e))))
 high-credit r (Counting c a) s =
     let n = a * 2 + s % 2 in
-    moved-owes r (counting c a (s % 2)) 0 (cond-both (Free r) (ltb n 1024) _ _ (λ _. omega arith) (λ _. omega (arith, long r c)))
+    moved-owes r (counting c a (s % 2)) (credit r (Counting c a))
+    (cond-both (OneMore r (Counting c a)) (ltb n 1024) _ _ (λ _. omega (arith, read-next a (s % 2) (omega arith)))
+    (λ e. omega (arith, long r c, read-least a 9 (omega (arith, ltb-false n 1024 e)))))
 high-credit r (Slice c n t) s =
     let q : Registers = took r (t / fieldWidth (partOf (r .part)) c) (s % 2) (fieldLimit (partOf (r .part)) c) in
     let k : ℕ = 24 - (sliceLength r c - t) in
@@ -157,7 +181,7 @@ unfolding chain
 low-through [] xs h = omega arith
 low-through (d ∷ ds) xs h = let t : Tame xs (run d xs .1) = tame d xs h in omega (arith, t .short, low-through ds (run d xs .1) (t .first))
 
--- a slice of which a bit is left to come
+-- 23 where the record fits: of its slice a bit is left to come
 place-credit : (d : Device) → fits d ≡ true → credit (d .registers) (phaseOf (d .place)) ≤ 23
 place-credit d h =
     let p : placeFits (d .place) (d .registers) ≡ true = and-both (placeFits (d .place) (d .registers)) (flagsFit (d .registers) && valuesFit (d .registers)) h .0 in
@@ -173,8 +197,8 @@ place-credit d h =
 
 passing-credit : (r : Registers) (p : Phase) → isPassing p ≡ true → credit r p ≤ 0
 passing-credit r (Hunting w) e = omega arith
-passing-credit r (Opening a) e = omega arith
-passing-credit r (Counting c a) e = omega arith
+passing-credit r (Opening a) e = absurd (no-way e)
+passing-credit r (Counting c a) e = absurd (no-way e)
 passing-credit r (Slice c n t) e = absurd (no-way e)
 passing-credit r Passing e = omega arith
 passing-credit r Lost e = omega arith

@@ -1,7 +1,7 @@
 -- A run by its front is the plain chain: each turn leaves what is still to come as it was. Between turns the devices are those before the
 -- front, which pass, and the rest; what the first ones send of the states left, after a header under way, goes into the rest.
 use mathlib.Core.Path.{_≡_, refl, ap, sym, _∙_, subst}
-use mathlib.Core.Bool.{Bool, true, false, _&&_, cond, true≢false}
+use mathlib.Core.Bool.{Bool, true, false, cond, true≢false}
 use mathlib.Core.List.{List, [], _∷_, _++_, append-assoc}
 use Prim.Native.Nat.{ℕ, zero, suc, _+_, _<_, _≤_}
 use native.Mathlib.Omega.{arith}

@@ -44,8 +44,8 @@ fn bits_from(registers: Registers, first: usize) -> u16
         ⌜
         r
         ≡ orAll (drop (2 * first) (registers .slice))
-          (orAll (drop first (registers .active1))
-          (orAll (drop first (registers .active0)) (orAll (drop first (registers .waiting1)) (orAll (drop first (registers .waiting0)) 0))))
+        (orAll (drop first (registers .active1))
+        (orAll (drop first (registers .active0)) (orAll (drop first (registers .waiting1)) (orAll (drop first (registers .waiting0)) 0))))
         ⌝ }
 {
     let waiting0 = registers.waiting0;

@@ -1,6 +1,6 @@
 //! A chain in place. Only the first device that is not passing can change, so a run costs its states plus N.
 
-use crate::device::{fits, place, step, take_lows, take_slice, Sent};
+use crate::device::{all_fit, place, step, take_lows, take_slice, Sent};
 use crate::part::is_known;
 use crate::Refusal;
 use record::{Device, LOST, PASSING, SLICE};
@@ -11,7 +11,7 @@ pub fn run(devices: &mut [Device], states: &[u8], returned: &mut [u8]) -> Result
     if returned.len() < states.len() + 23 {
         return Err(5);
     }
-    if states.iter().fold(0, |all, &s| all | s) > 3 || !devices.iter().all(fits) {
+    if states.iter().fold(0, |all, &s| all | s) > 3 || !all_fit(devices) {
         return Err(13);
     }
     Ok(run_judged(devices, states, returned))
@@ -129,7 +129,7 @@ pub fn set_fault(
 /// Numbers 1, 2, 4 and 13 of a lent chain.
 pub fn judge(devices: &[Device]) -> Result<(), Refusal> {
     judge_parts(devices)?;
-    if devices.iter().all(fits) {
+    if all_fit(devices) {
         Ok(())
     } else {
         Err(13)
@@ -138,15 +138,20 @@ pub fn judge(devices: &[Device]) -> Result<(), Refusal> {
 
 /// Numbers 1, 2 and 4 of a lent chain.
 pub fn judge_parts(devices: &[Device]) -> Result<(), Refusal> {
-    if devices.iter().any(|d| !is_known(d.registers.part)) {
+    let Some(first) = devices.first() else {
+        return Err(2);
+    };
+    let part = first.registers.part;
+    let are_alike = devices.iter().all(|d| d.registers.part == part);
+    if !is_known(part) || !are_alike && devices.iter().any(|d| !is_known(d.registers.part)) {
         return Err(1);
     }
-    if devices.is_empty() || devices.len() > 1023 {
+    if devices.len() > 1023 {
         return Err(2);
     }
-    let part = devices[0].registers.part;
-    if devices.iter().any(|d| d.registers.part != part) {
-        return Err(4);
+    if are_alike {
+        Ok(())
+    } else {
+        Err(4)
     }
-    Ok(())
 }

@@ -1,8 +1,8 @@
 //! A set against a chain: judged, then compared device by device.
 
 use crate::chain::judge_parts;
-use crate::device::fits;
-use crate::part::{is_known, subframes, values, width};
+use crate::device::all_fit;
+use crate::part::{banks, is_known, subframes, values, width};
 use crate::Refusal;
 use record::{Device, Registers, Set};
 
@@ -30,18 +30,32 @@ fn compare_by(
     chain: &[Device],
 ) -> Result<Option<Difference>, Refusal> {
     judge(set, chain)?;
-    let values = values(set.configuration);
-    let calibration = set.calibration.chunks_exact(3);
-    let individual = set.individual.chunks_exact(values);
+    Ok(match banks(set.part) {
+        2 => first_of_banks::<2>(in_turns, set, chain),
+        _ => first_of_banks::<3>(in_turns, set, chain),
+    })
+}
+
+/// The first difference of a judged set and chain of a part with so many banks.
+#[inline(always)]
+fn first_of_banks<const BANKS: usize>(
+    in_turns: InTurns,
+    set: &Set,
+    chain: &[Device],
+) -> Option<Difference> {
+    let calibration = set.calibration.chunks_exact(BANKS);
+    let individual = set
+        .individual
+        .chunks_exact(values(set.part, set.configuration));
     for (k, (device, (calibration, individual))) in
         chain.iter().zip(calibration.zip(individual)).enumerate()
     {
         let r = &device.registers;
         if let Some((group, place)) = first_difference(in_turns, set, r, calibration, individual) {
-            return Ok(Some((k + 1, group, place)));
+            return Some((k + 1, group, place));
         }
     }
-    Ok(None)
+    None
 }
 
 fn judge(set: &Set, chain: &[Device]) -> Result<(), Refusal> {
@@ -52,8 +66,8 @@ fn judge(set: &Set, chain: &[Device]) -> Result<(), Refusal> {
     if set.devices == 0 || set.devices > 1023 || of_chain == 2 {
         return Err(2);
     }
-    let values = values(set.configuration) * set.devices;
-    if set.calibration.len() != 3 * set.devices
+    let values = values(set.part, set.configuration) * set.devices;
+    if set.calibration.len() != banks(set.part) * set.devices
         || set.individual.len() != values
         || chain.len() != set.devices
         || of_chain == 4
@@ -66,7 +80,7 @@ fn judge(set: &Set, chain: &[Device]) -> Result<(), Refusal> {
     if u16::from(set.global) >= limit || all >> width(set.part) != 0 {
         return Err(6);
     }
-    if chain.iter().all(fits) {
+    if all_fit(chain) {
         Ok(())
     } else {
         Err(13)
@@ -84,18 +98,24 @@ fn first_difference(
     if r.configuration != set.configuration {
         return Some((1, 0));
     }
-    if let Some(place) = (0..3).find(|&k| r.calibration[k] != calibration[k]) {
+    if let Some(place) = first_other(calibration, &r.calibration) {
         return Some((2, place));
     }
     if r.active != set.global {
         return Some((3, 0));
     }
     let place = if set.configuration & 1 == 0 {
-        (0..24).find(|&k| r.active0[k] != individual[k])
+        first_other(individual, &r.active0)
     } else {
         in_turns(r, individual)
     };
     Some((4, place?))
+}
+
+/// Where a device's share of a list first differs from what is held.
+#[inline]
+fn first_other<T: PartialEq>(share: &[T], held: &[T]) -> Option<usize> {
+    share.iter().zip(held).position(|(a, b)| a != b)
 }
 
 /// MUX0 and MUX1 values in turn, up to the first that differs.
@@ -126,5 +146,5 @@ fn first_in_pairs(r: &Registers, individual: &[u16]) -> Option<usize> {
         return None;
     }
     let held = |k: usize| [r.active0, r.active1][k % 2][k / 2];
-    (0..48).find(|&k| held(k) != individual[k])
+    (0..individual.len()).find(|&k| held(k) != individual[k])
 }

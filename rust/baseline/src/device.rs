@@ -1,8 +1,9 @@
 //! One device in place: its judgement, and its clocks one at a time or as many as it can take at once.
 
-use crate::part::{field_width, is_known, slice_bits, width, CALIBRATION, GLOBAL, INDIVIDUAL};
+use crate::part::{banks, field_width, is_known, slice_bits, width};
+use crate::part::{CALIBRATION, GLOBAL, INDIVIDUAL};
 use crate::Refusal;
-use record::{Device, Place, COUNTING, HUNTING, LOST, OPENING, PASSING, SLICE};
+use record::{Device, Place, Registers, COUNTING, HUNTING, LOST, OPENING, PASSING, SLICE};
 
 /// What a device sends on.
 #[derive(Clone, Copy, Debug, PartialEq, Eq)]
@@ -29,12 +30,39 @@ pub fn judge(device: &Device) -> Result<(), Refusal> {
 
 /// Whether the numbers of a record of a known part fit.
 pub fn fits(device: &Device) -> bool {
+    match banks(device.registers.part) {
+        2 => fits_banks::<2>(device),
+        _ => fits_banks::<3>(device),
+    }
+}
+
+/// Whether the numbers of all records of a chain of one known part fit.
+pub fn all_fit(devices: &[Device]) -> bool {
+    match devices.first().map(|first| banks(first.registers.part)) {
+        Some(2) => devices.iter().all(fits_banks::<2>),
+        _ => devices.iter().all(fits_banks::<3>),
+    }
+}
+
+/// Whether the numbers of a record of a part with so many banks fit. What the part does not use holds 0.
+fn fits_banks<const BANKS: usize>(device: &Device) -> bool {
     let r = &device.registers;
-    let any = |values: &[u16]| values.iter().fold(0, |all, &v| all | v);
-    let values = any(&r.waiting0) | any(&r.waiting1) | any(&r.active0) | any(&r.active1);
+    let front = |list: &[u16; 24]| any(&list[..8 * BANKS]);
+    let behind = |list: &[u16; 24]| any(&list[8 * BANKS..]);
+    let used = front(&r.waiting0) | front(&r.waiting1) | front(&r.active0) | front(&r.active1);
+    let unused =
+        behind(&r.waiting0) | behind(&r.waiting1) | behind(&r.active0) | behind(&r.active1);
+    let (slice, rest) = r.slice.split_at(16 * BANKS);
     (r.overtemperature | r.openled) < 2
-        && (values | any(&r.slice)) >> width(r.part) == 0
+        && (used | any(slice)) >> width(r.part) == 0
+        && unused | any(rest) == 0
+        && r.calibration[BANKS..].iter().all(|&byte| byte == 0)
         && fits_place(device)
+}
+
+/// All bits of some values.
+fn any(values: &[u16]) -> u16 {
+    values.iter().fold(0, |all, &v| all | v)
 }
 
 fn fits_place(device: &Device) -> bool {
@@ -174,8 +202,11 @@ pub fn take_slice(device: &mut Device, states: &[u8]) -> (usize, Sent) {
 /// The slice is whole: it is stored and the header sent.
 fn finish(device: &mut Device) -> Sent {
     let Place { command, count, .. } = device.place;
-    store(device, command);
-    let r = &device.registers;
+    let r = &mut device.registers;
+    match banks(r.part) {
+        2 => store::<2>(r, command),
+        _ => store::<3>(r, command),
+    }
     let fault = if command & 1 == 0 {
         r.overtemperature
     } else {
@@ -185,19 +216,21 @@ fn finish(device: &mut Device) -> Sent {
     Sent::Header(command, (count + u16::from(fault)) & 1023)
 }
 
-fn store(device: &mut Device, command: u8) {
-    let r = &mut device.registers;
-    let bytes = [r.slice[0] as u8, r.slice[1] as u8, r.slice[2] as u8];
-    let agree = bytes[0] == bytes[1] && bytes[1] == bytes[2];
+/// Stores the slice of a part with so many banks.
+fn store<const BANKS: usize>(r: &mut Registers, command: u8) {
+    let bytes: [u8; BANKS] = std::array::from_fn(|k| r.slice[k] as u8);
+    let agree = bytes.iter().all(|&byte| byte == bytes[0]);
     match command {
-        INDIVIDUAL if r.configuration & 1 == 0 => r.waiting0.copy_from_slice(&r.slice[..24]),
+        INDIVIDUAL if r.configuration & 1 == 0 => {
+            r.waiting0[..8 * BANKS].copy_from_slice(&r.slice[..8 * BANKS]);
+        }
         INDIVIDUAL => {
-            for (k, pair) in r.slice.chunks_exact(2).enumerate() {
+            for (k, pair) in r.slice[..16 * BANKS].chunks_exact(2).enumerate() {
                 r.waiting0[k] = pair[0];
                 r.waiting1[k] = pair[1];
             }
         }
-        CALIBRATION => r.calibration = bytes,
+        CALIBRATION => r.calibration[..BANKS].copy_from_slice(&bytes),
         GLOBAL if agree => r.waiting = bytes[0],
         GLOBAL => {}
         _ if agree => r.configuration = bytes[0],

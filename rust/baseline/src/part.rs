@@ -1,4 +1,5 @@
-//! The parts' constants, by number. A command is its code C1 C0.
+//! The parts' constants, by number: 6972 and 6973 have two banks, 6974 and 6975 three; even ones have 12-bit values, odd
+//! ones 14-bit. A command is its code C1 C0.
 
 /// Code of an individual frame.
 pub const INDIVIDUAL: u8 = 0;
@@ -12,13 +13,23 @@ pub const CONFIGURATION: u8 = 3;
 /// Whether a number is a part's.
 #[inline]
 pub fn is_known(part: u16) -> bool {
-    part == 6974 || part == 6975
+    (6972..=6975).contains(&part)
+}
+
+/// Banks of eight outputs: bytes of a calibration slice, copies of a global or configuration byte.
+#[inline]
+pub fn banks(part: u16) -> usize {
+    if part < 6974 {
+        2
+    } else {
+        3
+    }
 }
 
 /// Bits of an individual value.
 #[inline]
 pub fn width(part: u16) -> u32 {
-    if part == 6974 {
+    if part & 1 == 0 {
         12
     } else {
         14
@@ -28,8 +39,8 @@ pub fn width(part: u16) -> u32 {
 /// Subframes per frame.
 #[inline]
 pub fn subframes(part: u16, configuration: u8) -> u16 {
-    let plain = match (part, configuration & 0x10) {
-        (6974, _) => 128,
+    let plain = match (part & 1, configuration & 0x10) {
+        (0, _) => 128,
         (_, 0) => 32,
         _ => 8,
     };
@@ -38,8 +49,8 @@ pub fn subframes(part: u16, configuration: u8) -> u16 {
 
 /// Individual values of one device.
 #[inline]
-pub fn values(configuration: u8) -> usize {
-    24 << (configuration & 1)
+pub fn values(part: u16, configuration: u8) -> usize {
+    (8 * banks(part)) << (configuration & 1)
 }
 
 /// Bits of one field of a slice.
@@ -56,8 +67,8 @@ pub fn field_width(command: u8, part: u16) -> u32 {
 #[inline]
 pub fn slice_bits(command: u8, part: u16, configuration: u8) -> usize {
     if command == INDIVIDUAL {
-        values(configuration) * width(part) as usize
+        values(part, configuration) * width(part) as usize
     } else {
-        24
+        8 * banks(part)
     }
 }

@@ -8,7 +8,7 @@ use crate::{packing, Refusal};
 /// What a writer and a reader are told.
 #[derive(Clone, Copy, Debug)]
 pub struct Told {
-    /// 6974 or 6975.
+    /// The part's number.
     pub part: u16,
     /// N.
     pub devices: usize,
@@ -51,8 +51,8 @@ impl Told {
     /// Elements of the command's list.
     pub fn fields(&self) -> usize {
         match self.command {
-            INDIVIDUAL => self.devices * part::values(self.configuration),
-            _ => self.devices * 3,
+            INDIVIDUAL => self.devices * part::values(self.part, self.configuration),
+            _ => self.devices * part::banks(self.part),
         }
     }
 }

@@ -1,11 +1,11 @@
-//! Every baseline against the model, on random cases.
+//! Every baseline against the model, on random cases. The four parts take turns.
 
 use baseline::writer::Told;
 use baseline::{chain, compare, device, grouped, packing, reader, writer};
 use cases::{records, sets, states, Random};
 use model::bits;
 use model::frame::Tail;
-use model::part::Command;
+use model::part::{Command, Part};
 use model::reader::Contents;
 use model::set::Set;
 
@@ -22,9 +22,9 @@ fn told(set: &Set, command: Command, tail: Tail) -> Told {
     }
 }
 
-fn any_set(random: &mut Random) -> Set {
-    let (part, devices) = (sets::part(random), random.between(1, 5));
-    sets::set(random, part, devices)
+fn any_set(random: &mut Random, case: u64) -> Set {
+    let devices = random.between(1, 5);
+    sets::set(random, sets::part(case), devices)
 }
 
 #[test]
@@ -64,9 +64,9 @@ fn packing_and_unpacking() {
 
 #[test]
 fn frames_written_and_read() {
-    for case in 0..4000 {
+    for case in 0..8000 {
         let random = &mut Random::of_case(SEED, case);
-        let mut set = any_set(random);
+        let mut set = any_set(random, case);
         let (command, mut tail) = (random.pick(&Command::ALL), sets::tail(random));
         if random.one_in(8) {
             set.global = random.byte();
@@ -78,7 +78,7 @@ fn frames_written_and_read() {
             tail.number = random.next();
         }
         let given = set.given(command);
-        let room = random.pick(&[6, 2000]);
+        let room = random.pick(&[4, 5, 6, 2000, 2000, 2000]);
         let expected = model::writer::write(&set.told(command, tail), &given, room);
         let mut out = vec![0; room];
         let written = writer::write(
@@ -125,16 +125,19 @@ fn reads_alike(set: &Set, command: Command, tail: Tail, frame: &[u8]) {
     );
 }
 
+fn any_record(random: &mut Random, part: u16) -> record::Device {
+    match random.below(4) {
+        0 => records::junk(random),
+        1 => records::damaged(random, part),
+        _ => records::fitting(random, part),
+    }
+}
+
 #[test]
 fn judgement_and_step_of_any_record() {
-    for case in 0..40_000 {
+    for case in 0..80_000 {
         let random = &mut Random::of_case(SEED, case);
-        let part = sets::part(random);
-        let mut record = match random.below(4) {
-            0 => records::junk(random),
-            1 => records::damaged(random, part),
-            _ => records::fitting(random, part),
-        };
+        let mut record = any_record(random, sets::part(case));
         let judged = model::device::Device::of_record(&record);
         assert_eq!(device::judge(&record).err(), judged.as_ref().err().copied());
         let Ok(known) = judged else { continue };
@@ -154,10 +157,27 @@ fn judgement_and_step_of_any_record() {
 }
 
 #[test]
-fn runs_of_any_chain() {
-    for case in 0..1500 {
+fn judgement_of_any_chain() {
+    for case in 0..8000 {
         let random = &mut Random::of_case(SEED, case);
-        let (part, devices) = (sets::part(random), random.between(1, 4));
+        let part = sets::part(case);
+        let count = random.pick(&[0, 1, 2, 3, 4, 1023, 1024]);
+        let mut chain = vec![records::fitting(random, part); count];
+        if count > 0 && random.one_in(2) {
+            let other = sets::other_part(random, part);
+            let (alike, another) = (any_record(random, part), records::fitting(random, other));
+            chain[random.below(count)] = random.pick(&[alike, another]);
+        }
+        let expected = model::chain::boundary(&mut chain.clone());
+        assert_eq!(chain::judge(&chain), expected);
+    }
+}
+
+#[test]
+fn runs_of_any_chain() {
+    for case in 0..3000 {
+        let random = &mut Random::of_case(SEED, case);
+        let (part, devices) = (sets::part(case), random.between(1, 4));
         let mut records: Vec<_> = (0..devices)
             .map(|_| records::fitting(random, part))
             .collect();
@@ -176,9 +196,10 @@ fn runs_of_any_chain() {
 
 #[test]
 fn comparisons() {
-    for case in 0..3000 {
+    for case in 0..6000 {
         let random = &mut Random::of_case(SEED, case);
-        let set = any_set(random);
+        let set = any_set(random, case);
+        let part = Part::of(set.part).unwrap();
         let mut records = vec![record::Device::fresh(set.part); set.devices];
         for command in Command::RESTORE {
             let states = set.states(command, Tail::default()).unwrap();
@@ -190,10 +211,10 @@ fn comparisons() {
             let r = &mut records[at].registers;
             match random.below(5) {
                 0 => r.configuration ^= 2,
-                1 => r.calibration[random.below(3)] ^= 1,
+                1 => r.calibration[random.below(part.banks())] ^= 1,
                 2 => r.active ^= 64,
-                3 => r.active0[random.below(24)] ^= 1,
-                _ => r.active1[random.below(24)] ^= 1,
+                3 => r.active0[random.below(part.outputs())] ^= 1,
+                _ => r.active1[random.below(part.outputs())] ^= 1,
             }
         }
         let expected = model::compare::compare(&set, &records)
@@ -207,5 +228,6 @@ fn comparisons() {
             individual: &set.individual,
         };
         assert_eq!(compare::compare(&of_set, &records), expected);
+        assert_eq!(compare::compare_quickly(&of_set, &records), expected);
     }
 }

@@ -9,71 +9,59 @@ use model::part::Command;
 use record::{Device, Place};
 use std::hint::black_box;
 
-/// States in a flood: those of an individual frame of 512 multiplexed devices.
-const FLOOD: usize = 344_088;
+/// Devices of a flooded chain.
+const FLOODED: usize = 512;
 
-/// Restores of N = 64, 256, 512, 1023, and of 512 of the other part; floods of 512 devices.
+/// Restores of N = 64, 256, 512, 1023 with 14-bit values, and of 512 with 12-bit values; floods of 512 devices; all of
+/// 24 outputs and of 16.
 pub fn races() {
-    for (part, devices) in [
-        (6975, 64),
-        (6975, 256),
-        (6975, 512),
-        (6975, 1023),
-        (6974, 512),
-    ] {
-        run(
-            &format!("whole restore of a {part} chain through one run, N = {devices}"),
-            &vec![Device::fresh(part); devices],
-            &restore(part, devices),
-            (devices == 512).then_some(2.0),
-        );
+    for [wide, narrow] in [[6975, 6974], [6973, 6972]] {
+        for devices in [64, 256, 512, 1023] {
+            whole_restore(wide, devices);
+        }
+        whole_restore(narrow, 512);
+        floods(wide);
     }
-    floods();
 }
 
-fn floods() {
+fn whole_restore(part: u16, devices: usize) {
+    run(
+        &format!("whole restore of a {part} chain through one run, N = {devices}"),
+        &vec![Device::fresh(part); devices],
+        &restore(part, devices),
+        (devices == 512).then_some(2.0),
+    );
+}
+
+/// Each flood has as many states as an individual frame of the chain, or nearly.
+fn floods(part: u16) {
+    let frame = page(part, FLOODED)
+        .states(Command::Individual, Tail::default())
+        .expect("a page in order");
+    let slice = (frame.len() - 24) / FLOODED;
     let random = &mut Random::of_case(3, 0);
     let mut any = |low: usize, high: usize| -> Vec<u8> {
-        (0..FLOOD)
-            .map(|_| random.between(low, high) as u8)
-            .collect()
+        let states = frame.iter().map(|_| random.between(low, high) as u8);
+        states.collect()
     };
-    let mut chain = vec![Device::fresh(6975); 512];
+    let cut = |length: usize| frame[..length].repeat(frame.len() / length);
+    let mut chain = vec![Device::fresh(part); FLOODED];
     for device in &mut chain {
         device.registers.configuration = 1;
     }
     let mut lost = chain.clone();
     lost[0].place = Place::of(record::LOST);
-    let frame = page(6975, 512)
-        .states(Command::Individual, Tail::default())
-        .expect("a page in order");
-    let cut = |length: usize| frame[..length].repeat(FLOOD / length);
-    let limit = Some(4.0);
-    run("flood at 512 devices: all low", &chain, &any(0, 1), limit);
-    run(
-        "flood at 512 devices: all high at a lost device",
-        &lost,
-        &any(2, 3),
-        limit,
-    );
-    run(
-        "flood at 512 devices: a frame cut in its first slice",
-        &chain,
-        &cut(200),
-        limit,
-    );
-    run(
-        "flood at 512 devices: a frame cut in its third slice",
-        &chain,
-        &cut(1500),
-        limit,
-    );
-    run(
-        "flood at 512 devices: random states",
-        &chain,
-        &any(0, 3),
-        limit,
-    );
+
+    let flood = |what: &str, chain: &[Device], states: Vec<u8>| {
+        let what = format!("flood at a {part} chain, N = {FLOODED}: {what}");
+        run(&what, chain, &states, Some(4.0));
+    };
+    flood("all low", &chain, any(0, 1));
+    flood("all high at a lost device", &lost, any(2, 3));
+    flood("a frame cut in its first slice", &chain, cut(200));
+    let in_third = 24 + 2 * slice + 132;
+    flood("a frame cut in its third slice", &chain, cut(in_third));
+    flood("random states", &chain, any(0, 3));
 }
 
 /// The states of a page's four frames, back to back.

@@ -3,27 +3,35 @@
 use crate::frames::page;
 use crate::race::{best, print};
 use baseline::compare::{compare, compare_quickly};
+use model::set;
 use record::{Device, Set};
 use std::hint::black_box;
 
 const DEVICES: usize = 512;
 
-/// The comparison that looks at everything: they are the same.
+/// The comparison that looks at everything: they are the same. Of 24 outputs and of 16.
 pub fn races() {
-    let set = page(6975, DEVICES);
-    let chain: Vec<Device> = (1..=DEVICES)
-        .map(|number| {
-            let mut device = Device::fresh(set.part);
-            let r = &mut device.registers;
-            r.configuration = set.configuration;
-            r.calibration.copy_from_slice(set.calibration_of(number));
-            r.active = set.global;
-            for (k, pair) in set.individual_of(number).chunks(2).enumerate() {
-                (r.active0[k], r.active1[k]) = (pair[0], pair[1]);
-            }
-            device
-        })
-        .collect();
+    for part in [6975, 6973] {
+        race(&page(part, DEVICES));
+    }
+}
+
+/// A device that runs the set as the one with this number.
+fn running(set: &set::Set, number: usize) -> Device {
+    let mut device = Device::fresh(set.part);
+    let r = &mut device.registers;
+    r.configuration = set.configuration;
+    let calibration = set.calibration_of(number);
+    r.calibration[..calibration.len()].copy_from_slice(calibration);
+    r.active = set.global;
+    for (k, pair) in set.individual_of(number).chunks(2).enumerate() {
+        (r.active0[k], r.active1[k]) = (pair[0], pair[1]);
+    }
+    device
+}
+
+fn race(set: &set::Set) {
+    let chain: Vec<Device> = (1..=DEVICES).map(|number| running(set, number)).collect();
     let lent = Set {
         part: set.part,
         devices: DEVICES,
@@ -48,13 +56,8 @@ pub fn races() {
         },
     ]);
     let unit = ("ns a device", DEVICES as f64);
-    let what = format!("compare {DEVICES} multiplexed devices");
+    let what = format!("compare a {} chain, N = {DEVICES}", set.part);
     print(&what, unit, proved, plain, Some(2.0));
-    print(
-        &format!("{what}, Rust with a quick pass"),
-        unit,
-        proved,
-        quick,
-        Some(2.0),
-    );
+    let what = format!("{what}, Rust with a quick pass");
+    print(&what, unit, proved, quick, Some(2.0));
 }

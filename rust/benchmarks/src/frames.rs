@@ -1,7 +1,7 @@
-//! Individual frames of multiplexed MAX6975 devices, from settings to bytes and back, with all checks.
+//! Individual frames of multiplexed devices with 14-bit values, from settings to bytes and back, with all checks.
 
 use crate::race::{best, print};
-use baseline::part::width;
+use baseline::part::{values, width};
 use baseline::{reader, writer};
 use cases::{sets, Random};
 use model::set::Set;
@@ -9,12 +9,14 @@ use std::hint::black_box;
 
 const INDIVIDUAL: u8 = 0;
 
-/// N = 1, 64, 512, 1023.
+/// N = 1, 64, 512, 1023, of 24 outputs and of 16.
 pub fn races() {
-    for devices in [1, 64, 512, 1023] {
-        let set = page(6975, devices);
-        let frame = write(&set);
-        read(&set, &frame);
+    for part in [6975, 6973] {
+        for devices in [1, 64, 512, 1023] {
+            let set = page(part, devices);
+            let frame = write(&set);
+            read(&set, &frame);
+        }
     }
 }
 
@@ -26,7 +28,7 @@ pub fn page(part: u16, devices: usize) -> Set {
     set.global = 7;
     let highest = (1 << width(part)) - 1;
     set.individual = random
-        .words(48 * devices)
+        .words(devices * values(part, set.configuration))
         .iter()
         .map(|v| v & highest)
         .collect();
@@ -72,7 +74,10 @@ fn write(set: &Set) -> Vec<u8> {
     ]);
     assert!(a == b && a[0] == 0xE8, "written alike");
     print(
-        &format!("write an individual frame, N = {}", set.devices),
+        &format!(
+            "write an individual frame of a {} chain, N = {}",
+            set.part, set.devices
+        ),
         ("ns a device", set.devices as f64),
         proved,
         plain,
@@ -94,7 +99,10 @@ fn read(set: &Set, frame: &[u8]) {
     ]);
     assert!(a == set.individual && b == set.individual, "read alike");
     print(
-        &format!("read an individual frame, N = {}", set.devices),
+        &format!(
+            "read an individual frame of a {} chain, N = {}",
+            set.part, set.devices
+        ),
         ("ns a device", set.devices as f64),
         proved,
         plain,

@@ -4,22 +4,24 @@ use crate::frames::page;
 use crate::race::{best, print};
 use baseline::{chain, device};
 use model::frame::Tail;
-use model::part::Command;
+use model::part::{slice_bits, Command, Part};
 use record::Device;
 use std::hint::black_box;
 
 /// Individual frames in a run of one device.
 const FRAMES: usize = 50;
 
-/// Steps, and collecting.
+/// Steps, and collecting, of a device with 24 outputs and of one with 16.
 pub fn races() {
-    let states = page(6975, 1)
-        .states(Command::Individual, Tail::default())
-        .expect("a page in order");
-    let mut start = Device::fresh(6975);
-    start.registers.configuration = 1;
-    steps(start, &states);
-    collecting(start, &states.repeat(FRAMES));
+    for part in [6975, 6973] {
+        let states = page(part, 1)
+            .states(Command::Individual, Tail::default())
+            .expect("a page in order");
+        let mut start = Device::fresh(part);
+        start.registers.configuration = 1;
+        steps(start, &states);
+        collecting(start, &states.repeat(FRAMES));
+    }
 }
 
 fn steps(start: Device, states: &[u8]) {
@@ -40,7 +42,10 @@ fn steps(start: Device, states: &[u8]) {
     ]);
     assert!(a == b, "stepped alike");
     print(
-        "step, judged, by value against in place",
+        &format!(
+            "step of a {}, judged, by value against in place",
+            start.registers.part
+        ),
         ("ns a state", states.len() as f64),
         judged,
         judged_rust,
@@ -60,8 +65,11 @@ fn collecting(start: Device, states: &[u8]) {
         },
     ]);
     assert!(a == b && back == back_rust, "collected alike");
+    let r = &start.registers;
+    let part = Part::of(r.part).expect("a part's number");
+    let bits = slice_bits(Command::Individual, part, r.configuration);
     print(
-        &format!("collect {FRAMES} slices of 672 bits, one device"),
+        &format!("collect {FRAMES} slices of {bits} bits, one {}", r.part),
         ("ns a state", states.len() as f64),
         proved,
         plain,

@@ -8,21 +8,26 @@ use record::{Device, Place, Registers};
 /// A record that fits, in any phase.
 pub fn fitting(random: &mut Random, part: u16) -> Device {
     let known = Part::of(part).expect("a part's number");
-    let values = |random: &mut Random| [(); 24].map(|()| value(random, known));
-    let registers = Registers {
-        part,
+    let mut registers = Registers {
         overtemperature: random.below(2) as u8,
         openled: random.below(2) as u8,
         configuration: random.byte(),
-        calibration: [random.byte(), random.byte(), random.byte()],
         waiting: random.byte(),
         active: random.byte(),
-        waiting0: values(random),
-        waiting1: values(random),
-        active0: values(random),
-        active1: values(random),
-        slice: [(); 48].map(|()| value(random, known)),
+        ..Registers::zeros(part)
     };
+    let r = &mut registers;
+    let calibration = random.bytes(known.banks());
+    r.calibration[..known.banks()].copy_from_slice(&calibration);
+    for list in [
+        &mut r.waiting0,
+        &mut r.waiting1,
+        &mut r.active0,
+        &mut r.active1,
+    ] {
+        list[..known.outputs()].fill_with(|| value(random, known));
+    }
+    r.slice[..2 * known.outputs()].fill_with(|| value(random, known));
     Device {
         registers,
         place: place(random, known, registers.configuration),
@@ -69,30 +74,63 @@ fn opening(random: &mut Random) -> u16 {
 
 /// A record with one number that may not fit.
 pub fn damaged(random: &mut Random, part: u16) -> Device {
+    let known = Part::of(part).expect("a part's number");
     let mut device = fitting(random, part);
     let any = random.next() as u16;
-    let limit = if part == 6974 { 4096 } else { 16_384 };
+    let limit = 1 << known.value_width();
     let high = random.pick(&[limit - 1, limit, any]);
+    let outputs = known.outputs();
     let r = &mut device.registers;
-    match random.below(12) {
+    let kinds = if has_unused(r, known) { 14 } else { 12 };
+    match random.below(kinds) {
         0 => r.part = unknown_part(random),
         1 => r.overtemperature = random.pick(&[1, 2, 255]),
         2 => r.openled = random.pick(&[1, 2, 255]),
-        3 => r.waiting0[random.below(24)] = high,
-        4 => r.waiting1[random.below(24)] = high,
-        5 => r.active0[random.below(24)] = high,
-        6 => r.active1[random.below(24)] = high,
-        7 => r.slice[random.below(48)] = high,
+        3 => r.waiting0[random.below(outputs)] = high,
+        4 => r.waiting1[random.below(outputs)] = high,
+        5 => r.active0[random.below(outputs)] = high,
+        6 => r.active1[random.below(outputs)] = high,
+        7 => r.slice[random.below(2 * outputs)] = high,
         8 => device.place.phase = random.pick(&[0, 1, 2, 3, 4, 5, 6, 255]),
         9 => device.place.command = random.pick(&[0, 1, 3, 4, 255]),
         10 => device.place.count = random.pick(&[0, 1, 1023, 1024, any]),
-        _ => {
-            let small = random.pick(&[0, 1, 2, 23, 24, 63, 64, 255, 256, 287, 288, 335, 336]);
-            let large = random.pick(&[575, 576, 671, 672, 1023, 1024, any]);
-            device.place.read = random.pick(&[small, large]);
-        }
+        11 => device.place.read = read(random, known, r.configuration),
+        _ => fill_unused(random, r, known),
     }
     device
+}
+
+/// A number of bits read: about the length of a slice, or about the limit of another phase.
+fn read(random: &mut Random, part: Part, configuration: u8) -> u16 {
+    let (command, other) = (random.pick(&Command::ALL), random.byte());
+    let mode = random.pick(&[configuration, other]);
+    let bits = slice_bits(command, part, mode) as u16;
+    let any = random.next() as u16;
+    let limit = random.pick(&[0, 1, 2, 63, 64, 255, 256, 1023, 1024, any]);
+    random.pick(&[bits - 1, bits, limit])
+}
+
+/// Whether a record has places that its part does not use.
+fn has_unused(r: &Registers, part: Part) -> bool {
+    part.banks() < r.calibration.len()
+}
+
+/// Something other than 0 in a place that the part does not use.
+fn fill_unused(random: &mut Random, r: &mut Registers, part: Part) {
+    let any = random.next() as u16;
+    let value = random.pick(&[1, 1 << 11, 1 << 15, any | 1]);
+    let list: &mut [u16] = match random.below(6) {
+        0 => &mut r.waiting0[part.outputs()..],
+        1 => &mut r.waiting1[part.outputs()..],
+        2 => &mut r.active0[part.outputs()..],
+        3 => &mut r.active1[part.outputs()..],
+        4 => &mut r.slice[2 * part.outputs()..],
+        _ => {
+            r.calibration[part.banks()..].fill(value.to_be_bytes()[0] | 1);
+            return;
+        }
+    };
+    list[random.below(list.len())] = value;
 }
 
 /// A record that holds anything at all.

@@ -2,17 +2,23 @@
 
 use crate::Random;
 use model::frame::Tail;
-use model::part::{values_per_device, Part};
+use model::part::Part;
 use model::set::Set;
 
-/// A part's number.
-pub fn part(random: &mut Random) -> u16 {
-    random.pick(&[6974, 6975])
+/// The part's number of a case: the four take turns, so that each has as many cases.
+pub fn part(case: u64) -> u16 {
+    Part::ALL[case as usize % Part::ALL.len()].number()
+}
+
+/// The number of another part.
+pub fn other_part(random: &mut Random, part: u16) -> u16 {
+    let others = Part::ALL.map(Part::number).into_iter();
+    random.pick(&others.filter(|&other| other != part).collect::<Vec<_>>())
 }
 
 /// A number that is no part's.
 pub fn unknown_part(random: &mut Random) -> u16 {
-    random.pick(&[0, 1, 6972, 6973, 6976, 16_974, u16::MAX])
+    random.pick(&[0, 1, 6971, 6976, 16_974, u16::MAX])
 }
 
 /// A set that no number refuses, with values at their limits among the others.
@@ -20,12 +26,12 @@ pub fn set(random: &mut Random, part: u16, devices: usize) -> Set {
     let known = Part::of(part).expect("a part's number");
     let configuration = random.byte();
     let subframes = known.subframes(configuration) as usize;
-    let count = devices * values_per_device(configuration);
+    let count = devices * known.values(configuration);
     Set {
         part,
         devices,
         configuration,
-        calibration: random.bytes(3 * devices),
+        calibration: random.bytes(devices * known.banks()),
         global: random.below(subframes) as u8,
         individual: (0..count).map(|_| value(random, known)).collect(),
     }

@@ -2,8 +2,8 @@
 
 use crate::Random;
 use model::frame::{header, Tail};
-use model::serial::clocked;
 use model::part::Command;
+use model::serial::clocked;
 use model::set::Set;
 
 /// States of any kind: random ones, floods, headers and frames that are cut short.

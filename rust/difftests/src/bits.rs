@@ -62,7 +62,7 @@ pub fn packing() -> Tally {
     tally
 }
 
-/// Every part number near the two, every configuration, every command.
+/// Every part number near the four, every configuration, every command.
 pub fn parts() -> Tally {
     let mut tally = Tally::new("subframes and slice lengths", 0);
     for part in (6900..7000).chain([0, u16::MAX]) {

@@ -5,22 +5,18 @@ use crate::tally::{Case, Tally};
 use cases::{records, sets, states, Random};
 use record::Device;
 
-/// Chains of records that fit, of damaged ones and of junk; too few and too many; of two parts.
+/// Chains of records that fit, of damaged ones and of junk; too few and too many; of any two parts.
 pub fn lent() -> Tally {
     let mut tally = Tally::new("calls on lent records", 0x1E27);
-    for number in 0..40_000 {
-        let random = &mut Random::of_case(tally.seed(), number);
-        tally.case(number, |case| {
-            let part = sets::part(random);
-            let chain = any_chain(random, part);
-            match random.below(8) {
-                0 => fresh(case, random, chain),
-                1 => boundary(case, chain),
-                2 => set_fault(case, random, chain),
-                _ => run(case, random, chain, part),
-            }
-        });
-    }
+    tally.of_each_part(20_000, |case, random, part| {
+        let chain = any_chain(random, part);
+        match random.below(8) {
+            0 => fresh(case, random, chain, part),
+            1 => boundary(case, chain),
+            2 => set_fault(case, random, chain),
+            _ => run(case, random, chain, part),
+        }
+    });
     tally.close(&[0, 1, 2, 4, 5, 13]);
     tally
 }
@@ -41,7 +37,10 @@ fn any_chain(random: &mut Random, part: u16) -> Vec<Device> {
         let at = random.below(count);
         chain[at] = match random.below(4) {
             0 => records::junk(random),
-            1 => records::fitting(random, part ^ 1),
+            1 => {
+                let other = sets::other_part(random, part);
+                records::fitting(random, other)
+            }
             _ => records::damaged(random, part),
         };
     }
@@ -88,9 +87,9 @@ fn run(case: &mut Case, random: &mut Random, mut chain: Vec<Device>, part: u16) 
     case.reach(found.refusal);
 }
 
-fn fresh(case: &mut Case, random: &mut Random, mut chain: Vec<Device>) {
-    let unknown = sets::unknown_part(random);
-    let part = random.pick(&[6974, 6975, 6975, unknown]);
+fn fresh(case: &mut Case, random: &mut Random, mut chain: Vec<Device>, part: u16) {
+    let (other, unknown) = (sets::other_part(random, part), sets::unknown_part(random));
+    let part = random.pick(&[part, part, other, unknown]);
     let mut expected_chain = chain.clone();
     let expected = model::chain::fresh(&mut expected_chain, part);
     let found = ffi::fresh(&mut chain, part);

@@ -5,29 +5,26 @@ use crate::tally::{Case, Tally};
 use cases::{records, sets, Random};
 use ffi::Compared;
 use model::compare::{compare, Difference, Group};
-use model::part::multiplexed;
+use model::part::{multiplexed, Part};
 use model::set::Set;
 use record::Device;
 
 /// The first difference, and every refusal.
 pub fn compared() -> Tally {
     let mut tally = Tally::new("compare", 0xC039);
-    for number in 0..60_000 {
-        let random = &mut Random::of_case(tally.seed(), number);
-        tally.case(number, |case| compare_case(case, random));
-    }
+    tally.of_each_part(30_000, compare_case);
     tally.close(&[0, 1, 2, 4, 6, 13]);
     tally
 }
 
-fn compare_case(case: &mut Case, random: &mut Random) {
-    let (part, devices) = (sets::part(random), random.between(1, 6));
+fn compare_case(case: &mut Case, random: &mut Random, part: u16) {
+    let devices = random.between(1, 6);
     let mut set = sets::set(random, part, devices);
     let mut chain: Vec<Device> = (1..=devices)
         .map(|number| running(random, &set, number))
         .collect();
     for _ in 0..random.below(4) {
-        differ(random, &mut chain);
+        differ(random, part, &mut chain);
     }
     if random.one_in(4) {
         damage(random, &mut set, &mut chain);
@@ -46,30 +43,32 @@ fn running(random: &mut Random, set: &Set, number: usize) -> Device {
     // A place in a slice fits by D0, which changes here.
     device.place = record::Place::of(record::PASSING);
     r.configuration = set.configuration;
-    r.calibration.copy_from_slice(set.calibration_of(number));
+    let calibration = set.calibration_of(number);
+    r.calibration[..calibration.len()].copy_from_slice(calibration);
     r.active = set.global;
     let values = set.individual_of(number);
     if multiplexed(set.configuration) {
-        for k in 0..24 {
-            r.active0[k] = values[2 * k];
-            r.active1[k] = values[2 * k + 1];
+        for (k, pair) in values.chunks(2).enumerate() {
+            (r.active0[k], r.active1[k]) = (pair[0], pair[1]);
         }
     } else {
-        r.active0.copy_from_slice(values);
+        r.active0[..values.len()].copy_from_slice(values);
     }
     device
 }
 
-/// One register of one device changes.
-fn differ(random: &mut Random, chain: &mut [Device]) {
+/// One register in use of one device changes.
+fn differ(random: &mut Random, part: u16, chain: &mut [Device]) {
+    let part = Part::of(part).expect("a part's number");
+    let (banks, outputs) = (part.banks(), part.outputs());
     let at = random.below(chain.len());
     let r = &mut chain[at].registers;
     match random.below(8) {
         0 => r.configuration ^= 1 << random.below(8),
-        1 => r.calibration[random.below(3)] ^= 1 << random.below(8),
+        1 => r.calibration[random.below(banks)] ^= 1 << random.below(8),
         2 => r.active ^= 1 << random.below(8),
-        3 | 4 => r.active0[random.below(24)] ^= 1 << random.below(12),
-        5 | 6 => r.active1[random.below(24)] ^= 1 << random.below(12),
+        3 | 4 => r.active0[random.below(outputs)] ^= 1 << random.below(12),
+        5 | 6 => r.active1[random.below(outputs)] ^= 1 << random.below(12),
         _ => r.waiting ^= 1,
     }
 }
@@ -83,8 +82,8 @@ fn damage(random: &mut Random, set: &mut Set, chain: &mut Vec<Device>) {
         2 => set.devices = random.pick(&[0, 1024, usize::MAX]),
         3 => chain.clear(),
         4 => chain.resize(random.pick(&[at + 1, 1023, 1024]), chain[0]),
-        5 => set.part ^= 1,
-        6 => chain[at].registers.part ^= 1,
+        5 => set.part = sets::other_part(random, set.part),
+        6 => chain[at].registers.part = sets::other_part(random, set.part),
         7 => set.calibration.truncate(at),
         8 => set.individual.push(0),
         9 => set.configuration ^= 1,

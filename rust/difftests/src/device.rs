@@ -1,48 +1,44 @@
 //! One device by value: its judgement and its step.
 
 use crate::tally::Tally;
-use cases::{records, sets, Random};
+use cases::records;
 use ffi::Stepped;
 use model::device::Device;
 use model::frame::header;
-use model::serial::clocked;
 use model::part::Command;
+use model::serial::clocked;
 
 /// Records that fit, records with one number changed, and records of anything; states 0 to 3, and others.
 pub fn judged_and_stepped() -> Tally {
     let mut tally = Tally::new("judge and step", 0x57E9);
-    for number in 0..120_000 {
-        let random = &mut Random::of_case(tally.seed(), number);
-        tally.case(number, |case| {
-            let part = sets::part(random);
-            let record = match random.below(4) {
-                0 => records::junk(random),
-                1 => records::damaged(random, part),
-                _ => records::fitting(random, part),
-            };
-            let any = random.byte();
-            let state = random.pick(&[0, 1, 2, 3, 2, 3, 3, any]);
-            let judged = Device::of_record(&record);
-            let refusal = judged.as_ref().err().copied().unwrap_or(0);
-            case.same("judgement", ffi::judge(record), refusal);
+    tally.of_each_part(60_000, |case, random, part| {
+        let record = match random.below(4) {
+            0 => records::junk(random),
+            1 => records::damaged(random, part),
+            _ => records::fitting(random, part),
+        };
+        let any = random.byte();
+        let state = random.pick(&[0, 1, 2, 3, 2, 3, 3, any]);
+        let judged = Device::of_record(&record);
+        let refusal = judged.as_ref().err().copied().unwrap_or(0);
+        case.same("judgement", ffi::judge(record), refusal);
 
-            let stepped = ffi::step(record, state);
-            case.reach(stepped.refusal);
-            let refusal = match refusal {
-                0 if state > 3 => 13,
-                other => other,
-            };
-            case.same("refusal", stepped.refusal, refusal);
-            match judged {
-                Ok(device) if state < 4 => {
-                    let (next, sent) = device.step(state);
-                    case.same("next device", stepped.device, next.to_record());
-                    case.same("sent", states_of(&stepped), sent);
-                }
-                _ => case.same("refused", stepped, kept(record, refusal)),
+        let stepped = ffi::step(record, state);
+        case.reach(stepped.refusal);
+        let refusal = match refusal {
+            0 if state > 3 => 13,
+            other => other,
+        };
+        case.same("refusal", stepped.refusal, refusal);
+        match judged {
+            Ok(device) if state < 4 => {
+                let (next, sent) = device.step(state);
+                case.same("next device", stepped.device, next.to_record());
+                case.same("sent", states_of(&stepped), sent);
             }
-        });
-    }
+            _ => case.same("refused", stepped, kept(record, refusal)),
+        }
+    });
     tally.close(&[0, 1, 13]);
     tally
 }

@@ -5,7 +5,7 @@ use crate::tally::{Case, Tally};
 use cases::{sets, Random};
 use model::bits::{bits_of, pack};
 use model::frame::{frame_bits, header, Tail, Told};
-use model::part::{values_per_device, Command, Part};
+use model::part::{Command, Part};
 use model::reader::{self, Contents};
 use model::set::Set;
 use model::writer;
@@ -31,7 +31,7 @@ fn devices(random: &mut Random) -> usize {
     }
 }
 
-/// Changes what is told so that a number of 1, 2, 3 or 6 may apply.
+/// Changes what is told so that a number of 1, 2, 3, 4 or 6 may apply.
 fn mistell(random: &mut Random, told: &mut Told) {
     match random.below(60) {
         0 => told.part = sets::unknown_part(random),
@@ -41,6 +41,7 @@ fn mistell(random: &mut Random, told: &mut Told) {
         4 => told.tail.number |= 1 << (told.tail.length % 64),
         5 => told.configuration = random.byte(),
         6 => told.devices = devices(random),
+        7 => told.part = sets::other_part(random, told.part),
         _ => {}
     }
 }
@@ -48,16 +49,13 @@ fn mistell(random: &mut Random, told: &mut Told) {
 /// The writer: the answer, and the whole of the lent output.
 pub fn written() -> Tally {
     let mut tally = Tally::new("write", 0x3217);
-    for number in 0..60_000 {
-        let random = &mut Random::of_case(tally.seed(), number);
-        tally.case(number, |case| write_case(case, random));
-    }
+    tally.of_each_part(30_000, write_case);
     tally.close(&[0, 1, 2, 3, 4, 5, 6]);
     tally
 }
 
-fn write_case(case: &mut Case, random: &mut Random) {
-    let (part, count) = (sets::part(random), devices(random));
+fn write_case(case: &mut Case, random: &mut Random, part: u16) {
+    let count = devices(random);
     let mut set = sets::set(random, part, count);
     let command = random.pick(&Command::ALL);
     let mut told = set.told(command, sets::tail(random));
@@ -68,19 +66,14 @@ fn write_case(case: &mut Case, random: &mut Random) {
     misset(random, &mut set);
     let given = set.given(command);
 
-    let needed = Part::of(part).map_or(0, |p| {
-        let few = Told {
-            devices: told.devices.min(2000),
-            ..told
-        };
-        frame_bits(&few, p).div_ceil(8).min(100_000)
-    });
-    let room = match random.below(30) {
-        0 => needed.saturating_sub(1),
-        1 => random.below(needed + 1),
-        2..=15 => needed,
-        _ => needed + random.below(20),
+    let few = Told {
+        devices: told.devices.min(2000),
+        ..told
     };
+    let needed = frame_bits(&few, part_of(&told, part))
+        .div_ceil(8)
+        .min(100_000);
+    let room = any_room(random, needed);
     let mut out = random.bytes(room);
     let expected = writer::write(&told, &given, room);
     let mut after = out.clone();
@@ -102,6 +95,22 @@ fn write_case(case: &mut Case, random: &mut Random) {
         let frame = &out[..found.value as usize];
         reads_back(case, random, &told, &given, frame);
     }
+}
+
+/// Room for so many bytes, seldom too little.
+fn any_room(random: &mut Random, needed: usize) -> usize {
+    match random.below(30) {
+        0 => needed.saturating_sub(1),
+        1 => random.below(needed + 1),
+        2..=15 => needed,
+        _ => needed + random.below(20),
+    }
+}
+
+/// The told part; where it is unknown, the set's.
+fn part_of(told: &Told, part: u16) -> Part {
+    let known = Part::of(told.part).or(Part::of(part));
+    known.expect("a part's number")
 }
 
 /// Demand 2: what was written reads back as those settings.
@@ -126,8 +135,9 @@ fn reads_back(
 
 /// Changes a set so that 4 or 6 may apply.
 fn misset(random: &mut Random, set: &mut Set) {
+    let known = Part::of(set.part).expect("a part's number");
     let any = random.next() as u16;
-    let limit = if set.part == 6974 { 4096 } else { 16_384 };
+    let limit = 1 << known.value_width();
     let at = random.below(set.individual.len());
     match random.below(24) {
         0 => set.individual[at] = limit,
@@ -137,10 +147,7 @@ fn misset(random: &mut Random, set: &mut Set) {
         4 => set.calibration.push(0),
         5 => set.calibration.truncate(at),
         6 | 7 => set.global = random.byte(),
-        8 => {
-            let known = Part::of(set.part).expect("a part's number");
-            set.global = known.subframes(set.configuration) as u8;
-        }
+        8 => set.global = known.subframes(set.configuration) as u8,
         _ => {}
     }
 }
@@ -148,16 +155,13 @@ fn misset(random: &mut Random, set: &mut Set) {
 /// The reader: the answer, and the whole of both lent lists.
 pub fn read() -> Tally {
     let mut tally = Tally::new("read", 0x2EAD);
-    for number in 0..80_000 {
-        let random = &mut Random::of_case(tally.seed(), number);
-        tally.case(number, |case| read_case(case, random));
-    }
+    tally.of_each_part(40_000, read_case);
     tally.close(&(0..=12).collect::<Vec<_>>());
     tally
 }
 
-fn read_case(case: &mut Case, random: &mut Random) {
-    let (part, count) = (sets::part(random), devices(random));
+fn read_case(case: &mut Case, random: &mut Random, part: u16) {
+    let count = devices(random);
     let set = sets::set(random, part, count);
     let command = random.pick(&Command::ALL);
     let mut told = set.told(command, sets::tail(random));
@@ -175,15 +179,7 @@ fn read_case(case: &mut Case, random: &mut Random) {
         told.tail = sets::tail(random);
     }
 
-    let full = [3, values_per_device(told.configuration)].map(|n| n * told.devices.min(1023));
-    let [mut bytes_room, mut values_room] = full;
-    if random.one_in(20) {
-        bytes_room = bytes_room.saturating_sub(random.between(1, 3));
-        values_room = values_room.saturating_sub(random.between(1, 3));
-    } else if random.one_in(2) {
-        bytes_room += random.below(4);
-        values_room += random.below(4);
-    }
+    let [bytes_room, values_room] = any_list_rooms(random, &told, part_of(&told, part));
     let (mut bytes, mut values) = (random.bytes(bytes_room), random.words(values_room));
     let room = match told.command {
         Command::Individual => values_room,
@@ -212,6 +208,19 @@ fn read_case(case: &mut Case, random: &mut Random) {
     if let Ok(contents) = expected {
         writes_again(case, random, &told, &contents, &frame);
     }
+}
+
+/// Room for the calibration bytes and for the values of a frame, seldom too little.
+fn any_list_rooms(random: &mut Random, told: &Told, part: Part) -> [usize; 2] {
+    let (is_short, is_long) = (random.one_in(20), random.one_in(2));
+    [part.banks(), part.values(told.configuration)].map(|of_device| {
+        let full = of_device * told.devices.min(1023);
+        match (is_short, is_long) {
+            (true, _) => full.saturating_sub(random.between(1, 3)),
+            (false, true) => full + random.below(4),
+            (false, false) => full,
+        }
+    })
 }
 
 /// Demand 2: an accepted frame is written again to the same bytes.
@@ -266,19 +275,16 @@ fn damage(random: &mut Random, told: &Told, frame: &mut Vec<u8>) {
 /// The return reader.
 pub fn returned() -> Tally {
     let mut tally = Tally::new("read a return", 0x2E72);
-    for number in 0..40_000 {
-        let random = &mut Random::of_case(tally.seed(), number);
-        tally.case(number, |case| return_case(case, random));
-    }
+    tally.of_each_part(20_000, return_case);
     tally.close(&[0, 1, 2, 3, 4, 6, 7, 8, 9, 11, 12]);
     tally
 }
 
-fn return_case(case: &mut Case, random: &mut Random) {
+fn return_case(case: &mut Case, random: &mut Random, part: u16) {
     let tail = sets::tail(random);
     let any = random.between(1, 1023);
     let mut told = Told {
-        part: sets::part(random),
+        part,
         devices: random.pick(&[1, 2, 1023, any]),
         command: random.pick(&Command::ALL),
         configuration: random.byte(),

@@ -17,19 +17,15 @@ struct Chain {
     model: Vec<Device>,
 }
 
-/// 1,000 histories.
+/// 500 histories of each part.
 pub fn restored() -> Tally {
     let mut tally = Tally::new("histories, restores and cuts", 0x415D);
-    for number in 0..1_000 {
-        let random = &mut Random::of_case(tally.seed(), number);
-        tally.case(number, |case| history(case, random));
-    }
+    tally.of_each_part(500, history);
     tally.close(&[0, 1, 2, 5, 13]);
     tally
 }
 
-fn history(case: &mut Case, random: &mut Random) {
-    let part = sets::part(random);
+fn history(case: &mut Case, random: &mut Random, part: u16) {
     let devices = match random.below(50) {
         0 => random.between(13, 30),
         1..=5 => random.between(6, 12),
@@ -119,7 +115,7 @@ impl Chain {
         let mut returned = [0xEE; 40];
         let devices = self.library.len();
         let (found, expected) = match random.below(6) {
-            0 => (ffi::fresh(&mut self.library, 6973), 1),
+            0 => (ffi::fresh(&mut self.library, sets::unknown_part(random)), 1),
             1 => (ffi::set_fault(&mut self.library, devices + 1, 0, 1), 13),
             2 => (ffi::set_fault(&mut self.library, 1, 2, 1), 13),
             3 => {
@@ -218,18 +214,18 @@ impl Restore<'_> {
         case.same("count", (read.refusal, read.value), (0, u64::from(count)));
     }
 
-    /// Every device's registers in use hold the values of its own slices.
+    /// Every device's registers in use hold the values of its own slices, and what its part does not use holds 0.
     fn is_restored(&self, case: &mut Case, devices: &[Device]) {
         for (number, device) in (1..).zip(devices) {
             let r = &device.registers;
             case.same("configuration", r.configuration, self.set.configuration);
             let calibration = self.set.calibration_of(number);
-            case.same("calibration", &r.calibration[..], calibration);
+            case.same("calibration", r.calibration, front(calibration));
             case.same("active global", r.active, self.set.global);
             let (mux0, mux1) = self.values_of(number);
-            case.same("active MUX0 values", &r.active0[..], &mux0);
+            case.same("active MUX0 values", r.active0, front(&mux0));
             if multiplexed(self.set.configuration) {
-                case.same("active MUX1 values", &r.active1[..], &mux1);
+                case.same("active MUX1 values", r.active1, front(&mux1));
             }
         }
     }
@@ -286,24 +282,29 @@ impl Restore<'_> {
             let configuration = byte(0, self.set.configuration, old.configuration);
             case.same("cut: configuration", new.configuration, configuration);
             let calibration = match arrived(1) {
-                true => self.set.calibration_of(number),
-                false => &old.calibration,
+                true => front(self.set.calibration_of(number)),
+                false => old.calibration,
             };
-            case.same("cut: calibration", &new.calibration[..], calibration);
+            case.same("cut: calibration", new.calibration, calibration);
             let global = byte(2, self.set.global, old.waiting);
             case.same("cut: waiting global", new.waiting, global);
-            let (mut mux0, mut mux1) = (old.waiting0.to_vec(), old.waiting1.to_vec());
+            let (mut mux0, mut mux1) = (old.waiting0, old.waiting1);
             if arrived(3) {
                 let (set0, set1) = self.values_of(number);
-                mux0 = set0;
+                mux0 = front(&set0);
                 if multiplexed(self.set.configuration) {
-                    mux1 = set1;
+                    mux1 = front(&set1);
                 }
             }
-            case.same("cut: waiting MUX0 values", &new.waiting0[..], &mux0);
-            case.same("cut: waiting MUX1 values", &new.waiting1[..], &mux1);
+            case.same("cut: waiting MUX0 values", new.waiting0, mux0);
+            case.same("cut: waiting MUX1 values", new.waiting1, mux1);
         }
     }
+}
+
+/// A record's list with values in use at its front, and 0 behind.
+fn front<T: Copy + Default, const N: usize>(values: &[T]) -> [T; N] {
+    std::array::from_fn(|k| values.get(k).copied().unwrap_or_default())
 }
 
 /// A frame's states by the library's own way: written, and put on the wire.

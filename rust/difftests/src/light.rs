@@ -36,7 +36,8 @@ fn clocks(result: Result<Range<u32>, u8>) -> Clocks {
 /// Every global byte with every subframe and window, and those just outside. A case is one global byte.
 pub fn schedules() -> Tally {
     let mut tally = Tally::new("ON subframes and leads", 0);
-    for part in [6974, 6975, 6973] {
+    let unknown = [0, 6971, 6976];
+    for part in Part::ALL.map(Part::number).into_iter().chain(unknown) {
         for configuration in CONFIGURATIONS {
             let subframes = Part::of(part).map_or(4, |p| p.subframes(configuration));
             for global in 0..=255 {
@@ -65,7 +66,8 @@ pub fn schedules() -> Tally {
     tally
 }
 
-/// Every clock of a subframe that is ON and of one that is not, for every output. A case is a part, a value, an output.
+/// Every clock of a subframe that is ON and of one that is not, for every output and those past the last. A case is a
+/// part, a value, an output.
 pub fn lit_clocks() -> Tally {
     let mut tally = Tally::new("lit clocks", 0x0117);
     for part in Part::ALL {
@@ -74,7 +76,7 @@ pub fn lit_clocks() -> Tally {
         let random = &mut Random::of_case(tally.seed(), u64::from(part.number()));
         let any = [(); 2].map(|()| random.below(clocks as usize) as u32);
         for value in edges.into_iter().chain(any) {
-            for output in 0..24 {
+            for output in 0..=24 {
                 tally.case(u64::from(value), |case| {
                     // With global byte 0 only the last subframe is ON.
                     for subframe in [0, part.subframes(0) - 1] {
@@ -91,7 +93,7 @@ pub fn lit_clocks() -> Tally {
             }
         }
     }
-    tally.close(&[0]);
+    tally.close(&[0, 13]);
     tally
 }
 
@@ -109,7 +111,7 @@ fn any_position(random: &mut Random, part: u16, configuration: u8) -> ffi::Posit
     let known = Part::of(part).unwrap_or(Part::Max6975);
     let subframes = known.subframes(configuration);
     let limits = [
-        24,
+        known.outputs() as u32,
         subframes,
         known.clocks(),
         1 + u32::from(configuration & 1),
@@ -122,10 +124,12 @@ fn any_position(random: &mut Random, part: u16, configuration: u8) -> ffi::Posit
     at
 }
 
-/// A part's number, seldom one that is no part's.
-fn any_part(random: &mut Random) -> u16 {
-    let (known, unknown) = (sets::part(random), sets::unknown_part(random));
-    random.pick(&[known, known, known, known, known, known, unknown])
+/// The part's number, seldom one that is no part's.
+fn any_part(random: &mut Random, part: u16) -> u16 {
+    match random.below(7) {
+        0 => sets::unknown_part(random),
+        _ => part,
+    }
 }
 
 /// A record of a part, seldom one that does not fit.
@@ -140,20 +144,17 @@ fn any_record(random: &mut Random, part: u16) -> Device {
 /// Any numbers.
 pub fn positions() -> Tally {
     let mut tally = Tally::new("lit from numbers", 0x9051);
-    for number in 0..300_000 {
-        let random = &mut Random::of_case(tally.seed(), number);
-        tally.case(number, |case| {
-            let part = any_part(random);
-            let (configuration, global) = (random.byte(), random.byte());
-            let any = random.next() as u16;
-            let value = random.pick(&[any, any & 0xFFF, any & 0x3FFF]);
-            let at = any_position(random, part, configuration);
-            let found = ffi::lit(part, configuration, global, value, at);
-            let expected = is_lit(part, configuration, global, value, position(at));
-            case.same("lit", found, flag(expected));
-            case.reach(found.refusal);
-        });
-    }
+    tally.of_each_part(150_000, |case, random, part| {
+        let part = any_part(random, part);
+        let (configuration, global) = (random.byte(), random.byte());
+        let any = random.next() as u16;
+        let value = random.pick(&[any, any & 0xFFF, any & 0x3FFF]);
+        let at = any_position(random, part, configuration);
+        let found = ffi::lit(part, configuration, global, value, at);
+        let expected = is_lit(part, configuration, global, value, position(at));
+        case.same("lit", found, flag(expected));
+        case.reach(found.refusal);
+    });
     tally.close(&[0, 1, 6, 13]);
     tally
 }
@@ -161,18 +162,14 @@ pub fn positions() -> Tally {
 /// Any device.
 pub fn devices() -> Tally {
     let mut tally = Tally::new("lit of a device", 0xDE71);
-    for number in 0..120_000 {
-        let random = &mut Random::of_case(tally.seed(), number);
-        tally.case(number, |case| {
-            let part = sets::part(random);
-            let record = any_record(random, part);
-            let at = any_position(random, part, record.registers.configuration);
-            let found = ffi::device_lit(record, at);
-            let expected = is_device_lit(&record, position(at));
-            case.same("lit", found, flag(expected));
-            case.reach(found.refusal);
-        });
-    }
+    tally.of_each_part(60_000, |case, random, part| {
+        let record = any_record(random, part);
+        let at = any_position(random, part, record.registers.configuration);
+        let found = ffi::device_lit(record, at);
+        let expected = is_device_lit(&record, position(at));
+        case.same("lit", found, flag(expected));
+        case.reach(found.refusal);
+    });
     tally.close(&[0, 1, 13]);
     tally
 }
@@ -190,22 +187,17 @@ fn any_value(random: &mut Random) -> u16 {
 /// The run of lit clocks, from any numbers.
 pub fn runs() -> Tally {
     let mut tally = Tally::new("runs of lit clocks from numbers", 0x5A11);
-    for number in 0..20_000 {
-        let random = &mut Random::of_case(tally.seed(), number);
-        tally.case(number, |case| {
-            let part = any_part(random);
-            let (configuration, global) = (random.byte(), random.byte());
-            let value = any_value(random);
-            let at = any_position(random, part, configuration);
-            let [output, subframe, _, phase] = at;
-            let found =
-                ffi::lit_clocks(part, configuration, global, value, output, subframe, phase);
-            let expected =
-                model::light::lit_clocks(part, configuration, global, value, position(at));
-            case.same("clocks", found, clocks(expected));
-            case.reach(found.refusal);
-        });
-    }
+    tally.of_each_part(10_000, |case, random, part| {
+        let part = any_part(random, part);
+        let (configuration, global) = (random.byte(), random.byte());
+        let value = any_value(random);
+        let at = any_position(random, part, configuration);
+        let [output, subframe, _, phase] = at;
+        let found = ffi::lit_clocks(part, configuration, global, value, output, subframe, phase);
+        let expected = model::light::lit_clocks(part, configuration, global, value, position(at));
+        case.same("clocks", found, clocks(expected));
+        case.reach(found.refusal);
+    });
     tally.close(&[0, 1, 6, 13]);
     tally
 }
@@ -213,19 +205,15 @@ pub fn runs() -> Tally {
 /// The run of lit clocks of any device.
 pub fn device_runs() -> Tally {
     let mut tally = Tally::new("runs of lit clocks of a device", 0xDE5A);
-    for number in 0..20_000 {
-        let random = &mut Random::of_case(tally.seed(), number);
-        tally.case(number, |case| {
-            let part = sets::part(random);
-            let record = any_record(random, part);
-            let at = any_position(random, part, record.registers.configuration);
-            let [output, subframe, _, phase] = at;
-            let found = ffi::device_lit_clocks(record, output, subframe, phase);
-            let expected = model::light::device_lit_clocks(&record, position(at));
-            case.same("clocks", found, clocks(expected));
-            case.reach(found.refusal);
-        });
-    }
+    tally.of_each_part(10_000, |case, random, part| {
+        let record = any_record(random, part);
+        let at = any_position(random, part, record.registers.configuration);
+        let [output, subframe, _, phase] = at;
+        let found = ffi::device_lit_clocks(record, output, subframe, phase);
+        let expected = model::light::device_lit_clocks(&record, position(at));
+        case.same("clocks", found, clocks(expected));
+        case.reach(found.refusal);
+    });
     tally.close(&[0, 1, 13]);
     tally
 }

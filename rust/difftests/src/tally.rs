@@ -1,5 +1,7 @@
 //! Counts of the cases of a kind, and what one that differs shows.
 
+use cases::{sets, Random};
+use model::part::Part;
 use std::fmt::Debug;
 
 /// Cases that differ are printed up to so many for each kind.
@@ -13,6 +15,8 @@ pub struct Tally {
     same: u64,
     /// Cases in which something differed.
     different: u64,
+    /// Cases of each part, where they go by the part.
+    of_each_part: Option<u64>,
     /// Answers that should have been given, and never were.
     missing: u64,
     reached: [u64; 14],
@@ -32,6 +36,7 @@ impl Tally {
             seed,
             same: 0,
             different: 0,
+            of_each_part: None,
             missing: 0,
             reached: [0; 14],
         }
@@ -50,6 +55,15 @@ impl Tally {
     /// There were cases, all was the same in each, and every answer was given that should have been.
     pub fn passed(&self) -> bool {
         self.same > 0 && self.different == 0 && self.missing == 0
+    }
+
+    /// Runs so many cases of each part: the parts take turns. A case is given its generator and its part's number.
+    pub fn of_each_part(&mut self, cases: u64, mut run: impl FnMut(&mut Case, &mut Random, u16)) {
+        self.of_each_part = Some(cases);
+        for number in 0..cases * Part::ALL.len() as u64 {
+            let random = &mut Random::of_case(self.seed, number);
+            self.case(number, |case| run(case, random, sets::part(number)));
+        }
     }
 
     /// Runs one case.
@@ -88,10 +102,13 @@ impl Tally {
                 self.missing += 1;
             }
         }
-        let cases = commas(self.cases());
+        let mut cases = format!("{} cases", commas(self.cases()));
+        if let Some(count) = self.of_each_part {
+            cases += &format!(", {} of each part", commas(count));
+        }
         match self.different {
-            0 => println!("{name}: {cases} cases, the same"),
-            different => println!("{name}: {cases} cases, {} differ", commas(different)),
+            0 => println!("{name}: {cases}; the same"),
+            different => println!("{name}: {cases}; {} differ", commas(different)),
         }
         println!("    seed {:#x}; answers {}", self.seed, self.answers());
     }

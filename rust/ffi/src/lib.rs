@@ -83,7 +83,7 @@ pub struct Stepped {
 /// What a writer and a reader are told.
 #[derive(Clone, Copy, Debug)]
 pub struct Told {
-    /// 6974 or 6975.
+    /// The part's number.
     pub part: u16,
     /// N.
     pub devices: usize,

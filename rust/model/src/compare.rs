@@ -46,7 +46,7 @@ fn judge(set: &Set, records: &[record::Device]) -> Result<(), Refusal> {
     refuse(1, chain == Err(1))?;
     refuse(2, !(1..=1023).contains(&set.devices) || chain == Err(2))?;
     let chain_differs = records.len() != set.devices || chain != Ok(part);
-    refuse(4, set.has_other_length() || chain_differs)?;
+    refuse(4, set.has_other_length(part) || chain_differs)?;
     refuse(6, set.is_out_of_range(part))
 }
 
@@ -62,7 +62,7 @@ fn first_difference(set: &Set, number: usize, device: &Device) -> Option<Differe
         return found(Group::Configuration, 0);
     }
     let calibration = set.calibration_of(number);
-    if let Some(place) = (0..3).find(|&k| device.calibration[k] != calibration[k]) {
+    if let Some(place) = (0..calibration.len()).find(|&k| device.calibration[k] != calibration[k]) {
         return found(Group::Calibration, place);
     }
     if device.active_global != set.global {

@@ -2,8 +2,8 @@
 
 use crate::bits::{bits_of, number_of};
 use crate::frame::{header, SYNC};
-use crate::serial::clocked;
 use crate::part::{field_width, multiplexed, slice_bits, Command, Part};
+use crate::serial::clocked;
 use crate::{refuse, Refusal};
 
 /// Where a device is in the frame.
@@ -23,7 +23,7 @@ pub enum Phase {
     Lost,
 }
 
-/// A device whose numbers fit.
+/// A device whose numbers fit. Its lists have the record's lengths; what the part does not use of them holds 0.
 #[derive(Clone, Debug, PartialEq, Eq)]
 pub struct Device {
     /// The part.
@@ -34,7 +34,7 @@ pub struct Device {
     pub open_led: bool,
     /// The configuration byte.
     pub configuration: u8,
-    /// B, G, R.
+    /// A byte for each bank: Z, Y, or B, G, R.
     pub calibration: [u8; 3],
     /// The global byte that waits.
     pub waiting_global: u8,
@@ -55,12 +55,8 @@ impl Device {
     pub fn of_record(record: &record::Device) -> Result<Device, Refusal> {
         let r = &record.registers;
         let part = Part::of(r.part)?;
-        let mut values = [r.waiting0, r.waiting1, r.active0, r.active1]
-            .concat()
-            .into_iter()
-            .chain(r.slice);
         refuse(13, r.overtemperature > 1 || r.openled > 1)?;
-        refuse(13, values.any(|v| !part.holds(v)))?;
+        refuse(13, does_not_hold(part, r))?;
         Ok(Device {
             part,
             overtemperature: r.overtemperature == 1,
@@ -163,22 +159,39 @@ impl Device {
     }
 
     fn store(&mut self, command: Command) {
-        let bytes = [0, 1, 2].map(|k| self.slots[k] as u8);
-        let copies_agree = bytes[0] == bytes[1] && bytes[1] == bytes[2];
+        let (banks, outputs) = (self.part.banks(), self.part.outputs());
+        let bytes: Vec<u8> = self.slots[..banks].iter().map(|&slot| slot as u8).collect();
+        let copies_agree = bytes.iter().all(|&byte| byte == bytes[0]);
         match command {
             Command::Individual if multiplexed(self.configuration) => {
-                for output in 0..24 {
+                for output in 0..outputs {
                     self.waiting[0][output] = self.slots[2 * output];
                     self.waiting[1][output] = self.slots[2 * output + 1];
                 }
             }
-            Command::Individual => self.waiting[0].copy_from_slice(&self.slots[..24]),
-            Command::Calibration => self.calibration = bytes,
+            Command::Individual => {
+                self.waiting[0][..outputs].copy_from_slice(&self.slots[..outputs]);
+            }
+            Command::Calibration => self.calibration[..banks].copy_from_slice(&bytes),
             Command::Global if copies_agree => self.waiting_global = bytes[0],
             Command::Configuration if copies_agree => self.configuration = bytes[0],
             Command::Global | Command::Configuration => {}
         }
     }
+}
+
+/// Whether a value or a slot is over the part's width, or a place that the part does not use holds anything.
+fn does_not_hold(part: Part, r: &record::Registers) -> bool {
+    let (banks, outputs) = (part.banks(), part.outputs());
+    let is_wrong = |list: &[u16], used: usize| {
+        let (front, behind) = list.split_at(used);
+        front.iter().any(|&v| !part.holds(v)) || behind.iter().any(|&v| v != 0)
+    };
+    [r.waiting0, r.waiting1, r.active0, r.active1]
+        .iter()
+        .any(|list| is_wrong(list, outputs))
+        || is_wrong(&r.slice, 2 * outputs)
+        || r.calibration[banks..].iter().any(|&byte| byte != 0)
 }
 
 fn joined(mut bits: Vec<bool>, bit: bool) -> Vec<bool> {

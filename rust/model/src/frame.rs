@@ -1,7 +1,7 @@
 //! What is told of a frame, and the parts of its bits.
 
 use crate::bits::bits_of;
-use crate::part::{slice_bits, Command, Part};
+use crate::part::{field_width, slice_fields, Command, Part};
 use crate::{refuse, Refusal};
 
 /// SYNC.
@@ -31,7 +31,7 @@ impl Tail {
 /// What a writer and a reader are told. Any numbers may stand here.
 #[derive(Clone, Copy, Debug)]
 pub struct Told {
-    /// 6974 or 6975.
+    /// The part's number.
     pub part: u16,
     /// N.
     pub devices: usize,
@@ -64,8 +64,13 @@ pub fn header(command: Command, count: u16) -> Vec<bool> {
     .concat()
 }
 
+/// Fields of all slices of a frame of a known part.
+pub fn frame_fields(told: &Told, part: Part) -> usize {
+    told.devices * slice_fields(told.command, part, told.configuration)
+}
+
 /// Bits of a frame of a known part.
 pub fn frame_bits(told: &Told, part: Part) -> usize {
-    let slice = slice_bits(told.command, part, told.configuration);
-    24 + told.devices * slice + told.tail.length as usize
+    let width = field_width(told.command, part) as usize;
+    24 + frame_fields(told, part) * width + told.tail.length as usize
 }

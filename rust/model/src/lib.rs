@@ -11,9 +11,9 @@ pub mod compare;
 pub mod device;
 pub mod frame;
 pub mod light;
-pub mod serial;
 pub mod part;
 pub mod reader;
+pub mod serial;
 pub mod set;
 pub mod writer;
 

@@ -35,7 +35,7 @@ pub fn lead(
 /// Where light is asked for: an output in wire order, a subframe, a clock in it, and the phase, MUX0 or MUX1.
 #[derive(Clone, Copy, Debug)]
 pub struct Position {
-    /// 0 (B7) to 23 (R0).
+    /// 0 (Z7 or B7) to the last (Y0 or R0).
     pub output: u32,
     /// From 0.
     pub subframe: u32,
@@ -106,7 +106,7 @@ pub fn device_lit_clocks(record: &record::Device, at: Position) -> Result<Range<
     lit_clocks(part, device.configuration, device.active_global, value, at)
 }
 
-/// The number in the name of an output: 7 for output 0, B7, and 0 for output 23, R0.
+/// The number in the name of an output: 7 for the first of a bank, and 0 for its last.
 fn named(output: u32) -> u32 {
     7 - output % 8
 }
@@ -115,7 +115,7 @@ fn judge_position(part: Part, configuration: u8, at: Position) -> Result<(), Ref
     let phases = if multiplexed(configuration) { 2 } else { 1 };
     refuse(
         13,
-        at.output >= 24
+        at.output as usize >= part.outputs()
             || at.subframe >= part.subframes(configuration)
             || at.clock >= part.clocks()
             || at.phase >= phases,

@@ -5,11 +5,29 @@ use crate::Refusal;
 /// A part.
 #[derive(Clone, Copy, Debug, PartialEq, Eq)]
 pub enum Part {
-    /// 12-bit values.
+    /// 16 outputs, 12-bit values.
+    Max6972,
+    /// 16 outputs, 14-bit values.
+    Max6973,
+    /// 24 outputs, 12-bit values.
     Max6974,
-    /// 14-bit values.
+    /// 24 outputs, 14-bit values.
     Max6975,
 }
+
+/// The constants of a part.
+struct Row {
+    number: u16,
+    banks: usize,
+    value_width: u32,
+    edge_zone: u32,
+    clocks: u32,
+    /// Plain, multiplexed, with GLB4, with both.
+    subframes: [u32; 4],
+}
+
+/// Outputs of a bank.
+const BANK: usize = 8;
 
 /// Configuration bit D0.
 pub fn multiplexed(configuration: u8) -> bool {
@@ -22,32 +40,65 @@ pub fn glb4(configuration: u8) -> bool {
 }
 
 impl Part {
-    /// Both parts.
-    pub const ALL: [Part; 2] = [Part::Max6974, Part::Max6975];
+    /// The four parts.
+    pub const ALL: [Part; 4] = [Part::Max6972, Part::Max6973, Part::Max6974, Part::Max6975];
+
+    /// Value width, edge zone, clocks and subframes do not go by the banks.
+    fn row(self) -> Row {
+        match self {
+            Part::Max6972 => Row {
+                number: 6972,
+                banks: 2,
+                ..Part::Max6974.row()
+            },
+            Part::Max6973 => Row {
+                number: 6973,
+                banks: 2,
+                ..Part::Max6975.row()
+            },
+            Part::Max6974 => Row {
+                number: 6974,
+                banks: 3,
+                value_width: 12,
+                edge_zone: 16,
+                clocks: 4096,
+                subframes: [128, 64, 128, 64],
+            },
+            Part::Max6975 => Row {
+                number: 6975,
+                banks: 3,
+                value_width: 14,
+                edge_zone: 32,
+                clocks: 16_384,
+                subframes: [32, 16, 8, 4],
+            },
+        }
+    }
 
     /// The part of a number; any other number is refusal 1.
     pub fn of(number: u16) -> Result<Part, Refusal> {
-        match number {
-            6974 => Ok(Part::Max6974),
-            6975 => Ok(Part::Max6975),
-            _ => Err(1),
-        }
+        let mut parts = Part::ALL.into_iter();
+        parts.find(|part| part.number() == number).ok_or(1)
     }
 
     /// The part's number.
     pub fn number(self) -> u16 {
-        match self {
-            Part::Max6974 => 6974,
-            Part::Max6975 => 6975,
-        }
+        self.row().number
+    }
+
+    /// Banks of outputs: bytes of a calibration slice, and copies of a global or configuration byte in a slice.
+    pub fn banks(self) -> usize {
+        self.row().banks
+    }
+
+    /// Outputs.
+    pub fn outputs(self) -> usize {
+        BANK * self.banks()
     }
 
     /// Bits of an individual value.
     pub fn value_width(self) -> u32 {
-        match self {
-            Part::Max6974 => 12,
-            Part::Max6975 => 14,
-        }
+        self.row().value_width
     }
 
     /// Whether an individual value is in range.
@@ -57,29 +108,31 @@ impl Part {
 
     /// Clocks at either end of a subframe in which nothing is lit.
     pub fn edge_zone(self) -> u32 {
-        match self {
-            Part::Max6974 => 16,
-            Part::Max6975 => 32,
-        }
+        self.row().edge_zone
     }
 
     /// Clocks per subframe.
     pub fn clocks(self) -> u32 {
-        match self {
-            Part::Max6974 => 4096,
-            Part::Max6975 => 16_384,
-        }
+        self.row().clocks
     }
 
     /// Subframes per frame, S.
     pub fn subframes(self, configuration: u8) -> u32 {
-        match (self, multiplexed(configuration), glb4(configuration)) {
-            (Part::Max6974, false, _) => 128,
-            (Part::Max6974, true, _) => 64,
-            (Part::Max6975, false, false) => 32,
-            (Part::Max6975, true, false) => 16,
-            (Part::Max6975, false, true) => 8,
-            (Part::Max6975, true, true) => 4,
+        let [plain, muxed, with_glb4, with_both] = self.row().subframes;
+        match (multiplexed(configuration), glb4(configuration)) {
+            (false, false) => plain,
+            (true, false) => muxed,
+            (false, true) => with_glb4,
+            (true, true) => with_both,
+        }
+    }
+
+    /// Individual values of one device.
+    pub fn values(self, configuration: u8) -> usize {
+        if multiplexed(configuration) {
+            2 * self.outputs()
+        } else {
+            self.outputs()
         }
     }
 }
@@ -130,12 +183,11 @@ impl Command {
     }
 }
 
-/// Individual values of one device.
-pub fn values_per_device(configuration: u8) -> usize {
-    if multiplexed(configuration) {
-        48
-    } else {
-        24
+/// Fields of one device's slice: its values, or a byte for each bank.
+pub fn slice_fields(command: Command, part: Part, configuration: u8) -> usize {
+    match command {
+        Command::Individual => part.values(configuration),
+        _ => part.banks(),
     }
 }
 
@@ -149,11 +201,5 @@ pub fn field_width(command: Command, part: Part) -> u32 {
 
 /// Bits of one device's slice.
 pub fn slice_bits(command: Command, part: Part, configuration: u8) -> usize {
-    match (command, part, multiplexed(configuration)) {
-        (Command::Individual, Part::Max6974, false) => 288,
-        (Command::Individual, Part::Max6975, false) => 336,
-        (Command::Individual, Part::Max6974, true) => 576,
-        (Command::Individual, Part::Max6975, true) => 672,
-        _ => 24,
-    }
+    slice_fields(command, part, configuration) * field_width(command, part) as usize
 }

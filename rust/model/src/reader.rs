@@ -1,8 +1,8 @@
 //! The frame reader and the return reader.
 
 use crate::bits::{number_of, unpack};
-use crate::frame::{frame_bits, header, judge_told, Tail, Told, SYNC};
-use crate::part::{field_width, values_per_device, Command, Part};
+use crate::frame::{frame_bits, frame_fields, header, judge_told, Tail, Told, SYNC};
+use crate::part::{field_width, Command, Part};
 use crate::{refuse, Refusal};
 
 /// What a frame holds.
@@ -21,7 +21,7 @@ pub fn read(told: &Told, frame: &[u8], room: usize) -> Result<Contents, Refusal>
     let part = judge_told(told.part, told.devices, told.tail)?;
     let length = frame_bits(told, part);
     refuse(4, frame.len() != length.div_ceil(8))?;
-    refuse(5, room < room_needed(told))?;
+    refuse(5, room < room_needed(told, part))?;
 
     let (bits, unused) = split_at(unpack(frame), length);
     let (head, rest) = split_at(bits, 24);
@@ -72,10 +72,9 @@ fn split_at(bits: Vec<bool>, at: usize) -> (Vec<bool>, Vec<bool>) {
 }
 
 /// Elements that the lent list must have room for.
-fn room_needed(told: &Told) -> usize {
+fn room_needed(told: &Told, part: Part) -> usize {
     match told.command {
-        Command::Individual => told.devices * values_per_device(told.configuration),
-        Command::Calibration => told.devices * 3,
+        Command::Individual | Command::Calibration => frame_fields(told, part),
         Command::Global | Command::Configuration => 0,
     }
 }

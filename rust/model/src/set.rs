@@ -1,25 +1,26 @@
 //! A set: the settings of a whole sign.
 
 use crate::frame::{frame_bits, Tail, Told};
+use crate::part::{slice_fields, Command, Part};
 use crate::serial::states_of_frame;
-use crate::part::{values_per_device, Command, Part};
 use crate::writer::{write, Given};
 use crate::{refuse, Refusal};
+use std::ops::Range;
 
 /// The settings of a sign. Any numbers may stand here.
 #[derive(Clone, Debug)]
 pub struct Set {
-    /// 6974 or 6975.
+    /// The part's number.
     pub part: u16,
     /// N.
     pub devices: usize,
     /// One configuration byte.
     pub configuration: u8,
-    /// B, G, R for each device.
+    /// A byte for each bank of each device: Z, Y, or B, G, R.
     pub calibration: Vec<u8>,
     /// One global byte.
     pub global: u8,
-    /// 24 or 48 values for each device.
+    /// A value for each output of each device; multiplexed, two.
     pub individual: Vec<u16>,
 }
 
@@ -28,15 +29,15 @@ impl Set {
     pub fn judge(&self) -> Result<Part, Refusal> {
         let part = Part::of(self.part)?;
         refuse(2, !(1..=1023).contains(&self.devices))?;
-        refuse(4, self.has_other_length())?;
+        refuse(4, self.has_other_length(part))?;
         refuse(6, self.is_out_of_range(part))?;
         Ok(part)
     }
 
     /// Whether a list has another length than its rule says.
-    pub fn has_other_length(&self) -> bool {
-        self.calibration.len() != 3 * self.devices
-            || self.individual.len() != self.devices * values_per_device(self.configuration)
+    pub fn has_other_length(&self, part: Part) -> bool {
+        self.calibration.len() != self.devices * part.banks()
+            || self.individual.len() != self.devices * part.values(self.configuration)
     }
 
     /// Whether the global byte or an individual value is out of range.
@@ -75,14 +76,20 @@ impl Set {
         states_of_frame(&frame, frame_bits(&told, Part::of(self.part)?), usize::MAX)
     }
 
+    /// Where one device's own share of a command's list stands, in a set in order; devices are numbered from 1.
+    fn share(&self, command: Command, device: usize) -> Range<usize> {
+        let part = Part::of(self.part).expect("a set in order");
+        let n = slice_fields(command, part, self.configuration);
+        (device - 1) * n..device * n
+    }
+
     /// The values of one device, numbered from 1, in the order of its slice.
     pub fn individual_of(&self, device: usize) -> &[u16] {
-        let n = values_per_device(self.configuration);
-        &self.individual[(device - 1) * n..device * n]
+        &self.individual[self.share(Command::Individual, device)]
     }
 
     /// The calibration bytes of one device, numbered from 1.
     pub fn calibration_of(&self, device: usize) -> &[u8] {
-        &self.calibration[(device - 1) * 3..device * 3]
+        &self.calibration[self.share(Command::Calibration, device)]
     }
 }

@@ -1,11 +1,12 @@
-//! docs/RULES.md, "Numbers to hold against", by their letters; those without a letter follow.
+//! docs/RULES.md, "Numbers to hold against", by their letters; those without a letter follow, and then those of the
+//! 16-output parts.
 
 use model::chain;
 use model::frame::{Tail, Told};
 use model::light::{self, is_lit, is_on, lead, Position};
-use model::serial::data_bytes;
-use model::part::Command;
+use model::part::{Command, Part};
 use model::reader::{read, read_return, Contents};
+use model::serial::data_bytes;
 use model::set::Set;
 use model::writer::{write, Given};
 use record::Device;
@@ -17,14 +18,14 @@ const NO_TAIL: Tail = Tail {
 
 /// A set with zeros for what a test does not name.
 fn set(part: u16, devices: usize, configuration: u8) -> Set {
-    let values = if configuration & 1 == 1 { 48 } else { 24 };
+    let known = Part::of(part).unwrap();
     Set {
         part,
         devices,
         configuration,
-        calibration: vec![0; 3 * devices],
+        calibration: vec![0; known.banks() * devices],
         global: 0,
-        individual: vec![0; values * devices],
+        individual: vec![0; known.values(configuration) * devices],
     }
 }
 
@@ -91,19 +92,24 @@ fn f_individual_of_a_6975() {
     assert_eq!(frame(&set, Command::Individual, NO_TAIL), Ok(expected));
 }
 
-#[test]
-fn g_return_of_three() {
+/// What three devices with two open LEDs return for a calibration frame with tail 0xA5. It reads as 2.
+fn returned_of_three(part: u16) -> Vec<u8> {
     let sent = tail(0xA5, 8);
     let mut devices = [Device::fresh(0); 3];
-    chain::fresh(&mut devices, 6974).unwrap();
+    chain::fresh(&mut devices, part).unwrap();
     chain::set_fault(&mut devices, 1, 1, true).unwrap();
     chain::set_fault(&mut devices, 3, 1, true).unwrap();
-    let states = set(6974, 3, 0).states(Command::Calibration, sent).unwrap();
+    let states = set(part, 3, 0).states(Command::Calibration, sent).unwrap();
     let returned = chain::run(&mut devices, &states, states.len() + 23).unwrap();
     let bytes = data_bytes(&returned, 100).unwrap();
-    assert_eq!(bytes, [0xE8, 0x54, 0x02, 0xA5]);
-    let count = read_return(6974, 3, Command::Calibration, sent, &bytes);
+    let count = read_return(part, 3, Command::Calibration, sent, &bytes);
     assert_eq!(count, Ok(2));
+    bytes
+}
+
+#[test]
+fn g_return_of_three() {
+    assert_eq!(returned_of_three(6974), [0xE8, 0x54, 0x02, 0xA5]);
 }
 
 #[test]
@@ -127,7 +133,7 @@ fn i_subframes_and_leads() {
 
 /// The clocks at which an output with a value is lit, in a subframe that is ON, which are those of the model's run.
 fn lit_clocks(part: u16, value: u16, output: u32) -> Vec<u32> {
-    let clocks = if part == 6974 { 4096 } else { 16_384 };
+    let clocks = Part::of(part).unwrap().clocks();
     let at = |clock| Position {
         output,
         subframe: 0,
@@ -144,6 +150,8 @@ fn lit_clocks(part: u16, value: u16, output: u32) -> Vec<u32> {
 
 const B7: u32 = 0;
 const R0: u32 = 23;
+const Z7: u32 = 0;
+const Y0: u32 = 15;
 
 #[test]
 fn j_lit_clocks_of_a_6974() {
@@ -219,6 +227,88 @@ fn the_largest_value_of_a_6974() {
 #[test]
 fn the_largest_global_byte_of_a_multiplexed_glb4_6975() {
     let mut set = set(6975, 1, 0x11);
+    set.global = 3;
+    assert!(frame(&set, Command::Global, NO_TAIL).is_ok());
+    set.global = 4;
+    assert_eq!(frame(&set, Command::Global, NO_TAIL), Err(6));
+}
+
+#[test]
+fn configuration_of_a_6972() {
+    let bytes = frame(&set(6972, 1, 0), Command::Configuration, NO_TAIL);
+    assert_eq!(bytes, Ok(vec![0xE8, 0xFC, 0, 0, 0]));
+}
+
+#[test]
+fn calibration_of_a_6972() {
+    let mut set = set(6972, 1, 0);
+    set.calibration = vec![0xA9, 0x10];
+    let bytes = frame(&set, Command::Calibration, NO_TAIL);
+    assert_eq!(bytes, Ok(vec![0xE8, 0x54, 0, 0xA9, 0x10]));
+}
+
+#[test]
+fn global_of_a_6972() {
+    let mut set = set(6972, 1, 0);
+    set.global = 96;
+    let bytes = frame(&set, Command::Global, NO_TAIL);
+    assert_eq!(bytes, Ok(vec![0xE8, 0xA8, 0, 0x60, 0x60]));
+}
+
+#[test]
+fn individual_of_a_6972() {
+    let mut set = set(6972, 1, 0);
+    set.individual = vec![2560; 16];
+    let expected = [vec![0xE8, 0, 0], [0xA0, 0x0A, 0x00].repeat(8)].concat();
+    assert_eq!(frame(&set, Command::Individual, NO_TAIL), Ok(expected));
+}
+
+#[test]
+fn individual_of_a_6973() {
+    let mut set = set(6973, 1, 0);
+    set.individual = vec![1; 16];
+    let group = [0x00, 0x04, 0x00, 0x10, 0x00, 0x40, 0x01];
+    let expected = [vec![0xE8, 0, 0], group.repeat(4)].concat();
+    assert_eq!(frame(&set, Command::Individual, NO_TAIL), Ok(expected));
+}
+
+#[test]
+fn returns_of_the_16_output_parts() {
+    for part in [6972, 6973] {
+        assert_eq!(returned_of_three(part), [0xE8, 0x54, 0x02, 0xA5]);
+    }
+}
+
+#[test]
+fn lit_clocks_of_the_16_output_parts() {
+    assert!(lit_clocks(6972, 2560, Y0).into_iter().eq(16..=2559));
+    assert!(lit_clocks(6972, 2560, Z7).into_iter().eq(1536..=4079));
+    assert!(lit_clocks(6973, 32, Y0).is_empty());
+    assert!(lit_clocks(6973, 32, Z7).is_empty());
+    assert_eq!(lit_clocks(6973, 33, Y0), [32]);
+    assert_eq!(lit_clocks(6973, 33, Z7), [16_351]);
+}
+
+#[test]
+fn subframes_and_leads_of_a_6972() {
+    let on = [0, 1, 2, 3, 4].map(|s| is_on(6972, 0, 96, s).unwrap());
+    assert_eq!(on, [false, true, true, true, false]);
+    assert_eq!(lead(6972, 0, 96, 0, 1), Ok(-97));
+    assert_eq!(lead(6972, 0, 96, 1, 3), Ok(93));
+}
+
+#[test]
+fn the_largest_value_of_a_6972() {
+    let mut set = set(6972, 1, 0);
+    set.individual[15] = 4095;
+    assert!(frame(&set, Command::Individual, NO_TAIL).is_ok());
+    set.individual[15] = 4096;
+    assert_eq!(frame(&set, Command::Individual, NO_TAIL), Err(6));
+}
+
+#[test]
+fn the_largest_global_byte_of_a_multiplexed_glb4_6973() {
+    let mut set = set(6973, 1, 0x11);
     set.global = 3;
     assert!(frame(&set, Command::Global, NO_TAIL).is_ok());
     set.global = 4;

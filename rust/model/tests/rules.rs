@@ -187,7 +187,7 @@ fn records_that_do_not_fit() {
         Judged::of_record(&device).err().unwrap_or(0)
     };
     assert_eq!(refusal(&|_| {}), 0);
-    assert_eq!(refusal(&|d| d.registers.part = 6973), 1);
+    assert_eq!(refusal(&|d| d.registers.part = 6976), 1);
     assert_eq!(refusal(&|d| d.registers.openled = 2), 13);
     assert_eq!(refusal(&|d| d.registers.slice[47] = 4096), 13);
     assert_eq!(refusal(&|d| d.registers.active1[0] = 4095), 0);

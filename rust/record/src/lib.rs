@@ -1,7 +1,8 @@
 //! The device record that a chain is lent as: `struct bb_device` of `include/bractbeacon.h`; and a set as it is lent.
 //!
 //! Plain numbers without padding: every pattern of its 304 bytes is a record. Whether its numbers fit is for each user
-//! to judge.
+//! to judge. The arrays have places for three banks of eight outputs. A part with fewer banks uses the front of each, and
+//! the places behind hold 0.
 
 /// Phase: looking for SYNC at low load.
 pub const HUNTING: u8 = 0;
@@ -20,7 +21,7 @@ pub const LOST: u8 = 5;
 #[repr(C)]
 #[derive(Clone, Copy, Debug, PartialEq, Eq)]
 pub struct Registers {
-    /// 6974 or 6975.
+    /// The part's number, 6972 to 6975.
     pub part: u16,
     /// Fault flag, 0 or 1.
     pub overtemperature: u8,
@@ -28,7 +29,7 @@ pub struct Registers {
     pub openled: u8,
     /// D0 multiplex, D4 GLB4.
     pub configuration: u8,
-    /// B, G, R.
+    /// A byte for each bank: Z, Y, or B, G, R.
     pub calibration: [u8; 3],
     /// Global byte, until the frame boundary.
     pub waiting: u8,
@@ -42,7 +43,7 @@ pub struct Registers {
     pub active0: [u16; 24],
     /// MUX1 values in use while D0 is 1.
     pub active1: [u16; 24],
-    /// The slice coming in, a shift register for each field.
+    /// The slice coming in, a shift register for each field; multiplexed, two fields for each output.
     pub slice: [u16; 48],
 }
 
@@ -115,17 +116,17 @@ impl Device {
 /// A set, lent.
 #[derive(Clone, Copy, Debug)]
 pub struct Set<'a> {
-    /// 6974 or 6975.
+    /// The part's number, 6972 to 6975.
     pub part: u16,
     /// N.
     pub devices: usize,
     /// The configuration byte.
     pub configuration: u8,
-    /// B, G, R for each device.
+    /// A byte for each bank of each device.
     pub calibration: &'a [u8],
     /// The global byte.
     pub global: u8,
-    /// 24 or 48 values for each device.
+    /// A value for each output of each device; multiplexed, two.
     pub individual: &'a [u16],
 }
 

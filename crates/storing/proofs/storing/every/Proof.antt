@@ -12,17 +12,17 @@ use Rattle.storing.proofs.storing.every.Statement.{statement}
 use Rattle.storing.proofs.storing.every.Tie as tie
 
 abbrev Inv-loop : tie.InvT-loop
-Inv-loop first stride count slice values₀ i₀ values i =
-    (i ≤ count) × (length values ≡ 24) × (values ≡ paste values₀ 0 (strided slice first stride count) i)
+Inv-loop first stride outputs slice values₀ i₀ values i =
+    (i ≤ outputs) × (length values ≡ 24) × (values ≡ paste values₀ 0 (strided slice first stride outputs) i)
 
 abbrev μ-loop : tie.MeasureT-loop
-μ-loop first stride count slice values₀ i₀ values i = count - i
+μ-loop first stride outputs slice values₀ i₀ values i = 24 - i
 
 at-most : (c : tie.In-loop Inv-loop μ-loop) → c .before .loop .i ≤ 23
 at-most c = omega (arith, c .before .before .pre .1)
 
 loop-holds : tie.Need-loop-holds Inv-loop μ-loop
-loop-holds c = (search needs, search needs, paste-zero (c .args .held) 0 (strided (c .args .t1) (c .args .first) (c .args .stride) (c .args .count)))
+loop-holds c = (search needs, search needs, paste-zero (c .args .held) 0 (strided (c .args .t1) (c .args .first) (c .args .stride) (c .args .outputs)))
 
 mul-at : tie.Need-mul-at Inv-loop μ-loop
 mul-at c = omega (arith, mul-le-mul-left (c .before .before .args .stride) (at-most c))
@@ -46,28 +46,28 @@ add-i : tie.Need-add-i Inv-loop μ-loop
 add-i c = omega (arith, at-most c)
 
 loop-less : tie.Need-loop-less Inv-loop μ-loop
-loop-less c = search needs
+loop-less c = omega (arith, at-most c)
 
 loop-again : tie.Need-loop-again Inv-loop μ-loop
 loop-again c =
     let a = c .before .before .args in
     let l = c .before .loop in
-    let ys = strided (a .t1) (a .first) (a .stride) (a .count) in
+    let ys = strided (a .t1) (a .first) (a .stride) (a .outputs) in
     let short : length (a .held) ≡ 24 = search needs in (
       search needs,
       simp length-set (l .inv .1),
-      paste-next ys (a .held) (l .values) (l .i) _ (l .inv .2) (omega (arith, c .loop-test .taken, length-strided (a .t1) (a .first) (a .stride) (a .count)))
+      paste-next ys (a .held) (l .values) (l .i) _ (l .inv .2) (omega (arith, c .loop-test .taken, length-strided (a .t1) (a .first) (a .stride) (a .outputs)))
           (omega (arith, at-most c, short))
-          (sym (getD-strided (a .t1) (a .first) (a .stride) (a .count) (l .i) (c .loop-test .taken))),
+          (sym (getD-strided (a .t1) (a .first) (a .stride) (a .outputs) (l .i) (c .loop-test .taken))),
     )
 
 returns : tie.Need-returns Inv-loop μ-loop
 returns c =
     let a = c .before .before .args in
     let l = c .before .loop in
-    let e : length (strided (a .t1) (a .first) (a .stride) (a .count)) ≡ l .i =
-        length-strided (a .t1) (a .first) (a .stride) (a .count) ∙ omega (arith, c .loop-test .left) in
-    l .inv .2 ∙ paste-over (strided (a .t1) (a .first) (a .stride) (a .count)) (a .held) (l .i) e
+    let e : length (strided (a .t1) (a .first) (a .stride) (a .outputs)) ≡ l .i =
+    length-strided (a .t1) (a .first) (a .stride) (a .outputs) ∙ omega (arith, c .loop-test .left) in
+    l .inv .2 ∙ paste-over (strided (a .t1) (a .first) (a .stride) (a .outputs)) (a .held) (l .i) e
 
 pub every-spec : {M : Type 1} → statement M
 every-spec =

@@ -14,11 +14,11 @@ use Rattle.storing.proofs.storing.same_copies.Statement.{statement}
 use Rattle.storing.proofs.storing.same_copies.Tie as tie
 
 abbrev Inv-loop : tie.InvT-loop
-Inv-loop count slice first i₀ i =
-    (i ≤ count) × (allSame (bytesOf slice count) first ≡ allSame (drop i (bytesOf slice count)) first)
+Inv-loop copies slice first i₀ i =
+    (i ≤ copies) × (allSame (bytesOf slice copies) first ≡ allSame (drop i (bytesOf slice copies)) first)
 
 abbrev μ-loop : tie.MeasureT-loop
-μ-loop count slice first i₀ i = count - i
+μ-loop copies slice first i₀ i = copies - i
 
 array-read-first : tie.Need-array-read-first Inv-loop μ-loop
 array-read-first c = search needs
@@ -33,16 +33,16 @@ at-most c = omega (arith, c .before .before .pre)
 next : (c : tie.In-loop Inv-loop μ-loop)
     → let a = c .before .before .args in
     let first = byteOf (getD (a .t1) 0 0) in
-    let bytes = bytesOf (a .t1) (a .count) in
+    let bytes = bytesOf (a .t1) (a .copies) in
     allSame bytes first ≡ (eqb (byteOf (getD (a .t1) (c .before .loop .i) 0)) first && allSame (drop (c .before .loop .i + 1) bytes) first)
 next c =
     let a = c .before .before .args in
     let i = c .before .loop .i in
     let first = byteOf (getD (a .t1) 0 0) in
-    let bytes = bytesOf (a .t1) (a .count) in
+    let bytes = bytesOf (a .t1) (a .copies) in
     c .before .loop .inv .1
-    ∙ allSame-drop bytes first i (omega (arith, c .loop-test .taken, length-bytes (a .t1) (a .count)))
-    ∙ ap (λ (b : ℕ). eqb b first && allSame (drop (i + 1) bytes) first) (getD-bytes (a .t1) (a .count) i (c .loop-test .taken))
+    ∙ allSame-drop bytes first i (omega (arith, c .loop-test .taken, length-bytes (a .t1) (a .copies)))
+    ∙ ap (λ (b : ℕ). eqb b first && allSame (drop (i + 1) bytes) first) (getD-bytes (a .t1) (a .copies) i (c .loop-test .taken))
 
 mul-if1 : tie.Need-mul-if1 Inv-loop μ-loop
 mul-if1 c = omega (arith, at-most c)
@@ -65,9 +65,9 @@ loop-again c = (search needs, next (c .before) ∙ rw (eq-eqb _ _ (c .if1 .left)
 returns-2 : tie.Need-returns-2 Inv-loop μ-loop
 returns-2 c =
     let a = c .before .before .args in
-    let bytes = bytesOf (a .t1) (a .count) in
+    let bytes = bytesOf (a .t1) (a .copies) in
     let end : length bytes ≤ c .before .loop .i =
-        omega (arith, c .loop-test .left, length-bytes (a .t1) (a .count)) in
+    omega (arith, c .loop-test .left, length-bytes (a .t1) (a .copies)) in
     sym (c .before .loop .inv .1 ∙ rw (drop-of-length-le bytes end))
 
 pub same-copies-spec : {M : Type 1} → statement M

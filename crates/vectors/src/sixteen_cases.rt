@@ -1,4 +1,4 @@
-// Frames a and c to f of the 16-output parts: a byte for each of the banks Z and Y, a value for each of 16 outputs.
+// Frames l to p, of the 16-output parts: a byte for each of the banks Z and Y, a value for each of 16 outputs.
 use crate::frame_cases::frame_case;
 use cases::frame_of;
 use cases::no_tail;
@@ -9,10 +9,10 @@ pub fn run() {
     individual_cases();
 }
 
-// a, c and d.
+// l to n.
 fn byte_cases() {
     frame_case(
-        b"a  6972, configuration 0x00",
+        b"l  6972, configuration 0x00",
         frame_of(6972, 1, Command::Configuration, 0),
         no_tail(),
         0,
@@ -21,7 +21,7 @@ fn byte_cases() {
         b"\xE8\xFC\x00\x00\x00",
     );
     frame_case(
-        b"c  6972, calibration Z A9, Y 10",
+        b"m  6972, calibration Z A9, Y 10",
         frame_of(6972, 1, Command::Calibration, 0),
         no_tail(),
         0,
@@ -30,7 +30,7 @@ fn byte_cases() {
         b"\xE8\x54\x00\xA9\x10",
     );
     frame_case(
-        b"d  6972, global 96",
+        b"n  6972, global 96",
         frame_of(6972, 1, Command::Global, 0),
         no_tail(),
         96,
@@ -40,10 +40,10 @@ fn byte_cases() {
     );
 }
 
-// e and f.
+// o and p.
 fn individual_cases() {
     frame_case(
-        b"e  6972, all values 2560",
+        b"o  6972, all values 2560",
         frame_of(6972, 1, Command::Individual, 0),
         no_tail(),
         0,
@@ -52,7 +52,7 @@ fn individual_cases() {
         b"\xE8\x00\x00\xA0\x0A\x00\xA0\x0A\x00\xA0\x0A\x00\xA0\x0A\x00\xA0\x0A\x00\xA0\x0A\x00\xA0\x0A\x00\xA0\x0A\x00",
     );
     frame_case(
-        b"f  6973, all values 1",
+        b"p  6973, all values 1",
         frame_of(6973, 1, Command::Individual, 0),
         no_tail(),
         0,

@@ -140,12 +140,7 @@ fn every_way(name: &[u8], should: u8, told: Told, tail: Tail) {
 // The line of a case: 0 is taken, any other number the refusal.
 fn case(name: &[u8], way: &[u8], should: u8, came: u8) {
     cases::text(name);
-    cases::text(way);
-    cases::text(b": should be");
-    cases::refusal(should);
-    cases::text(b", came out");
-    cases::refusal(came);
-    cases::verdict(should == came);
+    cases::refusal_case(way, should, came);
 }
 
 fn write_refusal(told: Told, tail: Tail, byte: u8, values: &[u16]) -> u8 {

@@ -1,4 +1,4 @@
-// j and k: the clocks at which an output is lit, each clock asked for and counted; and questions that are refused.
+// j, k and r: the clocks at which an output is lit, each clock asked for and counted. s: outputs that a part has, and that it does not have.
 ghost use mathlib.Core.Path.{_≡_};
 ghost use Prim.Native.Nat.{_+_, _<_, _≤_};
 use subframes::Asked;
@@ -18,42 +18,39 @@ struct Lit {
 }
 
 pub fn run() {
-    narrow_cases(6974, R0, b"R0 (even)", b"B7 (odd)");
-    narrow_cases(6972, Y0, b"Y0 (even)", b"Z7 (odd)");
-    wide_cases(6975, R0, b"R0 (even)", b"B7 (odd)");
-    wide_cases(6973, Y0, b"Y0 (even)", b"Z7 (odd)");
-    refused_case(6974, R0 + 1, 13);
-    refused_case(6972, Y0 + 1, 13);
-    refused_case(6971, FIRST, 1);
-    refused_case(6976, FIRST, 1);
+    narrow_cases(b"j ", 6974, R0, b"R0 (even)", b"B7 (odd)");
+    wide_cases(b"k ", 6975, R0, b"R0 (even)", b"B7 (odd)");
+    narrow_cases(b"r ", 6972, Y0, b"Y0 (even)", b"Z7 (odd)");
+    wide_cases(b"r ", 6973, Y0, b"Y0 (even)", b"Z7 (odd)");
+    output_case(b"s ", 6972, Y0 + 1, 13);
+    output_case(b"s ", 6974, Y0 + 1, 0);
+    output_case(b"- ", 6974, R0 + 1, 13);
+    output_case(b"- ", 6971, FIRST, 1);
+    output_case(b"- ", 6976, FIRST, 1);
 }
 
-// j, of a part with values of 12 bits.
-fn narrow_cases(part: u16, last: u32, even: &[u8], odd: &[u8]) {
-    lit_case(b"j ", part, 2560, last, even, lit_for(2544, 16, 2559));
-    lit_case(b"j ", part, 2560, FIRST, odd, lit_for(2544, 1536, 4079));
+// A part with values of 12 bits.
+fn narrow_cases(letter: &[u8], part: u16, last: u32, even: &[u8], odd: &[u8]) {
+    lit_case(letter, part, 2560, last, even, lit_for(2544, 16, 2559));
+    lit_case(letter, part, 2560, FIRST, odd, lit_for(2544, 1536, 4079));
 }
 
-// k, of a part with values of 14 bits.
-fn wide_cases(part: u16, last: u32, even: &[u8], odd: &[u8]) {
-    lit_case(b"k ", part, 32, last, even, lit_for(0, 0, 0));
-    lit_case(b"k ", part, 32, FIRST, odd, lit_for(0, 0, 0));
-    lit_case(b"k ", part, 33, last, even, lit_for(1, 32, 32));
-    lit_case(b"k ", part, 33, FIRST, odd, lit_for(1, 16351, 16351));
+// A part with values of 14 bits.
+fn wide_cases(letter: &[u8], part: u16, last: u32, even: &[u8], odd: &[u8]) {
+    lit_case(letter, part, 32, last, even, lit_for(0, 0, 0));
+    lit_case(letter, part, 32, FIRST, odd, lit_for(0, 0, 0));
+    lit_case(letter, part, 33, last, even, lit_for(1, 32, 32));
+    lit_case(letter, part, 33, FIRST, odd, lit_for(1, 16351, 16351));
 }
 
-// The line of a question about clock 0 that is refused.
-fn refused_case(part: u16, output: u32, should: u8) {
-    cases::text(b"- ");
+// The line of a question about an output.
+fn output_case(letter: &[u8], part: u16, output: u32, should: u8) {
+    cases::text(letter);
     cases::count(part as u64);
     cases::text(b", output");
     cases::count(output as u64);
-    cases::text(b": should be");
-    cases::refusal(should);
-    cases::text(b", came out");
     let came = refusal_of(schedule::is_lit(part, 0, 255, 0, output, 0, 0, 0));
-    cases::refusal(came);
-    cases::verdict(came == should);
+    cases::refusal_case(b"", should, came);
 }
 
 fn refusal_of(asked: Asked) -> u8 {

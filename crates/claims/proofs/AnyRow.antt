@@ -1,7 +1,7 @@
 -- The claim about any row, from the model's theorems and the laws of light. Assumes nothing.
-use mathlib.Core.Path.{_≡_, refl, sym, ap, subst, _∙_}
+use mathlib.Core.Path.{_≡_, refl, subst, _∙_}
 use mathlib.Core.Bool.{Bool}
-use mathlib.Core.List.{List, _++_, map, flatten, append-nil, map-append}
+use mathlib.Core.List.{List, _++_, map, flatten, append-nil}
 use Prim.Native.Nat.{ℕ, suc, _-_, _^_, _≤_, _<_}
 use native.Mathlib.Omega.{arith}
 use lib.Dec.{leb, lit<, lit≤}
@@ -19,7 +19,7 @@ use Rattle.model.specs.Set.{Own, Wide, OwnProper}
 use Rattle.model.specs.Restore.{piecesOf, piecesStates, statesUntil, returnsOf, RegistersHold, CutFields}
 use Rattle.model.proofs.Lists.{All-replicate}
 use Rattle.model.proofs.Frame.{quiet-sends}
-use Rattle.model.proofs.Restore.{Ready, sendPieces, pieces-run, pieces-sent, sent-four, restored}
+use Rattle.model.proofs.Restore.{Ready, pieces-run, pieces-sent, sent-four, restored}
 use Rattle.model.proofs.CutSet.{cut-sent}
 use Rattle.claims.specs.Claims.{RowRestores, AnyRow, fourBanks, oneBank, ones}
 

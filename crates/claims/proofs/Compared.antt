@@ -8,8 +8,7 @@ use native.Mathlib.Omega.{arith}
 use lib.Dec.{eqb}
 use lib.ListN.{length, take, getD}
 use borrow.Author.Tests.{eqb-true, eqb-false, eq-eqb}
-use Rattle.parts.specs.Parts.{partOf}
-use Rattle.parts.proofs.Laws.{banks-three}
+use Rattle.parts.specs.Parts.{Part, partOf}
 use Rattle.device.specs.declared.device.Device.{Device}
 use Rattle.calls.specs.Chain.{blank}
 use Rattle.model.specs.Lists.{All, Pairwise}
@@ -24,44 +23,46 @@ use Rattle.compare.specs.Differences.{ofSet, ofDevice, DiffersFirst, FirstDiffe
 use Rattle.claims.specs.Claims.{SameHolds, HoldsSame, Named}
 use Rattle.differences.proofs.Lists.{differs-first}
 use Rattle.compare.proofs.Holding.{Sized, ownFrom-sized, sides, equal-holds, holds-groups, groups-equal, GroupAt, group-named, nowhere}
-use Rattle.compare.proofs.Found.{inGroups-none, begin-live}
+use Rattle.compare.proofs.Found.{inGroups-none, begin-live, accepted-part}
 
 -- ---- the devices
 
--- as many of one as of the other, each with lists of the lengths that it should have
-record Comparable (os : List Own) (ds : List Device) : Type 0 where
-  pub sized : All Sized os
+-- as many of one as of the other, all of one part, each with lists of the lengths that it should have
+record Comparable (part : ℕ) (os : List Own) (ds : List Device) : Type 0 where
+  pub sized : All (Sized (partOf part)) os
+  pub parts : All (λ d. d .registers .part ≡ part) ds
   pub arrays : All Arrays ds
   pub lengths : length os ≡ length ds
 
-comparable-rest : {o : Own} {os : List Own} {d : Device} {ds : List Device} → Comparable (o ∷ os) (d ∷ ds) → Comparable os ds
-comparable-rest c = let l = c .lengths in record { sized = c .sized .1; arrays = c .arrays .1; lengths = omega (arith, l) }
+comparable-rest : {part : ℕ} {o : Own} {os : List Own} {d : Device} {ds : List Device} → Comparable part (o ∷ os) (d ∷ ds) → Comparable part os ds
+comparable-rest c = let l = c .lengths in record { sized = c .sized .1; parts = c .parts .1; arrays = c .arrays .1; lengths = omega (arith, l) }
 
 -- the first device, where none of its groups differs
-first-holds : (n : ℕ) (o : Own) (os : List Own) (d : Device) (ds : List Device) → Comparable (o ∷ os) (d ∷ ds) → eqb (inGroups n 1 (groups o d) same .group) 0 ≡ true → Holds o d
-first-holds n o os d ds c f =
-    equal-holds o d (c .sized .0) (c .arrays .0) (groups-equal n 0 (groups o d) (sides o d (c .sized .0) (c .arrays .0)) f)
+first-holds : (part n : ℕ) (o : Own) (os : List Own) (d : Device) (ds : List Device) → Comparable part (o ∷ os) (d ∷ ds) → eqb (inGroups n 1 (groups o d) same .group) 0 ≡ true → Holds o d
+first-holds part n o os d ds c f =
+    equal-holds o d part (c .parts .0) (c .sized .0) (c .arrays .0)
+    (groups-equal n 0 (groups o d) (sides o d part (c .parts .0) (c .sized .0) (c .arrays .0)) f)
 
-difference-holds : (n : ℕ) (os : List Own) (ds : List Device) → Comparable os ds → difference n os ds ≡ same → Pairwise Holds os ds
+difference-holds : (part n : ℕ) (os : List Own) (ds : List Device) → Comparable part os ds → difference n os ds ≡ same → Pairwise Holds os ds
 unfolding difference
-difference-holds n [] [] c e = tt
-difference-holds n [] (d ∷ ds) c e = absurd (omega (arith, c .lengths))
-difference-holds n (o ∷ os) [] c e = absurd (omega (arith, c .lengths))
-difference-holds n (o ∷ os) (d ∷ ds) c e =
-    go (eqb (inGroups n 1 (groups o d) same .group) 0) refl (difference-holds (suc n) os ds (comparable-rest c))
+difference-holds part n [] [] c e = tt
+difference-holds part n [] (d ∷ ds) c e = absurd (omega (arith, c .lengths))
+difference-holds part n (o ∷ os) [] c e = absurd (omega (arith, c .lengths))
+difference-holds part n (o ∷ os) (d ∷ ds) c e =
+    go (eqb (inGroups n 1 (groups o d) same .group) 0) refl (difference-holds part (suc n) os ds (comparable-rest c))
     (sym (inGroups-none n 0 (groups o d) (difference (suc n) os ds)) ∙ e)
   where
     go : (b : Bool) → eqb (inGroups n 1 (groups o d) same .group) 0 ≡ b → (difference (suc n) os ds ≡ same → Pairwise Holds os ds)
         → cond b (difference (suc n) os ds) (inGroups n 1 (groups o d) same) ≡ same → Holds o d × Pairwise Holds os ds
-    go true f ih z = (first-holds n o os d ds c f, ih z)
+    go true f ih z = (first-holds part n o os d ds c f, ih z)
     go false f ih z = absurd (eqb-false (inGroups n 1 (groups o d) same .group) 0 f (ap (λ (a : Compared). a .group) z))
 
-holds-difference : (n : ℕ) (os : List Own) (ds : List Device) → All Sized os → Pairwise Holds os ds → difference n os ds ≡ same
+holds-difference : (p : Part) (n : ℕ) (os : List Own) (ds : List Device) → All (Sized p) os → Pairwise Holds os ds → difference n os ds ≡ same
 unfolding difference
-holds-difference n [] [] s h = refl
-holds-difference n [] (d ∷ ds) s h = absurd h
-holds-difference n (o ∷ os) [] s h = absurd h
-holds-difference n (o ∷ os) (d ∷ ds) s h = holds-groups o d n (difference (suc n) os ds) (s .0) (h .0) ∙ holds-difference (suc n) os ds (s .1) (h .1)
+holds-difference p n [] [] s h = refl
+holds-difference p n [] (d ∷ ds) s h = absurd h
+holds-difference p n (o ∷ os) [] s h = absurd h
+holds-difference p n (o ∷ os) (d ∷ ds) s h = holds-groups o d p n (difference (suc n) os ds) (s .0) (h .0) ∙ holds-difference p (suc n) os ds (s .1) (h .1)
 
 -- the device that is named, from 0, and its group and place
 record DeviceAt (n : ℕ) (z : Own) (os : List Own) (ds : List Device) (a : Compared) (i h : ℕ) : Type 0 where
@@ -69,13 +70,13 @@ record DeviceAt (n : ℕ) (z : Own) (os : List Own) (ds : List Device) (a : Comp
   pub before : Pairwise Holds (take i os) (take i ds)
   pub group : GroupAt (n + i) 0 (groups (getD os i z) (getD ds i blank)) a h
 
-device-named : {A : Type 0} (z : Own) (n : ℕ) (os : List Own) (ds : List Device) → Comparable os ds
+device-named : {A : Type 0} (part : ℕ) (z : Own) (n : ℕ) (os : List Own) (ds : List Device) → Comparable part os ds
     → (difference n os ds ≡ same → ⊥) → ((i h : ℕ) → DeviceAt n z os ds (difference n os ds) i h → A) → A
 unfolding difference
-device-named z n [] ds c e k = absurd (e refl)
-device-named z n (o ∷ os) [] c e k = absurd (omega (arith, c .lengths))
-device-named {A} z n (o ∷ os) (d ∷ ds) c e k =
-    go (eqb (inGroups n 1 (groups o d) same .group) 0) refl (device-named z (suc n) os ds (comparable-rest c))
+device-named part z n [] ds c e k = absurd (e refl)
+device-named part z n (o ∷ os) [] c e k = absurd (omega (arith, c .lengths))
+device-named {A} part z n (o ∷ os) (d ∷ ds) c e k =
+    go (eqb (inGroups n 1 (groups o d) same .group) 0) refl (device-named part z (suc n) os ds (comparable-rest c))
   where
     apart : difference n (o ∷ os) (d ∷ ds) ≡ cond (eqb (inGroups n 1 (groups o d) same .group) 0) (difference (suc n) os ds) (inGroups n 1 (groups o d) same)
     apart = inGroups-none n 0 (groups o d) (difference (suc n) os ds)
@@ -90,12 +91,12 @@ device-named {A} z n (o ∷ os) (d ∷ ds) c e k =
         let m : suc n + i ≡ n + suc i = omega arith in
         k (suc i) h (record {
           inside = omega (arith, q .inside);
-          before = (first-holds n o os d ds c f, q .before);
+          before = (first-holds part n o os d ds c f, q .before);
           group = subst (λ (u : ℕ). GroupAt u 0 (groups (getD os i z) (getD ds i blank)) (difference n (o ∷ os) (d ∷ ds)) h) m
               (subst (λ (a : Compared). GroupAt (suc n + i) 0 (groups (getD os i z) (getD ds i blank)) a h) (sym (by true f)) (q .group));
         }))
     go false f ih =
-        group-named n 0 (groups o d) (sides o d (c .sized .0) (c .arrays .0)) f (λ h q.
+        group-named n 0 (groups o d) (sides o d part (c .parts .0) (c .sized .0) (c .arrays .0)) f (λ h q.
         let m : n ≡ n + 0 = omega arith in
         k 0 h (record {
           inside = omega arith;
@@ -126,11 +127,11 @@ module _ (s : Set) (ds : List Device) where
       go false f k = ap (λ (a : Compared). a .refusal) k
 
   module _ (e : number ≡ 0) where
-    sized : All Sized os
+    sized : All (Sized (partOf (s .part))) os
     unfolding owned
     sized =
         let l = begin-live (setNumbers (s .part) (s .devices) (s .configuration) (s .global)) (s .calibration) (s .individual) ds e .1 in
-        ownFrom-sized (partOf (s .part)) (banks-three (s .part)) (s .devices) (s .configuration) (s .global) (s .calibration) (s .individual)
+        ownFrom-sized (partOf (s .part)) (s .devices) (s .configuration) (s .global) (s .calibration) (s .individual)
         (sym (l .bytesIn) ∙ zero-plus _) (sym (l .valuesIn) ∙ zero-plus _)
       where
         zero-plus : (n : ℕ) → 0 + n ≡ n
@@ -139,18 +140,18 @@ module _ (s : Set) (ds : List Device) where
     long : length os ≡ length ds
     long = length-owned s ∙ begin-live (setNumbers (s .part) (s .devices) (s .configuration) (s .global)) (s .calibration) (s .individual) ds e .1 .devices
 
-    comparable : All Arrays ds → Comparable os ds
-    comparable r = record { sized = sized; arrays = r; lengths = long }
+    comparable : All Arrays ds → Comparable (s .part) os ds
+    comparable r = record { sized = sized; parts = accepted-part (setNumbers (s .part) (s .devices) (s .configuration) (s .global)) (s .calibration) (s .individual) ds e; arrays = r; lengths = long }
 
 pub same-holds : SameHolds
 same-holds s ds r e =
     let a : compareRefusal s ds ≡ 0 = same-accepted s ds e in
-    difference-holds 1 (owned s) ds (comparable s ds a r)
+    difference-holds (s .part) 1 (owned s) ds (comparable s ds a r)
     (sym (accepted s ds a) ∙ e)
 
 pub holds-same : HoldsSame
 holds-same s ds a h =
-    accepted s ds a ∙ holds-difference 1 (owned s) ds (sized s ds a) h
+    accepted s ds a ∙ holds-difference (partOf (s .part)) 1 (owned s) ds (sized s ds a) h
 
 -- an answer that names a device, a group and a place
 first-named : (z : Own) (os : List Own) (ds : List Device) (a : Compared) (i h : ℕ) → DeviceAt 1 z os ds a i h → FirstDifference a z os ds
@@ -177,7 +178,7 @@ first-named z os ds a i h q =
 
 pub named : Named
 named s ds z r a n =
-    device-named z 1 (owned s) ds (comparable s ds a r)
+    device-named (s .part) z 1 (owned s) ds (comparable s ds a r)
     (λ q. n (accepted s ds a ∙ q))
     (λ i h q. subst (λ (c : Compared). FirstDifference c z (owned s) ds) (sym (accepted s ds a))
     (first-named z (owned s) ds (difference 1 (owned s) ds) i h q))

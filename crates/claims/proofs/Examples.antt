@@ -18,6 +18,7 @@ use Rattle.device.specs.Run.{stepRecord}
 use Rattle.subframes.specs.Subframes.{howManyFrom}
 use Rattle.subframes.specs.Answers.{onAnswer, leadAnswer}
 use Rattle.subframes.specs.declared.answer.Asked.the-variants.{Is}
+use Rattle.schedule.specs.Answers.{positionOver}
 use Rattle.schedule.specs.Light.{inRun, litFrom, litTo}
 use Rattle.schedule.proofs.Claims.{lights, dark}
 use Rattle.claims.specs.Examples.{Lights, Each, examples, threeStates}
@@ -39,7 +40,7 @@ lit-to part value even to h configuration global output s clock phase a e q =
 
 -- of the 16-output parts, l to s
 sixteen : Each (drop 11 examples)
-unfolding bits number fields split padded bytesOf over commandCount header frame clocked frameBits frameOf writeRefusal written writtenOut heldFields readRefusal threeStates chain run stepRecord howManyFrom onAnswer leadAnswer
+unfolding bits number fields split padded bytesOf over commandCount header frame clocked frameBits frameOf writeRefusal written writtenOut heldFields readRefusal threeStates chain run stepRecord howManyFrom onAnswer leadAnswer positionOver
 sixteen = (
   ((refl, refl, refl), tt),
   (

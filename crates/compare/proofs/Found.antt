@@ -12,12 +12,14 @@ use lib.ListN.{length, getD, take, drop}
 use lib.Seq.{drop-cons, drop-drop}
 use borrow.Author.Tests.{ltb-true, ltb-false, leb-true, eqb-true, ne-eqb, not-false}
 use Rattle.parts.specs.Parts.{Part, partOf, multiplex, sliceFields, isCount}
+use Rattle.tables.specs.Lists.{every}
 use Rattle.tables.specs.Refusals.{answer}
 use Rattle.parts.specs.declared.command.Command.the-variants.{Individual}
-use Rattle.tables.proofs.Booleans.{and-left, and-right}
+use Rattle.tables.proofs.Booleans.{and-left, and-right, and-both}
 use Rattle.tables.proofs.Rows.{clear}
 use Rattle.device.specs.declared.device.Device.{Device}
-use Rattle.calls.specs.Chain.{blank}
+use Rattle.calls.specs.Chain.{hasPart, blank}
+use Rattle.model.specs.Lists.{All}
 use Rattle.model.specs.Set.{Set, Own, ownFrom, owned}
 use Rattle.judgement.specs.Judging.{unjudged, judgedFrom}
 use Rattle.differences.specs.declared.compared.Compared.{Compared}
@@ -204,24 +206,36 @@ module _ (g : SetNumbers) (bytes values : List ℕ) (ds : List Device) where
   abbrev fits : Bool
   fits = lengthsFit (g .part) (g .devices) (g .configuration) (length bytes) (length values)
 
+  accepted-lists : compareRefusal set ds ≡ 0 → (fits ≡ true) × (sameChain set ds ≡ true)
+  unfolding compareRefusal
+  accepted-lists e = and-both fits (sameChain set ds) (not-false _ (clear (compareTable set ds) refl e .1 .1 .0))
+
   pub begin-live : compareRefusal set ds ≡ 0 → (0 < g .devices) × Live p₀ bytes values ds (g .devices) (beginSearchUnder (compareRefusal set ds) g)
   unfolding compareRefusal
   begin-live e =
-      let c = clear (compareTable set ds) refl e in
-      let counts : (isCount (g .devices) && isCount (length ds)) ≡ true = not-false _ (c .1 .0) in
-      let lists : (fits && sameChain set ds) ≡ true = not-false _ (c .1 .1 .0) in
-      let fit : fits ≡ true = and-left _ _ lists in
-      let sizes : sameChain set ds ≡ true = and-right fits (sameChain set ds) lists in (
+      let counts : (isCount (g .devices) && isCount (length ds)) ≡ true = not-false _ (clear (compareTable set ds) refl e .1 .0) in
+      let lists = accepted-lists e in
+      let sizes = and-both (eqb (length bytes) allBytes) (eqb (length values) allValues) (lists .0) in (
         leb-true 1 (g .devices) (and-left _ _ (and-left _ _ counts)),
         record {
           left = zero-add (g .devices);
-          devices = sym (eqb-true (length ds) (g .devices) (and-left _ _ sizes));
+          devices = sym (eqb-true (length ds) (g .devices) (and-left _ _ (lists .1)));
           banks = refl;
           fields = refl;
-          bytesIn = zero-add allBytes ∙ sym (eqb-true (length bytes) allBytes (and-left _ _ fit));
-          valuesIn = zero-add allValues ∙ sym (eqb-true (length values) allValues (and-right (eqb (length bytes) allBytes) (eqb (length values) allValues) fit));
+          bytesIn = zero-add allBytes ∙ sym (eqb-true (length bytes) allBytes (sizes .0));
+          valuesIn = zero-add allValues ∙ sym (eqb-true (length values) allValues (sizes .1));
         },
       )
+
+  -- each record is of the set's part
+  pub accepted-part : compareRefusal set ds ≡ 0 → All (λ d. d .registers .part ≡ g .part) ds
+  accepted-part e = go ds (and-right (eqb (length ds) (g .devices)) (every (hasPart (g .part)) ds) (accepted-lists e .1))
+    where
+      go : (ds : List Device) → every (hasPart (g .part)) ds ≡ true → All (λ d. d .registers .part ≡ g .part) ds
+      go [] h = tt
+      go (d ∷ ds) h =
+          let b = and-both (hasPart (g .part) d) (every (hasPart (g .part)) ds) h in
+          (eqb-true (d .registers .part) (g .part) (b .0), go ds (b .1))
 
   begin-stands : Stands p₀ bytes values ds (g .devices) (comparison set ds) (beginSearchUnder (compareRefusal set ds) g)
   unfolding comparison owned

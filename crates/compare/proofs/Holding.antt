@@ -10,8 +10,10 @@ use lib.Dec.{eqb, ltb}
 use lib.ListN.{length, take, drop, getD, length-drop}
 use lib.Seq.{length-take-le}
 use borrow.Author.Tests.{ltb-true, ltb-false, eqb-true, eqb-false, ne-eqb}
-use Rattle.parts.specs.Parts.{Part, multiplex, sliceFields}
+use Rattle.parts.specs.Parts.{Part, partOf, outputs, multiplex, sliceFields}
 use Rattle.parts.specs.declared.command.Command.the-variants.{Individual}
+use Rattle.parts.proofs.Laws.{usable}
+use Rattle.parts.proofs.Rows.{outputs-le}
 use Rattle.device.specs.declared.device.Device.{Device}
 use Rattle.model.specs.Device.{multiplexed, evens, odds}
 use Rattle.model.specs.Lists.{All}
@@ -19,6 +21,7 @@ use Rattle.model.specs.Restore.{InUse}
 use Rattle.model.specs.Set.{Own, ownFrom}
 use Rattle.link.specs.View.{Arrays, Holds}
 use Rattle.differences.specs.declared.compared.Compared.{Compared}
+use Rattle.registers.specs.Held.{bankBytes, outputValues}
 use Rattle.differences.specs.Groups.{differsAt, inTurns, activeValues, Pair, _against_, groups, inGroups, compared, same}
 use Rattle.compare.specs.Differences.{ofSet, ofDevice}
 use Rattle.differences.proofs.Lists.{differs-refl, differs-equal, length-inTurns, evens-inTurns, odds-inTurns, inTurns-halves}
@@ -26,26 +29,26 @@ use Rattle.differences.proofs.Groups.{group-same, byte-same, no-group}
 
 -- ---- lengths
 
--- what is a device's own has the lengths of its slices
-pub record Sized (o : Own) : Type 0 where
-  pub calibration : length (o .calibration) ≡ 3
-  pub individual : length (o .individual) ≡ 24 * (1 + o .configuration % 2)
+-- what is a device's own has the lengths of its part's slices
+pub record Sized (p : Part) (o : Own) : Type 0 where
+  pub calibration : length (o .calibration) ≡ p .banks
+  pub individual : length (o .individual) ≡ sliceFields p Individual (multiplex (o .configuration))
 
-pub ownFrom-sized : (p : Part) → p .banks ≡ 3 → (n configuration global : ℕ) (bytes values : List ℕ)
+pub ownFrom-sized : (p : Part) (n configuration global : ℕ) (bytes values : List ℕ)
     → length bytes ≡ n * p .banks
     → length values ≡ n * sliceFields p Individual (multiplex configuration)
-    → All Sized (ownFrom p n configuration global bytes values)
+    → All (Sized p) (ownFrom p n configuration global bytes values)
 unfolding ownFrom
-ownFrom-sized p e zero configuration global bytes values b v = tt
-ownFrom-sized p e (suc n) configuration global bytes values b v =
+ownFrom-sized p zero configuration global bytes values b v = tt
+ownFrom-sized p (suc n) configuration global bytes values b v =
     let fields : ℕ = sliceFields p Individual (multiplex configuration) in
     let b′ : length bytes ≡ n * p .banks + p .banks = b ∙ suc-mul n (p .banks) in
     let v′ : length values ≡ n * fields + fields = v ∙ suc-mul n fields in (
       record {
-        calibration = length-take-le (p .banks) bytes (omega (arith, b′)) ∙ e;
-        individual = length-take-le fields values (omega (arith, v′)) ∙ ap (λ (k : ℕ). 8 * k * (1 + configuration % 2)) e;
+        calibration = length-take-le (p .banks) bytes (omega (arith, b′));
+        individual = length-take-le fields values (omega (arith, v′));
       },
-      ownFrom-sized p e n configuration global (drop (p .banks) bytes) (drop fields values)
+      ownFrom-sized p n configuration global (drop (p .banks) bytes) (drop fields values)
           (length-drop (p .banks) bytes ∙ omega (arith, b′))
           (length-drop fields values ∙ omega (arith, v′)),
     )
@@ -57,12 +60,20 @@ mux-cases {A} c f g = go (eqb (c % 2) 0) refl
     go true e = f (eqb-true (c % 2) 0 e)
     go false e = g (omega (arith, eqb-false (c % 2) 0 e))
 
+-- a value for each output, or two
+module _ (p : Part) (o : Own) (s : Sized p o) where
+  own-plain : o .configuration % 2 ≡ 0 → length (o .individual) ≡ outputs p
+  own-plain e = s .individual ∙ ap (λ (m : ℕ). outputs p * (1 + m)) e ∙ omega arith
+
+  own-turns : o .configuration % 2 ≡ 1 → length (o .individual) ≡ outputs p + outputs p
+  own-turns e = s .individual ∙ ap (λ (m : ℕ). outputs p * (1 + m)) e ∙ omega arith
+
 module _ (o : Own) (d : Device) where
   abbrev values0 : List ℕ
-  values0 = d .registers .active0
+  values0 = outputValues (d .registers) (d .registers .active0)
 
   abbrev values1 : List ℕ
-  values1 = d .registers .active1
+  values1 = outputValues (d .registers) (d .registers .active1)
 
   abbrev c : ℕ
   c = o .configuration
@@ -73,19 +84,33 @@ module _ (o : Own) (d : Device) where
   active-turns : c % 2 ≡ 1 → activeValues c d ≡ inTurns values0 values1
   active-turns e = ap (λ (m : ℕ). cond (eqb m 0) values0 (inTurns values0 values1)) e
 
-  module _ (s : Sized o) (r : Arrays d) where
+  -- the device is of the set's part, of number n
+  module _ (n : ℕ) (of : d .registers .part ≡ n) (s : Sized (partOf n) o) (r : Arrays d) where
+    length-bytes : length (bankBytes (d .registers)) ≡ partOf n .banks
+    length-bytes =
+        let part = d .registers .part in
+        length-take-le (partOf part .banks) (d .registers .calibration) (omega (arith, r .calibration, usable part .fewBanks))
+        ∙ ap (λ (k : ℕ). partOf k .banks) of
+
+    length-values : (vs : List ℕ) → length vs ≡ 24 → length (outputValues (d .registers) vs) ≡ outputs (partOf n)
+    length-values vs l =
+        let part = d .registers .part in
+        length-take-le (outputs (partOf part)) vs (omega (arith, l, outputs-le (partOf part) (usable part)))
+        ∙ ap (λ (k : ℕ). outputs (partOf k)) of
+
     lengths : length values0 ≡ length values1
-    lengths = r .active0 ∙ sym (r .active1)
+    lengths = length-values (d .registers .active0) (r .active0) ∙ sym (length-values (d .registers .active1) (r .active1))
 
     length-active : length (activeValues c d) ≡ length (o .individual)
     length-active =
+        let long = length-values (d .registers .active0) (r .active0) in
         mux-cases c
-        (λ e. ap length (active-plain e) ∙ r .active0 ∙ sym (s .individual ∙ ap (λ (m : ℕ). 24 * (1 + m)) e))
-        (λ e. ap length (active-turns e) ∙ length-inTurns values0 values1 lengths ∙ ap (λ (n : ℕ). n + n) (r .active0) ∙ sym (s .individual ∙ ap (λ (m : ℕ). 24 * (1 + m)) e))
+        (λ e. ap length (active-plain e) ∙ long ∙ sym (own-plain (partOf n) o s e))
+        (λ e. ap length (active-turns e) ∙ length-inTurns values0 values1 lengths ∙ ap (λ (k : ℕ). k + k) long ∙ sym (own-turns (partOf n) o s e))
 
     -- each group's two sides have one length
     pub sides : All (λ p. length (ofDevice p) ≡ length (ofSet p)) (groups o d)
-    sides = (refl, (r .calibration ∙ sym (s .calibration), (refl, (length-active, tt))))
+    sides = (refl, (length-bytes ∙ sym (s .calibration), (refl, (length-active, tt))))
 
     in-use : o .individual ≡ activeValues c d → InUse (multiplexed c) (o .individual) values0 values1
     in-use f =
@@ -105,21 +130,21 @@ module _ (o : Own) (d : Device) where
           individual = in-use (e .1 .1 .1 .0);
         }
 
-  holds-active : Sized o → Holds o d → o .individual ≡ activeValues c d
-  holds-active s h =
+  holds-active : (p : Part) → Sized p o → Holds o d → o .individual ≡ activeValues c d
+  holds-active p s h =
       mux-cases c
       (λ e. sym (active-plain e ∙ subst (λ (m : ℕ). InUse (eqb m 1) (o .individual) values0 values1) e (h .individual)))
       (λ e. let u : InUse true (o .individual) values0 values1 = subst (λ (m : ℕ). InUse (eqb m 1) (o .individual) values0 values1) e (h .individual) in
       sym (active-turns e ∙ ap (λ (l : List ℕ). inTurns l values1) (u .0) ∙ ap (λ (l : List ℕ). inTurns (evens (o .individual)) l) (u .1)
-      ∙ inTurns-halves 24 (o .individual) (s .individual ∙ ap (λ (m : ℕ). 24 * (1 + m)) e)))
+      ∙ inTurns-halves (outputs p) (o .individual) (own-turns p o s e)))
 
   -- a device whose registers in use are its own answers nothing
-  pub holds-groups : (n : ℕ) (none : Compared) → Sized o → Holds o d → inGroups n 1 (groups o d) none ≡ none
-  holds-groups n none s h =
+  pub holds-groups : (p : Part) (n : ℕ) (none : Compared) → Sized p o → Holds o d → inGroups n 1 (groups o d) none ≡ none
+  holds-groups p n none s h =
       byte-same n 1 _ _ _ none (sym (h .configuration))
-      ∙ group-same n 2 (o .calibration) (d .registers .calibration) _ none (not-before (o .calibration) (d .registers .calibration) (sym (h .calibration)))
+      ∙ group-same n 2 (o .calibration) (bankBytes (d .registers)) _ none (not-before (o .calibration) (bankBytes (d .registers)) (sym (h .calibration)))
       ∙ byte-same n 3 _ _ _ none (sym (h .global))
-      ∙ group-same n 4 (o .individual) (activeValues c d) _ none (not-before (o .individual) (activeValues c d) (holds-active s h))
+      ∙ group-same n 4 (o .individual) (activeValues c d) _ none (not-before (o .individual) (activeValues c d) (holds-active p s h))
       ∙ no-group n 5 none
     where
       not-before : (xs ys : List ℕ) → xs ≡ ys → length xs ≤ differsAt xs ys

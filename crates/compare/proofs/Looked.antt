@@ -4,18 +4,15 @@ use mathlib.Core.Path.{_≡_, ap, ap₂, sym, _∙_}
 use mathlib.Core.Bool.{Bool, cond}
 use mathlib.Core.List.{List}
 use Prim.Native.Nat.{ℕ, _+_, _-_}
-use native.Mathlib.Omega.{arith}
 use lib.Dec.{eqb}
 use lib.ListN.{take, drop}
 use borrow.Author.Tests.{eq-eqb, ne-eqb}
 use Rattle.device.specs.declared.device.Device.{Device}
 use Rattle.differences.specs.declared.compared.Compared.{Compared}
 use Rattle.differences.specs.Groups.{ownOf, groups, same, inGroups}
+use Rattle.differences.proofs.Lists.{part-of}
 use Rattle.compare.specs.declared.search.Search.{Search}
 use Rattle.compare.specs.Search.{onward, ended, lookedAt}
-
-part-of : (a n : ℕ) (l : List ℕ) → take (a + n - a) (drop a l) ≡ take n (drop a l)
-part-of a n l = let e : a + n - a ≡ n = omega arith in ap (λ (k : ℕ). take k (drop a l)) e
 
 module _ (s : Search) (bytes values : List ℕ) (d : Device) where
   -- the device's answer, by its own bytes and values

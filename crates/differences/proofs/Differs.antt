@@ -1,16 +1,18 @@
 -- Where two lists first differ, found from the front: one of them ends at the next place, or by the numbers there they differ there or one
--- place further on is left to look at. The same of two lists in turns, two places at a time. Assumes nothing.
-use mathlib.Core.Path.{_≡_, refl, ap, _∙_}
+-- place further on is left to look at. The same of two lists in turns, two places at a time, and so many outputs at a time. Assumes nothing.
+use mathlib.Core.Path.{_≡_, refl, ap, sym, _∙_}
 use mathlib.Core.Bool.{Bool, true, false, _&&_, cond}
 use mathlib.Core.List.{List, [], _∷_}
-use Prim.Native.Nat.{ℕ, suc, _+_, _<_, _≤_}
+use Prim.Native.Nat.{ℕ, zero, suc, _+_, _*_, _<_, _≤_}
 use native.Mathlib.Numerals.{add-one}
+use native.Mathlib.Nat.{zero-add, suc-add, le-refl}
 use native.Mathlib.Omega.{arith}
 use lib.Dec.{eqb, eqb·zero-suc, eqb·suc-suc}
 use lib.ListN.{length, getD, take, drop, drop-of-length-le}
-use lib.Seq.{take-nil, drop-cons}
+use lib.Seq.{take-nil, take-take, drop-cons, drop-drop}
 use borrow.Author.Tests.{eq-eqb, ne-eqb}
 use Rattle.differences.specs.Groups.{differsAt, inTurns}
+use Rattle.differences.proofs.Lists.{inTurns-take, inTurns-drop}
 
 pub differs-start : (xs ys : List ℕ) → differsAt xs ys ≡ 0 + differsAt (drop 0 xs) (drop 0 ys)
 differs-start xs ys = omega arith
@@ -27,12 +29,30 @@ differs-none (x ∷ xs) = refl
 pub differs-out : (xs ys : List ℕ) (i : ℕ) → length ys ≤ i → differsAt xs (drop i ys) ≡ 0
 differs-out xs ys i h = rw (drop-of-length-le ys h) (differs-none xs)
 
--- so many of the one as there are of the other are enough
-pub differs-enough : (xs ys : List ℕ) → differsAt (take (length ys) xs) ys ≡ differsAt xs ys
+-- so many of the one are as good as so many of the other
+pub differs-take : (n : ℕ) (xs ys : List ℕ) → differsAt (take n xs) ys ≡ differsAt xs (take n ys)
 unfolding differsAt
-differs-enough [] ys = ap (λ (l : List ℕ). differsAt l ys) (take-nil (length ys))
-differs-enough (x ∷ xs) [] = refl
-differs-enough (x ∷ xs) (y ∷ ys) = ap (λ (n : ℕ). cond (eqb x y) (suc n) 0) (differs-enough xs ys)
+differs-take n [] ys = ap (λ (l : List ℕ). differsAt l ys) (take-nil n)
+differs-take n (x ∷ xs) [] = differs-none (take n (x ∷ xs)) ∙ ap (differsAt (x ∷ xs)) (sym (take-nil n))
+differs-take zero (x ∷ xs) (y ∷ ys) = refl
+differs-take (suc n) (x ∷ xs) (y ∷ ys) = ap (λ (k : ℕ). cond (eqb x y) (suc k) 0) (differs-take n xs ys)
+
+-- n and m more are the same: the n are, and the m are
+differs-split : (n m : ℕ) (xs ys : List ℕ)
+    → eqb (differsAt xs ys) (n + m) ≡ (eqb (differsAt (take n xs) ys) n && eqb (differsAt (drop n xs) (drop n ys)) m)
+unfolding differsAt
+differs-split zero m xs ys = ap (eqb (differsAt xs ys)) (zero-add m)
+differs-split (suc n) m [] ys = rw (suc-add n m, eqb·zero-suc (n + m), eqb·zero-suc n)
+differs-split (suc n) m (x ∷ xs) [] = rw (suc-add n m, eqb·zero-suc (n + m), eqb·zero-suc n)
+differs-split (suc n) m (x ∷ xs) (y ∷ ys) = ap (eqb (differsAt (x ∷ xs) (y ∷ ys))) (suc-add n m) ∙ go (eqb x y) (differs-split n m xs ys)
+  where
+    rest : Bool
+    rest = eqb (differsAt (drop n xs) (drop n ys)) m
+
+    go : (b : Bool) → eqb (differsAt xs ys) (n + m) ≡ (eqb (differsAt (take n xs) ys) n && rest)
+        → eqb (cond b (suc (differsAt xs ys)) 0) (suc (n + m)) ≡ (eqb (cond b (suc (differsAt (take n xs) ys)) 0) (suc n) && rest)
+    go true ih = eqb·suc-suc (differsAt xs ys) (n + m) ∙ ih ∙ ap (λ (b : Bool). b && rest) (sym (eqb·suc-suc (differsAt (take n xs) ys) n))
+    go false ih = eqb·zero-suc (n + m) ∙ ap (λ (b : Bool). b && rest) (sym (eqb·zero-suc n))
 
 module _ (xs ys : List ℕ) (i : ℕ) (h : i < length xs) (k : i < length ys) where
   pub differs-here : (getD xs i 0 ≡ getD ys i 0 → ⊥) → differsAt (drop i xs) (drop i ys) ≡ 0
@@ -48,9 +68,37 @@ module _ (xs ys : List ℕ) (i : ℕ) (h : i < length xs) (k : i < length ys) wh
 abbrev pub turnsLeft : List ℕ → List ℕ → List ℕ → ℕ → ℕ
 turnsLeft vs xs ys i = differsAt (drop (i + i) vs) (inTurns (drop i xs) (drop i ys))
 
-pub turns-out : (vs xs ys : List ℕ) (i : ℕ) → length xs ≤ i → turnsLeft vs xs ys i ≡ 0
-unfolding inTurns
-turns-out vs xs ys i h = rw (drop-of-length-le xs h) (differs-none (drop (i + i) vs))
+-- of two lists in turns, so many of each
+pub turns-take : (n : ℕ) (vs xs ys : List ℕ) → differsAt (take (2 * n) vs) (inTurns xs ys) ≡ differsAt vs (inTurns (take n xs) (take n ys))
+turns-take n vs xs ys =
+    let two : 2 * n ≡ n + n = omega arith in
+    ap (λ (k : ℕ). differsAt (take k vs) (inTurns xs ys)) two ∙ differs-take (n + n) vs (inTurns xs ys) ∙ ap (differsAt vs) (sym (inTurns-take n xs ys))
+
+module _ (vs xs ys : List ℕ) (i n : ℕ) where
+  -- the next values, and what the next outputs hold, in turns
+  abbrev us : List ℕ
+  us = drop (i + i) vs
+
+  abbrev ws : List ℕ
+  ws = inTurns (drop i xs) (drop i ys)
+
+  abbrev ofNext : ℕ
+  ofNext = differsAt (take (n + n) us) (inTurns (take n (drop i xs)) (take n (drop i ys)))
+
+  turns-here : differsAt (take (n + n) us) ws ≡ ofNext
+  turns-here =
+      ap (λ (l : List ℕ). differsAt l ws) (sym (take-take (n + n) (n + n) us (le-refl (n + n))))
+      ∙ differs-take (n + n) (take (n + n) us) ws
+      ∙ ap (differsAt (take (n + n) us)) (sym (inTurns-take n (drop i xs) (drop i ys)))
+
+  turns-after : differsAt (drop (n + n) us) (drop (n + n) ws) ≡ turnsLeft vs xs ys (i + n)
+  turns-after =
+      let next : i + i + (n + n) ≡ (i + n) + (i + n) = omega arith in
+      rw (drop-drop (n + n) (i + i) vs, next, sym (inTurns-drop n (drop i xs) (drop i ys)), drop-drop n i xs, drop-drop n i ys)
+
+  -- the values of the next n outputs and m more are the same: those are, and the m are
+  pub turns-split : (m : ℕ) → eqb (turnsLeft vs xs ys i) (n + n + m) ≡ (eqb ofNext (n + n) && eqb (turnsLeft vs xs ys (i + n)) m)
+  turns-split m = differs-split (n + n) m us ws ∙ rw (turns-here, turns-after)
 
 -- the next place stands in its list, and so do the two that are held against it and the one after it
 pub record Turn (vs xs ys : List ℕ) (i : ℕ) : Type 0 where

@@ -7,6 +7,7 @@ use borrow.Author.Tests.{lt-ltb, le-ltb, eq-eqb, ne-eqb}
 use Rattle.device.specs.declared.device.Device.{Device}
 use Rattle.model.specs.Set.{Own}
 use Rattle.differences.specs.declared.compared.Compared.{Compared}
+use Rattle.registers.specs.Held.{bankBytes}
 use Rattle.differences.specs.Groups.{differsAt, activeValues, Pair, _against_, groups, inGroups, compared, same}
 
 -- ---- one group
@@ -38,7 +39,7 @@ module _ (n g x y : ℕ) (ps : List Pair) (none : Compared) where
 
 module _ (n : ℕ) (o : Own) (d : Device) where
   abbrev byte : ℕ
-  byte = differsAt (o .calibration) (d .registers .calibration)
+  byte = differsAt (o .calibration) (bankBytes (d .registers))
 
   abbrev value : ℕ
   value = differsAt (o .individual) (activeValues (o .configuration) d)

@@ -1,11 +1,12 @@
--- Lists of one length that differ nowhere are one list; where they differ first; and lists in turns. By induction on the lists.
-use mathlib.Core.Path.{_≡_, refl, ap, ap₂, _∙_}
+-- Lists of one length that differ nowhere are one list; where they differ first; a part of a list; and lists in turns. By induction on the lists.
+use mathlib.Core.Path.{_≡_, refl, ap, ap₂, sym, _∙_}
 use mathlib.Core.Bool.{Bool, true, false, cond}
 use mathlib.Core.List.{List, [], _∷_}
-use Prim.Native.Nat.{ℕ, zero, suc, _+_, _<_, _≤_}
+use Prim.Native.Nat.{ℕ, zero, suc, _+_, _-_, _<_, _≤_}
 use native.Mathlib.Omega.{arith}
 use lib.Dec.{eqb}
-use lib.ListN.{length, take, getD}
+use lib.ListN.{length, take, drop, getD, length-drop}
+use lib.Seq.{take-nil, drop-nil, length-take-le}
 use borrow.Author.Tests.{eq-eqb, eqb-true, eqb-false}
 use Rattle.model.specs.Device.{evens, odds}
 use Rattle.differences.specs.Groups.{differsAt, inTurns}
@@ -44,6 +45,14 @@ differs-first (x ∷ xs) (y ∷ ys) e l = go (eqb x y) refl (differs-first xs ys
         record { before = ap₂ _∷_ (eqb-true x y f) (r .before); there = r .there }
     go false f ih k = record { before = refl; there = eqb-false x y f }
 
+-- ---- a part of a list, as the code takes it: from a on, up to a + n
+
+pub part-of : (a n : ℕ) (l : List ℕ) → take (a + n - a) (drop a l) ≡ take n (drop a l)
+part-of a n l = let e : a + n - a ≡ n = omega arith in ap (λ (k : ℕ). take k (drop a l)) e
+
+pub length-part : (a n : ℕ) (l : List ℕ) → a + n ≤ length l → length (take (a + n - a) (drop a l)) ≡ n
+length-part a n l h = ap length (part-of a n l) ∙ length-take-le n (drop a l) (omega (arith, length-drop a l))
+
 -- ---- in turns
 
 pub length-inTurns : (xs ys : List ℕ) → length xs ≡ length ys → length (inTurns xs ys) ≡ length xs + length xs
@@ -51,6 +60,29 @@ unfolding inTurns
 length-inTurns [] ys e = refl
 length-inTurns (x ∷ xs) [] e = absurd (omega (arith, e))
 length-inTurns (x ∷ xs) (y ∷ ys) e = let h : length (inTurns xs ys) ≡ length xs + length xs = length-inTurns xs ys (omega (arith, e)) in omega (arith, h)
+
+inTurns-none : (xs : List ℕ) → inTurns xs [] ≡ []
+unfolding inTurns
+inTurns-none [] = refl
+inTurns-none (x ∷ xs) = refl
+
+two-more : (n : ℕ) → suc (suc (n + n)) ≡ suc n + suc n
+two-more n = omega arith
+
+pub inTurns-take : (n : ℕ) (xs ys : List ℕ) → inTurns (take n xs) (take n ys) ≡ take (n + n) (inTurns xs ys)
+unfolding inTurns
+inTurns-take zero xs ys = refl
+inTurns-take (suc n) [] ys = sym (take-nil (suc n + suc n))
+inTurns-take (suc n) (x ∷ xs) [] = sym (take-nil (suc n + suc n))
+inTurns-take (suc n) (x ∷ xs) (y ∷ ys) =
+    ap (λ (r : List ℕ). x ∷ y ∷ r) (inTurns-take n xs ys) ∙ ap (λ (k : ℕ). take k (x ∷ y ∷ inTurns xs ys)) (two-more n)
+
+pub inTurns-drop : (n : ℕ) (xs ys : List ℕ) → inTurns (drop n xs) (drop n ys) ≡ drop (n + n) (inTurns xs ys)
+unfolding inTurns
+inTurns-drop zero xs ys = refl
+inTurns-drop (suc n) [] ys = sym (drop-nil (suc n + suc n))
+inTurns-drop (suc n) (x ∷ xs) [] = inTurns-none (drop n xs) ∙ sym (drop-nil (suc n + suc n))
+inTurns-drop (suc n) (x ∷ xs) (y ∷ ys) = inTurns-drop n xs ys ∙ ap (λ (k : ℕ). drop k (x ∷ y ∷ inTurns xs ys)) (two-more n)
 
 pub evens-inTurns : (xs ys : List ℕ) → length xs ≡ length ys → evens (inTurns xs ys) ≡ xs
 unfolding inTurns

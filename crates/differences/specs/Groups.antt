@@ -1,12 +1,14 @@
 -- One device against what of a set is its own: same, or the first difference. docs/RULES.md, "Is it running?": configuration, calibration,
 -- active global, active individual (groups 1 to 4), then the place in that device's slice, from 0. A byte that is repeated is a slice of one
--- here, so its place is 0. Global bytes are compared as stored; MUX1 values count only if the set's D0 is 1.
+-- here, so its place is 0. Of what a record holds, the calibration of the part's banks and the values of its outputs are compared. Global bytes
+-- are compared as stored; MUX1 values count only if the set's D0 is 1.
 use Prim.Native.Nat.{ℕ, suc}
 use mathlib.Core.Bool.{cond}
 use mathlib.Core.List.{List, [], _∷_}
 use lib.Dec.{eqb, ltb}
 use lib.ListN.{length}
 use Rattle.parts.specs.Parts.{multiplex}
+use Rattle.registers.specs.Held.{bankBytes, outputValues}
 use Rattle.device.specs.declared.device.Device.{Device}
 use Rattle.model.specs.Set.{Own}
 use Rattle.differences.specs.declared.compared.Compared.{Compared}
@@ -31,7 +33,8 @@ ownOf configuration calibration global individual =
 -- a device's active values in wire order, by the set's multiplex bit
 abbrev pub activeValues : ℕ → Device → List ℕ
 activeValues configuration d =
-    cond (eqb (multiplex configuration) 0) (d .registers .active0) (inTurns (d .registers .active0) (d .registers .active1))
+    cond (eqb (multiplex configuration) 0) (outputValues (d .registers) (d .registers .active0))
+    (inTurns (outputValues (d .registers) (d .registers .active0)) (outputValues (d .registers) (d .registers .active1)))
 
 -- what is compared, in order: what the set has and what the device holds
 infix 20 _against_
@@ -42,7 +45,7 @@ pub data Pair : Type 0 where
 abbrev pub groups : Own → Device → List Pair
 groups o d =
     ((o .configuration ∷ []) against (d .registers .configuration ∷ []))
-    ∷ ((o .calibration) against (d .registers .calibration)) ∷ ((o .global ∷ []) against (d .registers .active ∷ []))
+    ∷ ((o .calibration) against (bankBytes (d .registers))) ∷ ((o .global ∷ []) against (d .registers .active ∷ []))
     ∷ ((o .individual) against (activeValues (o .configuration) d))
     ∷ []
 

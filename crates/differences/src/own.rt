@@ -1,8 +1,8 @@
-// One device against its own part of a set.
+// One device against its own part of a set. Of what it holds, the bytes of its part's banks and the values of its outputs are looked at.
 ghost use mathlib.Core.Path.{_≡_};
-ghost use Prim.Native.Nat.{_≤_};
+ghost use Prim.Native.Nat.{_≤_, _%_};
 ghost use lib.Dec.{eqb};
-ghost use lib.ListN.{length};
+ghost use lib.ListN.{length, take};
 ghost use Rattle.differences.specs.Groups.{differsAt, inTurns, ownOf, activeValues, groups, compared, same, inGroups};
 use crate::compared::Compared;
 use device::Device;
@@ -24,7 +24,8 @@ pub fn device_differs(
         return differs(number, 1, 0);
     }
     let held = registers.calibration;
-    let byte = bytes_differ(calibration, held);
+    let banks = parts::constants_of(registers.part).banks as usize;
+    let byte = bytes_differ(calibration, held, banks);
     if byte < calibration.len() {
         return differs(number, 2, byte);
     }
@@ -55,23 +56,33 @@ fn active_differ(values: &[u16], configuration: u8, device: Device) -> usize
     ensures { λ r. ⌜ (r ≡ differsAt (now (values .entry)) (activeValues configuration device)) × (r ≤ 48) ⌝ }
 {
     let registers = device.registers;
+    let outputs = parts::outputs_of(registers.part);
     let mux0 = registers.active0;
     let mux1 = registers.active1;
     if configuration % 2 == 0 {
-        if values.len() > 24 {
-            return values_differ(&values[..24], mux0);
-        }
-        return values_differ(values, mux0);
+        return values_differ(front(values, outputs), mux0);
     }
-    turns_differ(values, mux0, mux1)
+    turns_differ(front(values, 2 * outputs), mux0, mux1)
 }
 
-// The same of bytes and a device's calibration.
-fn bytes_differ(bytes: &[u8], held: [u8; 3]) -> usize
-    ensures { λ r. ⌜ (r ≡ differsAt (now (bytes .entry)) held) × (r ≤ 3) ⌝ }
+// The first n values, or all where there are fewer.
+fn front(values: &[u16], n: usize) -> &[u16]
+    ensures { λ r. ⌜ now r ≡ take n (now (values .entry)) ⌝ }
+{
+    if n <= values.len() {
+        &values[..n]
+    } else {
+        values
+    }
+}
+
+// The same of bytes and a device's calibration, a byte for each bank.
+fn bytes_differ(bytes: &[u8], held: [u8; 3], banks: usize) -> usize
+    requires { ⌜ banks ≤ 3 ⌝ }
+    ensures { λ r. ⌜ (r ≡ differsAt (now (bytes .entry)) (take banks held)) × (r ≤ 3) ⌝ }
 {
     let mut i: usize = 0;
-    while i < 3 {
+    while i < banks {
         if i >= bytes.len() {
             return i;
         }
@@ -83,8 +94,7 @@ fn bytes_differ(bytes: &[u8], held: [u8; 3]) -> usize
     i
 }
 
-// The same of values and the 24 of a nonmultiplexed device. The loop goes by the values' number: one that always goes to 24 is unrolled,
-// and takes the quick pass of a multiplexed device apart.
+// The same of values and those of a nonmultiplexed device.
 fn values_differ(values: &[u16], held: [u16; 24]) -> usize
     requires { ⌜ length (now values) ≤ 24 ⌝ }
     ensures { λ r. ⌜ (r ≡ differsAt (now (values .entry)) held) × (r ≤ 24) ⌝ }
@@ -99,22 +109,20 @@ fn values_differ(values: &[u16], held: [u16; 24]) -> usize
     i
 }
 
-// The same of values and the 48 of a multiplexed device: each output's MUX0 value and then its MUX1 value. Where all are the same, one
-// quick pass says so.
+// The same of values and those of a multiplexed device: each output's MUX0 value and then its MUX1 value. Where they are the values of whole
+// banks and all are the same, a quick pass says so.
 fn turns_differ(values: &[u16], mux0: [u16; 24], mux1: [u16; 24]) -> usize
+    requires { ⌜ length (now values) ≤ 48 ⌝ }
     ensures { λ r. ⌜ (r ≡ differsAt (now (values .entry)) (inTurns mux0 mux1)) × (r ≤ 48) ⌝ }
 {
-    if values.len() == 48 {
+    if values.len() % 16 == 0 {
         if turns_same(values, mux0, mux1) {
-            return 48;
+            return values.len();
         }
     }
     let mut i: usize = 0;
-    while i < 24 {
+    while i + i < values.len() {
         let even = i + i;
-        if even >= values.len() {
-            return even;
-        }
         if values[even] != mux0[i] {
             return even;
         }
@@ -127,17 +135,35 @@ fn turns_differ(values: &[u16], mux0: [u16; 24], mux1: [u16; 24]) -> usize
         }
         i += 1;
     }
-    48
+    i + i
 }
 
-// All 48 are the same. No early end, so that the loop is vectorised.
+// The values of whole banks are all the same.
 fn turns_same(values: &[u16], mux0: [u16; 24], mux1: [u16; 24]) -> bool
-    requires { ⌜ length (now values) ≡ 48 ⌝ }
-    ensures { λ r. ⌜ r ≡ eqb (differsAt (now (values .entry)) (inTurns mux0 mux1)) 48 ⌝ }
+    requires { ⌜ (length (now values) ≤ 48) × (length (now values) % 16 ≡ 0) ⌝ }
+    ensures { λ r. ⌜ r ≡ eqb (differsAt (now (values .entry)) (inTurns mux0 mux1)) (length (now (values .entry))) ⌝ }
+{
+    let mut i: usize = 0;
+    while i + i < values.len() {
+        let even = i + i;
+        let next = even + 16;
+        let last = i + 8;
+        if !bank_same(&values[even..next], &mux0[i..last], &mux1[i..last]) {
+            return false;
+        }
+        i = last;
+    }
+    true
+}
+
+// The values of one bank, eight outputs, are all the same. No early end, so that the loop is vectorised.
+fn bank_same(values: &[u16], mux0: &[u16], mux1: &[u16]) -> bool
+    requires { ⌜ (length (now values) ≡ 16) × (length (now mux0) ≡ 8) × (length (now mux1) ≡ 8) ⌝ }
+    ensures { λ r. ⌜ r ≡ eqb (differsAt (now (values .entry)) (inTurns (now (mux0 .entry)) (now (mux1 .entry)))) 16 ⌝ }
 {
     let mut same = true;
     let mut i: usize = 0;
-    while i < 24 {
+    while i < 8 {
         let even = i + i;
         let odd = even + 1;
         if values[even] != mux0[i] {

@@ -1,10 +1,9 @@
 -- Lengths of a told frame: what is small fits. Assumes nothing.
-use mathlib.Core.Path.{_≡_, refl, sym, ap, _∙_}
+use mathlib.Core.Path.{_≡_, sym, ap, _∙_}
 use Prim.Native.Nat.{ℕ, _+_, _*_, _/_, _%_, _<_, _≤_}
 use native.Mathlib.Nat.{mod-lt, mul-assoc, mul-left-comm, mul-mod-right, mul-le-mul-left, mul-le-mul-right}
 use native.Mathlib.Omega.{arith}
 use borrow.Author.Tests.{le-leb}
-use lib.ListN.{getD}
 use Rattle.bits.specs.Bits.{bytesFor}
 use Rattle.parts.specs.Parts.{mostDevices, partOf, multiplex, subframes, sliceFields, sliceBits}
 use Rattle.parts.proofs.Laws.{usable}

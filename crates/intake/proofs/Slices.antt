@@ -6,7 +6,7 @@ use mathlib.Core.List.{List, [], _∷_}
 use Prim.Native.Nat.{ℕ, zero, suc, _+_, _-_, _*_, _/_, _%_, _^_, _<_, _≤_}
 use native.Mathlib.Nat.{div-add-mod, div-add-mod', div-mul-le-self, div-eq-of-lt-le, div-lt-iff-lt-mul, mod-lt, mod-mod-of-dvd, dvd-of-mod-eq-zero, mul-add-mod-self-left, mul-mod-right, mul-assoc, mul-le-mul-right, le-trans}
 use native.Mathlib.Omega.{arith}
-use lib.Dec.{ltb, leb, lit<, lit≤}
+use lib.Dec.{ltb, leb, lit<}
 use lib.Pow.{pow-add}
 use lib.ListN.{length, getD, set, drop}
 use lib.Seq.{getD-set-same, set-set}
@@ -14,7 +14,6 @@ use borrow.Author.Tests.{lt-ltb, le-ltb, ltb-true, ltb-false, leb-true, leb-fals
 use Rattle.parts.specs.Parts.{partOf, multiplex, limit, fieldWidth, fieldLimit, sliceFields}
 use Rattle.parts.proofs.Laws.{usable}
 use Rattle.parts.specs.declared.command.Command.{Command}
-use Rattle.parts.specs.declared.command.Command.the-variants.{Individual, Calibration, Global, Configuration}
 use Rattle.phases.specs.Phases.{pushed}
 use Rattle.registers.specs.Held.{withSlice, fault, raised}
 use Rattle.storing.specs.Stored.{stored}

@@ -2,10 +2,9 @@
 -- records is a boundary of the model; the calls of a restore are one run of what they were given (`ran`). By induction on the
 -- calls. Assumes nothing.
 use mathlib.Core.Path.{_≡_, refl, sym, ap, _∙_}
-use mathlib.Core.Bool.{Bool, true, false, cond, _&&_}
+use mathlib.Core.Bool.{Bool, true, false, cond}
 use mathlib.Core.List.{List, [], _∷_, _++_, map}
-use Prim.Native.Nat.{ℕ, zero, suc, _-_, _≤_, _<_}
-use native.Mathlib.Omega.{arith}
+use Prim.Native.Nat.{ℕ, zero, suc, _-_, _≤_}
 use lib.Dec.{eqb, ltb, leb}
 use lib.ListN.{length, length-map, getD, set, length-set, length-replicate, take}
 use borrow.Author.Tests.{leb-true, le-leb, eq-eqb, eqb-true, eqb-false, ne-eqb, not-false}

@@ -5,13 +5,14 @@ use mathlib.Core.Bool.{Bool, cond}
 use mathlib.Core.List.{List, [], _∷_, _++_, map}
 use Prim.Native.Nat.{ℕ, zero, suc, _-_, _/_, _%_}
 use lib.Dec.{eqb, ltb}
-use lib.ListN.{length, getD, take}
+use lib.ListN.{length, getD}
 use Rattle.bits.specs.Bits.{isOne, bits}
-use Rattle.parts.specs.Parts.{partOf, outputs, fieldWidth}
+use Rattle.parts.specs.Parts.{partOf, fieldWidth}
 use Rattle.phases.specs.Phases.{phaseOf}
 use Rattle.device.specs.Step.{sliceLength}
 use Rattle.phases.specs.declared.phase.Phase.{Phase}
 use Rattle.phases.specs.declared.phase.Phase.the-variants.{Hunting, Opening, Counting, Slice, Passing, Lost}
+use Rattle.registers.specs.Held.{bankBytes, outputValues}
 use Rattle.registers.specs.declared.registers.Registers.{Registers}
 use Rattle.device.specs.declared.device.Device.{Device}
 use Rattle.calls.specs.Chain.{blank}
@@ -34,18 +35,14 @@ gotten w (v ∷ vs) t = cond (ltb t w) (bits t v) (bits w v ++ gotten w vs (t - 
 
 -- ---- a record
 
--- of a list of values, those that are in use: one for each output
-abbrev pub inUse : Registers → List ℕ → List ℕ
-inUse r vs = take (outputs (partOf (r .part))) vs
-
 -- its registers in use; a flag is up where it is not 0
 abbrev pub registersOf : Registers → model.Registers
 registersOf r = record {
   part = partOf (r .part);
   configuration = r .configuration;
-  calibration = take (partOf (r .part) .banks) (r .calibration);
-  waiting = record { global = r .waiting; mux0 = inUse r (r .waiting0); mux1 = inUse r (r .waiting1) };
-  active = record { global = r .active; mux0 = inUse r (r .active0); mux1 = inUse r (r .active1) };
+  calibration = bankBytes r;
+  waiting = record { global = r .waiting; mux0 = outputValues r (r .waiting0); mux1 = outputValues r (r .waiting1) };
+  active = record { global = r .active; mux0 = outputValues r (r .active0); mux1 = outputValues r (r .active1) };
   overtemperature = isOne (r .overtemperature);
   openled = isOne (r .openled);
 }

@@ -1,6 +1,6 @@
 -- One device, clock by clock, and a chain of them. docs/RULES.md, "One device, clock by clock": registers and a phase, for any part's row.
 use Prim.Native.Nat.{ℕ, zero, suc, pred, _+_, _*_, _%_}
-use mathlib.Core.Bool.{Bool, true, false, _&&_, cond}
+use mathlib.Core.Bool.{Bool, true, false, cond}
 use mathlib.Core.List.{List, [], _∷_, _++_, map, flatten}
 use lib.Dec.{eqb}
 use lib.ListN.{replicate}

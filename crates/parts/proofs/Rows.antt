@@ -1,10 +1,10 @@
 -- What holds of any row that can be used, and of some rows that cannot: outputs, fields and limits are within what a record and a number of the
 -- code have room for. By cases on the command. Assumes nothing.
-use mathlib.Core.Path.{_≡_, refl, _∙_}
-use Prim.Native.Nat.{ℕ, _+_, _-_, _*_, _/_, _%_, _^_, _<_, _≤_}
-use native.Mathlib.Nat.{le-refl, le-trans, lt-of-lt-of-le, mul-pos, mul-le-mul, mul-le-mul-left, div-lt-iff-lt-mul}
+use mathlib.Core.Path.{_≡_}
+use Prim.Native.Nat.{ℕ, _+_, _*_, _/_, _%_, _<_, _≤_}
+use native.Mathlib.Nat.{le-refl, le-trans, mul-pos, mul-le-mul, mul-le-mul-left, div-lt-iff-lt-mul}
 use native.Mathlib.Omega.{arith}
-use lib.Dec.{lit<, lit≤}
+use lib.Dec.{lit≤}
 use lib.Pow.{pow-pos, pow-mono}
 use Rattle.parts.specs.Parts.{Part, outputs, limit, fieldWidth, fieldLimit, sliceFields, sliceBits, Usable}
 use Rattle.parts.specs.declared.command.Command.{Command}

@@ -4,7 +4,8 @@ use Prim.Native.Nat.{ℕ, _+_, _%_}
 use mathlib.Core.Bool.{cond}
 use mathlib.Core.List.{List}
 use lib.Dec.{eqb}
-use lib.ListN.{getD, set, replicate}
+use lib.ListN.{getD, set, take, replicate}
+use Rattle.parts.specs.Parts.{partOf, outputs}
 use Rattle.parts.specs.declared.command.Command.{Command}
 use Rattle.parts.specs.declared.command.Command.the-variants.{Individual, Calibration, Global, Configuration}
 use Rattle.phases.specs.Phases.{pushed}
@@ -31,6 +32,14 @@ holding r configuration calibration waiting waiting0 waiting1 slice =
 -- the registers with another slice coming in
 abbrev pub withSlice : Registers → List ℕ → Registers
 withSlice r s = holding r (r .configuration) (r .calibration) (r .waiting) (r .waiting0) (r .waiting1) s
+
+-- what of its calibration is in use: a byte for each bank of its part
+abbrev pub bankBytes : Registers → List ℕ
+bankBytes r = take (partOf (r .part) .banks) (r .calibration)
+
+-- what is in use of values that it holds: one for each output
+abbrev pub outputValues : Registers → List ℕ → List ℕ
+outputValues r values = take (outputs (partOf (r .part))) values
 
 -- a bit goes into field k of the slice, which is kept below m
 abbrev pub took : Registers → ℕ → ℕ → ℕ → Registers

@@ -7,15 +7,13 @@ use Prim.Native.Nat.{ℕ, zero, suc, _+_, _-_, _*_, _/_, _%_, _<_, _≤_}
 use native.Mathlib.Nat.{mul-le-mul, add-zero, add-suc, zero-mul, suc-mul, add-mul, mul-add, mod-lt, div-mul-le-self, le-div-iff-mul-le, add-div-right, mul-div-cancel-left, zero-div, zero-add, div-add-mod}
 use native.Mathlib.Numerals.{add-one}
 use native.Mathlib.Omega.{arith}
-use lib.Dec.{T, ltb, leb, ltb→lt, leb→le}
+use lib.Dec.{ltb}
 use lib.IntN.{ℤ, pos, negℤ, _-ℤ_}
 use lib.Signed.{_<ℤ_}
-use lib.ListN.{length}
 use borrow.Author.Tests.{ltb-true, ltb-false}
 use Rattle.bits.specs.Bits.{digit}
-use Rattle.parts.specs.Parts.{Part, max6974, max6975, partOf, subframes, multiplex, glb4}
+use Rattle.parts.specs.Parts.{partOf, subframes}
 use Rattle.parts.proofs.Laws.{usable}
-use Rattle.tables.proofs.Table.{everyPlace, everyPlace-at}
 use Rattle.subframes.specs.Subframes.{howManyFrom, onFirst, on, onCount, lead, level}
 use Rattle.subframes.proofs.Signed.{sub-equal, sub-below}
 

@@ -1,6 +1,5 @@
 -- The test of five lists by the bits of all their values, as the code makes it: from a first value on. Assumes nothing.
 use mathlib.Core.Path.{_≡_, ap, sym, _∙_}
-use mathlib.Core.Bool.{_&&_}
 use mathlib.Core.List.{List}
 use Prim.Native.Nat.{ℕ, _-_, _*_, _^_}
 use lib.Dec.{ltb}
@@ -8,7 +7,7 @@ use lib.ListN.{length, take, drop, length-drop}
 use lib.Seq.{take-length}
 use lib.Pow.{pow-pos}
 use borrow.Author.Tests.{lt-ltb}
-use Rattle.tables.specs.Lists.{allBelow, orAll}
+use Rattle.tables.specs.Lists.{orAll}
 use Rattle.tables.proofs.Booleans.{and-assoc}
 use Rattle.tables.proofs.Tests.{orAll-below}
 use Rattle.widths.specs.Widths.{valuesBelow}

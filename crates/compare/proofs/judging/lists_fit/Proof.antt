@@ -1,10 +1,12 @@
-use mathlib.Core.Path.{_≡_, _∙_}
-use Prim.Native.Nat.{_≤_}
-use native.Mathlib.Nat.{mul-le-mul-left}
+use Prim.Native.Nat.{_<_, _≤_}
+use native.Mathlib.Nat.{mul-le-mul-left, mod-lt}
 use native.Mathlib.Omega.{arith}
+use lib.Dec.{lit<}
 use borrow.Author.Tests.{eq-eqb, ne-eqb}
-use Rattle.parts.proofs.Laws.{banks-three}
-use Rattle.compare.proofs.Refusal.{fields-of}
+use Rattle.parts.specs.Parts.{partOf, multiplex}
+use Rattle.parts.specs.declared.command.Command.the-variants.{Individual}
+use Rattle.parts.proofs.Laws.{usable}
+use Rattle.parts.proofs.Rows.{fields-le}
 use borrow.Author.Needs.{needs}
 use Rattle.compare.proofs.judging.lists_fit.Statement.{statement}
 use Rattle.compare.proofs.judging.lists_fit.Tie as tie
@@ -23,14 +25,16 @@ cast-fields c = search needs
 
 mul-if1 : tie.Need-mul-if1
 mul-if1 c =
-    let three : c .before .slice-fields .result ≡ 3 = c .before .slice-fields .ensures ∙ banks-three (c .before .before .args .given .part) in
-    rw three (omega arith)
+    let a = c .before .before .args .given in
+    let few : c .before .slice-fields .result ≤ 3 = rw (c .before .slice-fields .ensures) (usable (a .part) .fewBanks) in
+    omega (arith, mul-le-mul-left (a .devices) few)
 
 mul-result : tie.Need-mul-result
 mul-result c =
     let a = c .before .before .before .args .given in
-    let fields = c .before .slice-fields2 .ensures ∙ fields-of (a .part) (a .configuration) in
-    let few : c .before .slice-fields2 .result ≤ 48 = omega arith in
+    let two : multiplex (a .configuration) < 2 = mod-lt (a .configuration) (lit< tt) in
+    let few : c .before .slice-fields2 .result ≤ 48 =
+    rw (c .before .slice-fields2 .ensures) (fields-le (partOf (a .part)) (usable (a .part)) Individual (multiplex (a .configuration)) two) in
     omega (arith, mul-le-mul-left (a .devices) few)
 
 returns : tie.Need-returns

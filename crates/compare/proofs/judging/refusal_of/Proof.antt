@@ -4,10 +4,11 @@ use mathlib.Core.Bool.{Bool, true, _&&_}
 use lib.ListN.{length}
 use borrow.Author.Tests.{not-true, not-false}
 use Rattle.parts.specs.Parts.{known, isCount}
+use Rattle.parts.proofs.Laws.{count-bounds}
+use Rattle.tables.proofs.Booleans.{and-left}
 use Rattle.tables.proofs.Tests.{by-way}
 use Rattle.compare.specs.Compare.{lengthsFit}
 use Rattle.compare.specs.Search.{chainFits}
-use Rattle.compare.proofs.Refusal.{counts-small}
 use borrow.Author.Needs.{needs}
 use Rattle.compare.proofs.judging.refusal_of.Statement.{statement}
 use Rattle.compare.proofs.judging.refusal_of.Tie as tie
@@ -75,7 +76,7 @@ returns-2 c = rw (parts-pass (c .before .before .before), sym (counts-tested (c 
 lists-fit-requires : tie.Need-lists-fit-requires
 lists-fit-requires c κs =
     let s = c .before .before .before .before .before .before .before in
-    counts-small (s .args .given .devices) (s .args .count) (counts-pass c)
+    count-bounds (s .args .given .devices) (and-left _ _ (counts-pass c)) .1
 
 chain-fits-requires : tie.Need-chain-fits-requires
 chain-fits-requires c κs = search needs

@@ -1,15 +1,19 @@
-// What the programs that run the numbers of docs/RULES.md share: words on standard output, lists compared, and what a frame is told by. What is
-// printed is not proved: it is held to a stored text.
+// What the programs that run the numbers of docs/RULES.md share: words on standard output, lists compared, the values of a device's outputs, and
+// what a frame is told by. What is printed is not proved: it is held to a stored text.
 mod digits; // numbers as their digits
 mod lists; // lists compared
+mod outputs; // values of outputs in both phases
 mod print; // words, bytes and numbers on standard output
 mod told; // what a frame is told by
 
 pub use lists::least;
 pub use lists::same_values;
+pub use outputs::phases_case;
+pub use outputs::spaced;
 pub use print::bytes;
 pub use print::count;
 pub use print::refusal;
+pub use print::refusal_case;
 pub use print::signed;
 pub use print::text;
 pub use print::values;

@@ -49,6 +49,16 @@ pub fn refusal(number: u8) {
     }
 }
 
+// The line of a case that is taken or refused.
+pub fn refusal_case(name: &[u8], should: u8, came: u8) {
+    text(name);
+    text(b": should be");
+    refusal(should);
+    text(b", came out");
+    refusal(came);
+    verdict(came == should);
+}
+
 // A space and the number.
 pub fn count(number: u64) {
     text(b" ");

@@ -1,4 +1,4 @@
-// Frames a to f and h: written from their settings, compared, and read back.
+// Frames a to f and h of the 24-output parts: written from their settings, compared, and read back.
 use cases::frame_of;
 use cases::least;
 use cases::no_tail;
@@ -92,7 +92,7 @@ fn individual_cases() {
 }
 
 // The line of a case: the frame is written, and `should` is what it should be.
-fn frame_case(
+pub fn frame_case(
     name: &[u8],
     told: Told,
     tail: Tail,
@@ -133,9 +133,12 @@ fn is_read_back(
     let mut read_bytes = [0u8; 3];
     let mut read_values = [0u16; 24];
     let read = frame_reader::read(told, tail, frame, &mut read_bytes, &mut read_values);
-    let bytes_back = check::same(&read_bytes, bytes);
-    let values_back = same_values(&read_values, values);
-    let back = is_back(read, byte, bytes_back, values_back);
+    let back = match read {
+        Read::Byte(b) => b == byte,
+        Read::Bytes(n) => are_bytes_back(&read_bytes, n, bytes),
+        Read::Values(n) => are_values_back(&read_values, n, values),
+        Read::Refused(_) => false,
+    };
     if back {
         cases::text(b", read back as written");
     } else {
@@ -144,12 +147,14 @@ fn is_read_back(
     back
 }
 
-// What was read is the byte, or a whole list that is the one written.
-fn is_back(read: Read, byte: u8, bytes_back: bool, values_back: bool) -> bool {
-    match read {
-        Read::Byte(b) => b == byte,
-        Read::Bytes(n) => n == 3 && bytes_back,
-        Read::Values(n) => n == 24 && values_back,
-        Read::Refused(_) => false,
-    }
+// The n bytes that were read are those written.
+fn are_bytes_back(read: &[u8], n: usize, bytes: &[u8]) -> bool {
+    let end = least(n, read.len());
+    n == bytes.len() && check::same(&read[..end], bytes)
+}
+
+// The same of values.
+fn are_values_back(read: &[u16], n: usize, values: &[u16]) -> bool {
+    let end = least(n, read.len());
+    n == values.len() && same_values(&read[..end], values)
 }

@@ -10,119 +10,137 @@ use parts::Command;
 use return_reader::ReturnRead;
 
 pub fn run() {
+    part_cases();
     count_cases();
-    tail_cases();
-    value_cases();
-    global_cases();
+    every_way(
+        b"-  tail 65",
+        3,
+        frame_of(6974, 1, Command::Configuration, 0),
+        tail_of(0, 65),
+    );
+    length_cases();
+    value_cases(b"-  6974", 6974, &[4095u16; 24], &[4096u16; 24]);
+    value_cases(b"-  6972", 6972, &[4095u16; 16], &[4096u16; 16]);
+    global_cases(
+        b"-  6975 multiplexed with GLB4",
+        6975,
+        b"\xE8\xA8\x00\x03\x03\x03",
+        b"\xE8\xA8\x00\x04\x04\x04",
+    );
+    global_cases(
+        b"-  6973 multiplexed with GLB4",
+        6973,
+        b"\xE8\xA8\x00\x03\x03",
+        b"\xE8\xA8\x00\x04\x04",
+    );
 }
 
 // h with an unused bit of the last byte.
 pub fn run_unused_bit() {
     let told = frame_of(6974, 1, Command::Configuration, 0);
     let came = read_refusal(told, tail_of(5, 3), b"\xE8\xFC\x00\x00\x00\x00\xA1");
-    case(b"h  its last byte A1, read", 11, came);
+    case(b"h  its last byte A1", b", read", 11, came);
+}
+
+// A number that is no part's.
+fn part_cases() {
+    every_way(
+        b"-  part 6971",
+        1,
+        frame_of(6971, 1, Command::Configuration, 0),
+        no_tail(),
+    );
+    every_way(
+        b"-  part 6976",
+        1,
+        frame_of(6976, 1, Command::Configuration, 0),
+        no_tail(),
+    );
 }
 
 fn count_cases() {
-    let none = frame_of(6974, 0, Command::Configuration, 0);
-    let many = frame_of(6974, 1024, Command::Configuration, 0);
+    every_way(
+        b"-  N = 0",
+        2,
+        frame_of(6974, 0, Command::Configuration, 0),
+        no_tail(),
+    );
+    every_way(
+        b"-  N = 1024",
+        2,
+        frame_of(6974, 1024, Command::Configuration, 0),
+        no_tail(),
+    );
+}
+
+// What has the length of another part's: three copies, and 24 values.
+fn length_cases() {
+    let copies = frame_of(6972, 1, Command::Configuration, 0);
+    let frame = b"\xE8\xFC\x00\x00\x00\x00";
+    case(
+        b"-  6972, frame a of a 6974",
+        b", read",
+        4,
+        read_refusal(copies, no_tail(), frame),
+    );
+    let values = frame_of(6972, 1, Command::Individual, 0);
+    case(
+        b"-  6972, 24 values",
+        b", written",
+        4,
+        write_refusal(values, no_tail(), 0, &[0u16; 24]),
+    );
+}
+
+// A part with values of 12 bits.
+fn value_cases(name: &[u8], part: u16, highest: &[u16], over: &[u16]) {
+    let told = frame_of(part, 1, Command::Individual, 0);
+    case(
+        name,
+        b", value 4095, written",
+        0,
+        write_refusal(told, no_tail(), 0, highest),
+    );
+    case(
+        name,
+        b", value 4096, written",
+        6,
+        write_refusal(told, no_tail(), 0, over),
+    );
+}
+
+// Configuration 0x11 is multiplexed with GLB4. The two frames have the global bytes 3 and 4.
+fn global_cases(name: &[u8], part: u16, three: &[u8], four: &[u8]) {
+    let told = frame_of(part, 1, Command::Global, 0x11);
+    let written_three = write_refusal(told, no_tail(), 3, &[0u16; 1]);
+    let written_four = write_refusal(told, no_tail(), 4, &[0u16; 1]);
+    let read_three = read_refusal(told, no_tail(), three);
+    let read_four = read_refusal(told, no_tail(), four);
+    case(name, b", global 3, written", 0, written_three);
+    case(name, b", global 3, read", 0, read_three);
+    case(name, b", global 4, written", 6, written_four);
+    case(name, b", global 4, read", 6, read_four);
+}
+
+// What is told is refused by writer, reader and return reader, before anything else is looked at.
+fn every_way(name: &[u8], should: u8, told: Told, tail: Tail) {
     let frame = b"\xE8\xFC\x00\x00\x00\x00";
     let back = b"\xE8\xFC\x00";
+    let written = write_refusal(told, tail, 0, &[0u16; 1]);
+    case(name, b", written", should, written);
+    case(name, b", read", should, read_refusal(told, tail, frame));
     case(
-        b"-  N = 0, written",
-        2,
-        write_refusal(none, no_tail(), 0, &[0u16; 1]),
-    );
-    case(b"-  N = 0, read", 2, read_refusal(none, no_tail(), frame));
-    case(
-        b"-  N = 0, return read",
-        2,
-        return_refusal(0, no_tail(), back),
-    );
-    case(
-        b"-  N = 1024, written",
-        2,
-        write_refusal(many, no_tail(), 0, &[0u16; 1]),
-    );
-    case(
-        b"-  N = 1024, read",
-        2,
-        read_refusal(many, no_tail(), frame),
-    );
-    case(
-        b"-  N = 1024, return read",
-        2,
-        return_refusal(1024, no_tail(), back),
-    );
-}
-
-fn tail_cases() {
-    let told = frame_of(6974, 1, Command::Configuration, 0);
-    let tail = tail_of(0, 65);
-    case(
-        b"-  tail 65, written",
-        3,
-        write_refusal(told, tail, 0, &[0u16; 1]),
-    );
-    case(
-        b"-  tail 65, read",
-        3,
-        read_refusal(told, tail, b"\xE8\xFC\x00\x00\x00\x00"),
-    );
-    case(
-        b"-  tail 65, return read",
-        3,
-        return_refusal(1, tail, b"\xE8\xFC\x00"),
-    );
-}
-
-fn value_cases() {
-    let told = frame_of(6974, 1, Command::Individual, 0);
-    case(
-        b"-  6974, value 4095, written",
-        0,
-        write_refusal(told, no_tail(), 0, &[4095u16; 24]),
-    );
-    case(
-        b"-  6974, value 4096, written",
-        6,
-        write_refusal(told, no_tail(), 0, &[4096u16; 24]),
-    );
-}
-
-// Configuration 0x11 is multiplexed with GLB4.
-fn global_cases() {
-    let told = frame_of(6975, 1, Command::Global, 0x11);
-    let three = write_refusal(told, no_tail(), 3, &[0u16; 1]);
-    let four = write_refusal(told, no_tail(), 4, &[0u16; 1]);
-    let read_three = read_refusal(told, no_tail(), b"\xE8\xA8\x00\x03\x03\x03");
-    let read_four = read_refusal(told, no_tail(), b"\xE8\xA8\x00\x04\x04\x04");
-    case(
-        b"-  6975 multiplexed with GLB4, global 3, written",
-        0,
-        three,
-    );
-    case(
-        b"-  6975 multiplexed with GLB4, global 3, read",
-        0,
-        read_three,
-    );
-    case(b"-  6975 multiplexed with GLB4, global 4, written", 6, four);
-    case(
-        b"-  6975 multiplexed with GLB4, global 4, read",
-        6,
-        read_four,
+        name,
+        b", return read",
+        should,
+        return_refusal(told, tail, back),
     );
 }
 
 // The line of a case: 0 is taken, any other number the refusal.
-fn case(name: &[u8], should: u8, came: u8) {
+fn case(name: &[u8], way: &[u8], should: u8, came: u8) {
     cases::text(name);
-    cases::text(b": should be");
-    cases::refusal(should);
-    cases::text(b", came out");
-    cases::refusal(came);
-    cases::verdict(should == came);
+    cases::refusal_case(way, should, came);
 }
 
 fn write_refusal(told: Told, tail: Tail, byte: u8, values: &[u16]) -> u8 {
@@ -144,8 +162,9 @@ fn read_refusal(told: Told, tail: Tail, frame: &[u8]) -> u8 {
     }
 }
 
-fn return_refusal(devices: usize, tail: Tail, frame: &[u8]) -> u8 {
-    match return_reader::read_return(6974, devices, Command::Configuration, tail, frame) {
+fn return_refusal(told: Told, tail: Tail, frame: &[u8]) -> u8 {
+    let command = told.command;
+    match return_reader::read_return(told.part, told.devices, command, tail, frame) {
         ReturnRead::Count(_) => 0,
         ReturnRead::Refused(number) => number,
     }

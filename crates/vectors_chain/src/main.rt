@@ -2,10 +2,12 @@
 // `ok`, or `WRONG` where the two differ.
 mod lists; // a list copied
 mod order_cases; // the order of unequal individual values
-mod return_cases; // g, and 1023 devices: run, packed and read
+mod record_cases; // chains whose records are refused
+mod return_cases; // g and q, and 1023 devices: run, packed and read
 
 fn main() {
     return_cases::run();
     return_cases::run_joined();
     order_cases::run();
+    record_cases::run();
 }

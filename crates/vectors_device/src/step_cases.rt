@@ -1,34 +1,15 @@
-// One device, stepped by value: rules that no number of docs/RULES.md shows. Each frame is given as its bytes, SYNC at low load.
-ghost use Prim.Native.Nat.{_≤_};
+// One device, stepped by value: rules that no number of docs/RULES.md shows.
+use crate::feeding::feed;
+use crate::feeding::start;
+use crate::feeding::step;
+use crate::feeding::steps;
+use crate::seen::LOST;
+use crate::seen::PASSING;
+use crate::seen::SLICE;
+use crate::seen::case;
+use crate::seen::expected;
 use device::Device;
 use phases::Place;
-use phases::Sent;
-
-// What a device is seen to do: the refusal of a step, or 0; its phase; its configuration; its waiting global byte; how many states it
-// sent on, and the count of the last header among them.
-struct Seen {
-    refusal: u8,
-    phase: u8,
-    configuration: u8,
-    waiting: u8,
-    sent: u32,
-    count: u16,
-}
-
-// A device that was given states, with what it sent on.
-struct Fed {
-    device: Device,
-    refusal: u8,
-    sent: u32,
-    count: u16,
-}
-
-// Phases, as the record has them.
-const SLICE: u8 = 3;
-
-const PASSING: u8 = 4;
-
-const LOST: u8 = 5;
 
 pub fn run() {
     lost_cases();
@@ -76,8 +57,8 @@ fn count_case() {
     );
 }
 
-// Slots over 255 while a global slice comes in: bits of an individual slice that was cut off, with all 24 bits to come; and a slot whose
-// bits have all come.
+// Slots over 255 while a global slice comes in: bits of an individual slice that was cut off, with all bits to come; and a slot whose bits
+// have all come.
 fn slot_cases() {
     let cut = with_slots(0x1A9, 0x1A9, 0x1A9, 0);
     case(
@@ -96,7 +77,7 @@ fn slot_cases() {
     );
 }
 
-// A 6974 in a global slice, with three slots and so many bits taken.
+// A 6974 in a global slice, with a slot for each bank and so many bits taken.
 fn with_slots(first: u16, second: u16, third: u16, taken: u16) -> Device {
     let fresh = Device::fresh(6974);
     let mut registers = fresh.registers;
@@ -112,132 +93,4 @@ fn with_slots(first: u16, second: u16, third: u16, taken: u16) -> Device {
             read: taken,
         },
     }
-}
-
-// A device that is given a frame.
-fn feed(device: Device, frame: &[u8]) -> Fed {
-    let mut states = [0u8; 48];
-    serial::frame_states(frame, 48, &mut states);
-    steps(device, &states)
-}
-
-fn steps(device: Device, states: &[u8]) -> Fed {
-    let mut fed = start(device);
-    let mut i: usize = 0;
-    while i < states.len() {
-        fed = step(fed, states[i]);
-        i += 1;
-    }
-    fed
-}
-
-fn start(device: Device) -> Fed {
-    Fed {
-        device,
-        refusal: 0,
-        sent: 0,
-        count: 0,
-    }
-}
-
-// One state more. A refusal stays.
-fn step(fed: Fed, state: u8) -> Fed {
-    if fed.refusal != 0 {
-        return fed;
-    }
-    let device = fed.device;
-    let answer = device.step(state);
-    let next = answer.device;
-    let sent = answer.sent;
-    Fed {
-        device: next,
-        refusal: answer.refusal,
-        sent: (fed.sent % 65536) + states_of(sent),
-        count: count_of(sent, fed.count),
-    }
-}
-
-// How many states are sent on.
-fn states_of(sent: Sent) -> u32
-    ensures { λ r. ⌜ r ≤ 24 ⌝ }
-{
-    match sent {
-        Sent::Nothing => 0,
-        Sent::One(_) => 1,
-        Sent::Header { .. } => 24,
-    }
-}
-
-// The count of the last header: that of this one, or the one before.
-fn count_of(sent: Sent, before: u16) -> u16 {
-    match sent {
-        Sent::Header { count, .. } => count,
-        _ => before,
-    }
-}
-
-fn expected(phase: u8, configuration: u8, waiting: u8, sent: u32, count: u16) -> Seen {
-    Seen {
-        refusal: 0,
-        phase,
-        configuration,
-        waiting,
-        sent,
-        count,
-    }
-}
-
-fn seen_of(fed: Fed) -> Seen {
-    let device = fed.device;
-    let registers = device.registers;
-    let place = device.place;
-    Seen {
-        refusal: fed.refusal,
-        phase: place.phase,
-        configuration: registers.configuration,
-        waiting: registers.waiting,
-        sent: fed.sent,
-        count: fed.count,
-    }
-}
-
-// The line of a case.
-fn case(name: &[u8], fed: Fed, should: Seen) {
-    let came = seen_of(fed);
-    cases::text(name);
-    cases::text(b": should be");
-    words(should);
-    cases::text(b", came out");
-    words(came);
-    cases::verdict(is_same(came, should));
-}
-
-fn words(seen: Seen) {
-    cases::refusal(seen.refusal);
-    phase_word(seen.phase);
-    cases::text(b", configuration");
-    cases::bytes(&[seen.configuration]);
-    cases::text(b", waiting global");
-    cases::bytes(&[seen.waiting]);
-    cases::text(b",");
-    cases::count(seen.sent as u64);
-    cases::text(b" states sent, count");
-    cases::count(seen.count as u64);
-}
-
-fn phase_word(phase: u8) {
-    match phase {
-        PASSING => cases::text(b", passing"),
-        LOST => cases::text(b", lost"),
-        _ => cases::text(b", in a frame"),
-    }
-}
-
-fn is_same(a: Seen, b: Seen) -> bool {
-    a.refusal == b.refusal
-        && a.phase == b.phase
-        && a.configuration == b.configuration
-        && a.waiting == b.waiting
-        && a.sent == b.sent
-        && a.count == b.count
 }

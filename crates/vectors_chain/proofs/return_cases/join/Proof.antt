@@ -7,10 +7,10 @@ use Rattle.vectors_chain.proofs.return_cases.join.Statement.{statement}
 use Rattle.vectors_chain.proofs.return_cases.join.Tie as tie
 
 abbrev Inv-loop : tie.InvT-loop
-Inv-loop states₀ count chains left₀ done₀ states left done = length states ≡ length states₀
+Inv-loop part states₀ count chains left₀ done₀ states left done = length states ≡ length states₀
 
 abbrev μ-loop : tie.MeasureT-loop
-μ-loop states₀ count chains left₀ done₀ states left done = chains - done
+μ-loop part states₀ count chains left₀ done₀ states left done = chains - done
 
 loop-holds : tie.Need-loop-holds Inv-loop μ-loop
 loop-holds c = search needs

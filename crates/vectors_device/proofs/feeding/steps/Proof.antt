@@ -2,23 +2,26 @@
 use Prim.Native.Nat.{_≤_, _-_}
 use lib.ListN.{length}
 use borrow.Author.Needs.{needs}
-use Rattle.vectors.proofs.light_cases.subframe_words.Statement.{statement}
-use Rattle.vectors.proofs.light_cases.subframe_words.Tie as tie
+use Rattle.vectors_device.proofs.feeding.steps.Statement.{statement}
+use Rattle.vectors_device.proofs.feeding.steps.Tie as tie
 
 abbrev Inv-loop : tie.InvT-loop
-Inv-loop list i₀ i = i ≤ length list
+Inv-loop states fed₀ i₀ fed i = i ≤ length states
 
 abbrev μ-loop : tie.MeasureT-loop
-μ-loop list i₀ i = length list - i
+μ-loop states fed₀ i₀ fed i = length states - i
+
+start-requires : tie.Need-start-requires Inv-loop μ-loop
+start-requires c κs = search needs
 
 loop-holds : tie.Need-loop-holds Inv-loop μ-loop
 loop-holds c = search needs
 
-shared-slice-read-subframe-word : tie.Need-shared-slice-read-subframe-word Inv-loop μ-loop
-shared-slice-read-subframe-word c = search needs
+shared-slice-read-step : tie.Need-shared-slice-read-step Inv-loop μ-loop
+shared-slice-read-step c = search needs
 
-subframe-word-requires : tie.Need-subframe-word-requires Inv-loop μ-loop
-subframe-word-requires c κs = search needs
+step-requires : tie.Need-step-requires Inv-loop μ-loop
+step-requires c κs = search needs
 
 add-i : tie.Need-add-i Inv-loop μ-loop
 add-i c = search needs
@@ -32,15 +35,16 @@ loop-again c = search needs
 returns : tie.Need-returns Inv-loop μ-loop
 returns c = search needs
 
-pub subframe-words-spec : {M : Type 1} → statement M
-subframe-words-spec =
+pub steps-spec : {M : Type 1} → statement M
+steps-spec =
     tie.close
     (tie.spec
     Inv-loop
     μ-loop
+    start-requires
     loop-holds
-    shared-slice-read-subframe-word
-    subframe-word-requires
+    shared-slice-read-step
+    step-requires
     add-i
     loop-less
     loop-again

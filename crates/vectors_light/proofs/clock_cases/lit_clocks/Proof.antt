@@ -1,8 +1,8 @@
 -- No more clocks are lit than were asked for, and a subframe has fewer than 65536. The measure is the clocks that are left.
 use Prim.Native.Nat.{_≤_, _<_, _-_}
 use borrow.Author.Needs.{needs}
-use Rattle.vectors.proofs.light_cases.lit_clocks.Statement.{statement}
-use Rattle.vectors.proofs.light_cases.lit_clocks.Tie as tie
+use Rattle.vectors_light.proofs.clock_cases.lit_clocks.Statement.{statement}
+use Rattle.vectors_light.proofs.clock_cases.lit_clocks.Tie as tie
 
 abbrev Inv-loop : tie.InvT-loop
 Inv-loop part value output clocks came₀ clock₀ came clock = (came .count ≤ clock) × (clocks < 65536)

@@ -4,13 +4,13 @@ use mathlib.Core.Bool.{Bool}
 use mathlib.Core.List.{List, _++_, map, flatten, append-nil}
 use Prim.Native.Nat.{ℕ, suc, _-_, _^_, _≤_, _<_}
 use native.Mathlib.Omega.{arith}
-use lib.Dec.{leb, lit<, lit≤}
+use lib.Dec.{leb, lit<}
 use lib.ListN.{length, length-map, length-replicate, take, getD}
 use lib.Pow.{pow-mono}
 use Rattle.parts.specs.Parts.{Part, outputs}
 use Rattle.parts.specs.Wire.{lows, dataBit}
 use Rattle.parts.specs.declared.command.Command.{Command}
-use Rattle.parts.proofs.Laws.{usable, subframes-by}
+use Rattle.parts.proofs.Laws.{usable, usable-row}
 use Rattle.subframes.proofs.Claims.{frame-on, window-lead}
 use Rattle.machine.proofs.Machine.{chain-append, length-chain}
 use Rattle.model.specs.Lists.{Pairwise}
@@ -75,13 +75,5 @@ any-row = record {
   windowLead = λ p configuration global from w h. window-lead p configuration global h from w;
   madeUp = (ones-proper fourBanks (record { width = lit< tt; banks = lit< tt }), ones-proper oneBank (record { width = lit< tt; banks = lit< tt }));
   parts = usable;
-  fifth = record {
-    someBank = lit≤ tt;
-    fewBanks = lit≤ tt;
-    wide = lit≤ tt;
-    narrow = lit≤ tt;
-    clocks = refl;
-    edge = lit≤ tt;
-    subframes = subframes-by oneBank refl tt tt;
-  };
+  fifth = usable-row oneBank refl refl refl tt tt;
 }

@@ -1,14 +1,14 @@
 -- Laws of the parts, the commands and their slices: every row is usable, and what is said of slices is said of any row that is. A command is
 -- one of four. The table of slice lengths is tested whole, once, and `slice-table` turns the test into the rule. Assumes nothing.
 use mathlib.Core.Path.{_≡_, refl, sym, ap, ap₂, _∙_}
-use mathlib.Core.Bool.{Bool, true, false, cond, _||_}
+use mathlib.Core.Bool.{Bool, true, false, cond, _&&_, _||_}
 use mathlib.Core.List.{List, [], _∷_}
 use Prim.Native.Nat.{ℕ, suc, _+_, _*_, _/_, _%_, _<_, _≤_}
 use native.Mathlib.Omega.{arith}
-use lib.Dec.{T, eqb, ltb, leb, eqb→eq, ltb→lt, leb→le, lit≤}
+use lib.Dec.{T, eqb, ltb, leb, eqb→eq, ltb→lt, leb→le}
 use borrow.Author.Tests.{leb-true}
 use lib.ListN.{length, getD}
-use Rattle.parts.specs.Parts.{Part, max6972, max6973, max6974, max6975, rows, noPart, knownIn, known, rowFrom, partOf, rowIndex, multiplex, glb4, subframes, isCount, code, commandAt, sliceBits, Usable}
+use Rattle.parts.specs.Parts.{Part, max6972, max6973, max6974, max6975, rows, noPart, knownIn, known, rowFrom, partOf, rowIndex, multiplex, glb4, subframes, limit, isCount, code, commandAt, sliceBits, Usable}
 use Rattle.parts.specs.declared.command.Command.{Command}
 use Rattle.parts.specs.declared.command.Command.the-variants.{Individual, Calibration, Global, Configuration}
 use Rattle.tables.proofs.Booleans.{and-both, or-false, cond-both}
@@ -32,7 +32,7 @@ pub known-name : (n : ℕ) → known n ≡ eqb n (partOf n .name)
 known-name n = known-from max6972 (max6973 ∷ max6974 ∷ max6975 ∷ []) n
 
 -- four numbers of subframes, each 1 to 128
-pub subframes-by :
+subframes-by :
     (p : Part)
     → length (p .subframesBy) ≡ 4
     → T (everyPlace (λ k n. ltb 0 n) 0 (p .subframesBy))
@@ -45,47 +45,38 @@ subframes-by p e t u configuration =
       leb→le (subframes p configuration) 128 (everyPlace-at (λ k n. leb n 128) (p .subframesBy) u k l),
     )
 
+-- a row by the tests of its numbers
+abbrev within : Part → Bool
+within p = leb 1 (p .banks) && (leb (p .banks) 3 && (leb 8 (p .width) && (leb (p .width) 14 && leb (p .edge) (p .clocks))))
+
+pub usable-row :
+    (p : Part)
+    → within p ≡ true
+    → limit p ≡ p .clocks
+    → length (p .subframesBy) ≡ 4
+    → T (everyPlace (λ k n. ltb 0 n) 0 (p .subframesBy))
+    → T (everyPlace (λ k n. leb n 128) 0 (p .subframesBy))
+    → Usable p
+usable-row p w c e t u =
+    let a = and-both (leb 1 (p .banks)) _ w in
+    let b = and-both (leb (p .banks) 3) _ (a .1) in
+    let d = and-both (leb 8 (p .width)) _ (b .1) in
+    let f = and-both (leb (p .width) 14) (leb (p .edge) (p .clocks)) (d .1) in
+    record {
+      someBank = leb-true 1 (p .banks) (a .0);
+      fewBanks = leb-true (p .banks) 3 (b .0);
+      wide = leb-true 8 (p .width) (d .0);
+      narrow = leb-true (p .width) 14 (f .0);
+      clocks = c;
+      edge = leb-true (p .edge) (p .clocks) (f .1);
+      subframes = subframes-by p e t u;
+    }
+
 -- every row can be used
 pub usable : (n : ℕ) → Usable (partOf n)
 usable n =
-    each-row Usable
-    (record {
-      someBank = lit≤ tt;
-      fewBanks = lit≤ tt;
-      wide = lit≤ tt;
-      narrow = lit≤ tt;
-      clocks = refl;
-      edge = lit≤ tt;
-      subframes = subframes-by max6972 refl tt tt;
-    })
-    (record {
-      someBank = lit≤ tt;
-      fewBanks = lit≤ tt;
-      wide = lit≤ tt;
-      narrow = lit≤ tt;
-      clocks = refl;
-      edge = lit≤ tt;
-      subframes = subframes-by max6973 refl tt tt;
-    })
-    (record {
-      someBank = lit≤ tt;
-      fewBanks = lit≤ tt;
-      wide = lit≤ tt;
-      narrow = lit≤ tt;
-      clocks = refl;
-      edge = lit≤ tt;
-      subframes = subframes-by max6974 refl tt tt;
-    })
-    (record {
-      someBank = lit≤ tt;
-      fewBanks = lit≤ tt;
-      wide = lit≤ tt;
-      narrow = lit≤ tt;
-      clocks = refl;
-      edge = lit≤ tt;
-      subframes = subframes-by max6975 refl tt tt;
-    })
-    n
+    each-row Usable (usable-row max6972 refl refl refl tt tt) (usable-row max6973 refl refl refl tt tt) (usable-row max6974 refl refl refl tt tt)
+    (usable-row max6975 refl refl refl tt tt) n
 
 pub row-index-lt : (n : ℕ) → rowIndex n < 4
 row-index-lt n =

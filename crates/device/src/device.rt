@@ -153,7 +153,8 @@ fn collect(registers: Registers, command: Command, count: u16, taken: u16, bit: 
         return sending(next, more, Sent::Nothing);
     }
     let count = registers::raise(count, next.fault_of(command));
-    let stored = storing::store(next, command);
+    let slice = next.slice;
+    let stored = storing::store(next, slice, command);
     sending(stored, Phase::Passing, Sent::Header { command, count })
 }
 

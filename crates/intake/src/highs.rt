@@ -46,12 +46,11 @@ fn quiet(registers: Registers, phase: Phase, from: usize) -> Taken
     }
 }
 
-// High states: those of a header, and then what the phase says.
+// High states: those of a header, and then what the phase says. A record is passed on where it is used, so that it is moved once.
 fn high(device: Device, states: &[u8], from: usize) -> Taken
     requires { ⌜ (from < length (now states)) × (2 ≤ getD (now states) from 0) ⌝ }
     ensures { λ r. ⌜ r ≡ highTaken device (drop from (now (states .entry))) from ⌝ }
 {
-    let registers = device.registers;
     let place = device.place;
     let headed = head_all(phases::phase_of(place), states, from);
     let phase = headed.phase;
@@ -61,10 +60,18 @@ fn high(device: Device, states: &[u8], from: usize) -> Taken
             command,
             count,
             taken,
-        } => crate::slice::collect(registers, command, count, taken, states, next),
-        Phase::Passing => one(registers, phase, states, next),
-        Phase::Lost => quiet(registers, phase, highs_end(states, next)),
-        _ => quiet(registers, phase, next),
+        } => {
+            let part = device.registers.part;
+            let bits = slices::slice_bits(command, part, device.registers.configuration);
+            if taken < bits {
+                crate::slice::gather(device.registers, command, count, taken, states, next)
+            } else {
+                one(device.registers, phase, states, next)
+            }
+        }
+        Phase::Passing => one(device.registers, phase, states, next),
+        Phase::Lost => quiet(device.registers, phase, highs_end(states, next)),
+        _ => quiet(device.registers, phase, next),
     }
 }
 

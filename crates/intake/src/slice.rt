@@ -20,34 +20,8 @@ pub struct Filled {
     pub at: usize,
 }
 
-// A device within a slice takes high states.
-pub fn collect(
-    registers: Registers,
-    command: Command,
-    count: u16,
-    taken: u16,
-    states: &[u8],
-    from: usize,
-) -> Taken
-    ensures { λ r. ⌜ r ≡ highTaken (at registers (Slice command count taken)) (drop from (now (states .entry))) from ⌝ }
-{
-    if taken < slices::slice_bits(command, registers.part, registers.configuration) {
-        return gather(registers, command, count, taken, states, from);
-    }
-    crate::taken::one(
-        registers,
-        Phase::Slice {
-            command,
-            count,
-            taken,
-        },
-        states,
-        from,
-    )
-}
-
-// Field by field.
-fn gather(
+// A device within a slice takes high states, field by field.
+pub fn gather(
     registers: Registers,
     command: Command,
     count: u16,
@@ -139,10 +113,8 @@ fn part_of(
 fn whole(registers: Registers, slice: [u16; 48], command: Command, count: u16, from: usize) -> Taken
     ensures { λ r. ⌜ r ≡ full registers slice command count from ⌝ }
 {
-    let mut held = registers;
-    held.slice = slice;
-    let raised = registers::raise(count, held.fault_of(command));
-    let stored = storing::store(held, command);
+    let raised = registers::raise(count, registers.fault_of(command));
+    let stored = storing::store(registers, slice, command);
     Taken {
         device: Device {
             registers: stored,

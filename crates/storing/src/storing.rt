@@ -4,6 +4,7 @@ ghost use mathlib.Core.Path.{_≡_};
 ghost use Prim.Native.Nat.{_+_, _*_, _<_, _≤_};
 ghost use lib.ListN.{getD};
 ghost use Rattle.bits.specs.Bits.{over};
+ghost use Rattle.registers.specs.Held.{withSlice};
 ghost use Rattle.parts.specs.Parts.{partOf};
 ghost use Rattle.tables.specs.Lists.{allSame};
 ghost use Rattle.storing.specs.Stored.{byteOf, bytesOf, strided, stored, storedValues, storedCalibration, storedGlobal, storedConfiguration};
@@ -69,14 +70,14 @@ fn same_copies(slice: [u16; 48], part: u16) -> bool
 }
 
 // The values become MUX0, and MUX1 stays; multiplexed, each second value becomes MUX0, and the others MUX1.
-fn store_values(registers: Registers) -> Registers
-    ensures { λ r. ⌜ r ≡ storedValues registers ⌝ }
+fn store_values(registers: Registers, slice: [u16; 48]) -> Registers
+    ensures { λ r. ⌜ r ≡ storedValues (withSlice registers slice) ⌝ }
 {
     let outputs = parts::outputs_of(registers.part);
-    let slice = registers.slice;
     let waiting0 = registers.waiting0;
     let waiting1 = registers.waiting1;
     let mut next = registers;
+    next.slice = slice;
     if next.configuration % 2 == 0 {
         let values = every(slice, 0, 1, outputs, waiting0);
         next.waiting0 = values;
@@ -91,56 +92,56 @@ fn store_values(registers: Registers) -> Registers
 }
 
 // The bytes become the calibration of the banks.
-fn store_calibration(registers: Registers) -> Registers
-    ensures { λ r. ⌜ r ≡ storedCalibration registers ⌝ }
+fn store_calibration(registers: Registers, slice: [u16; 48]) -> Registers
+    ensures { λ r. ⌜ r ≡ storedCalibration (withSlice registers slice) ⌝ }
 {
     let banks = parts::constants_of(registers.part).banks as usize;
-    let slice = registers.slice;
     let held = registers.calibration;
     let bytes = bytes_over(slice, banks, held);
     let mut next = registers;
+    next.slice = slice;
     next.calibration = bytes;
     next
 }
 
 // The byte becomes the waiting global byte, where its copies are the same.
-fn store_global(registers: Registers) -> Registers
-    ensures { λ r. ⌜ r ≡ storedGlobal registers ⌝ }
+fn store_global(registers: Registers, slice: [u16; 48]) -> Registers
+    ensures { λ r. ⌜ r ≡ storedGlobal (withSlice registers slice) ⌝ }
 {
-    let slice = registers.slice;
     let byte = if same_copies(slice, registers.part) {
         (slice[0] % 256) as u8
     } else {
         registers.waiting
     };
     let mut next = registers;
+    next.slice = slice;
     next.waiting = byte;
     next
 }
 
 // The byte becomes the configuration, where its copies are the same.
-fn store_configuration(registers: Registers) -> Registers
-    ensures { λ r. ⌜ r ≡ storedConfiguration registers ⌝ }
+fn store_configuration(registers: Registers, slice: [u16; 48]) -> Registers
+    ensures { λ r. ⌜ r ≡ storedConfiguration (withSlice registers slice) ⌝ }
 {
-    let slice = registers.slice;
     let byte = if same_copies(slice, registers.part) {
         (slice[0] % 256) as u8
     } else {
         registers.configuration
     };
     let mut next = registers;
+    next.slice = slice;
     next.configuration = byte;
     next
 }
 
-// The last bit of a slice stores it.
-pub fn store(registers: Registers, command: Command) -> Registers
-    ensures { λ r. ⌜ r ≡ stored registers command ⌝ }
+// The last bit of a slice stores it. The slice is given beside the registers, whose own is the one before, so that a record is moved once.
+pub fn store(registers: Registers, slice: [u16; 48], command: Command) -> Registers
+    ensures { λ r. ⌜ r ≡ stored (withSlice registers slice) command ⌝ }
 {
     match command {
-        Command::Individual => store_values(registers),
-        Command::Calibration => store_calibration(registers),
-        Command::Global => store_global(registers),
-        Command::Configuration => store_configuration(registers),
+        Command::Individual => store_values(registers, slice),
+        Command::Calibration => store_calibration(registers, slice),
+        Command::Global => store_global(registers, slice),
+        Command::Configuration => store_configuration(registers, slice),
     }
 }

@@ -15,8 +15,8 @@ add-if1 c = search needs
 cast-if1 : tie.Need-cast-if1
 cast-if1 c = search needs
 
-add-t15 : tie.Need-add-t15
-add-t15 c = search needs
+add-t16 : tie.Need-add-t16
+add-t16 c = search needs
 
 sending-requires : tie.Need-sending-requires
 sending-requires c κs = search needs
@@ -40,13 +40,13 @@ sending-requires-2 c κs = search needs
 
 returns-2 : tie.Need-returns-2
 returns-2 c =
-    let test = c .before .before .before .before in
+    let test = c .before .before .before .before .before in
     let t = test .before in
     rw (
       c .sending2 .ensures,
       c .before .store .ensures,
-      c .before .before .raise .ensures,
-      c .before .before .before .fault-of .ensures,
+      c .before .before .before .raise .ensures,
+      c .before .before .before .before .fault-of .ensures,
       t .take-bit .ensures,
       le-ltb _ _ (rw (t .before .slice-bits .ensures) at (test .if1 .left)),
     )
@@ -59,7 +59,7 @@ collect-spec =
     take-bit-requires
     add-if1
     cast-if1
-    add-t15
+    add-t16
     sending-requires
     returns
     fault-of-requires

@@ -1,13 +1,14 @@
 -- The states of a header come first; what is left is by the phase that they left.
 use mathlib.Core.Path.{_≡_, sym, ap, _∙_}
 use lib.ListN.{drop}
+use native.Mathlib.Omega.{arith}
 use Prim.Native.Nat.{ℕ}
 use Rattle.phases.specs.Phases.{phaseOf}
 use Rattle.device.specs.Step.{at}
 use Rattle.phases.specs.declared.phase.Phase.{Phase}
 use Rattle.phases.specs.declared.phase.Sent.the-variants.{Nothing}
 use Rattle.intake.specs.Intake.{highTaken, headedAll, stopped}
-use Rattle.intake.proofs.Phases.{onward, high-by, inHeader-tag, onward-header, onward-passing, onward-lost}
+use Rattle.intake.proofs.Phases.{onward, high-by, high-over, inHeader-tag, onward-header, onward-passing, onward-lost}
 use borrow.Author.Needs.{needs}
 use Rattle.intake.proofs.highs.high.Statement.{statement}
 use Rattle.intake.proofs.highs.high.Tie as tie
@@ -21,14 +22,20 @@ head-all-requires c κs = search needs
 enum-known-phase : tie.Need-enum-known-phase
 enum-known-phase c = search needs
 
-collect-requires : tie.Need-collect-requires
-collect-requires c κs = search needs
+slice-bits-requires : tie.Need-slice-bits-requires
+slice-bits-requires c κs = search needs
+
+gather-requires : tie.Need-gather-requires
+gather-requires c κs = search needs
+
+one-requires : tie.Need-one-requires
+one-requires c κs = search needs
 
 enum-told : tie.Need-enum-told
 enum-told c = search needs
 
-one-requires : tie.Need-one-requires
-one-requires c κs = search needs
+one-requires-2 : tie.Need-one-requires-2
+one-requires-2 c κs = search needs
 
 enum-told-2 : tie.Need-enum-told-2
 enum-told-2 c = search needs
@@ -44,47 +51,59 @@ quiet-requires-2 c κs = search needs
 
 -- what the states of a header left
 headed : (c : tie.After-head-all)
-    → let a = c .before .before .before .before .before .args in
+    → let a = c .before .before .before .before .args in
     c .head-all .result ≡ headedAll (phaseOf (a .device .place)) (drop (a .from) (a .states .now)) (a .from)
 headed c =
-    let a = c .before .before .before .before .before .args in
+    let a = c .before .before .before .before .args in
     c .head-all .ensures ∙ ap (λ (p : Phase). headedAll p (drop (a .from) (a .states .now)) (a .from)) (c .before .phase-of .ensures)
 
 -- and what is left to do
 after-header : (c : tie.After-head-all)
-    → let a = c .before .before .before .before .before .args in
+    → let a = c .before .before .before .before .args in
     highTaken (a .device) (drop (a .from) (a .states .now)) (a .from) ≡ onward (a .device .registers) (a .states .now) (c .head-all .result)
 after-header c =
-    let s = c .before .before .before .before .before in
+    let s = c .before .before .before .before in
     high-by (s .args .device) (s .args .states .now) (s .args .from) (c .head-all .result) (s .pre .0) (s .pre .1) (headed c)
 
 returns : tie.Need-returns
 returns c =
-    let h = c .before .before .before .before in
-    let a = h .before .before .before .before .before .args in
+    let h = c .before .before .before .before .before .before in
+    let a = h .before .before .before .before .args in
     let q = h .head-all .result in
-    c .collect .ensures
-    ∙ sym (after-header h ∙ ap (λ (p : Phase). highTaken (at (a .device .registers) p) (drop (q .at) (a .states .now)) (q .at)) (c .before .before .phase .given .1))
+    c .gather .ensures
+    ∙ sym (after-header h ∙ ap (λ (p : Phase). highTaken (at (a .device .registers) p) (drop (q .at) (a .states .now)) (q .at)) (c .before .before .before .before .phase .given .1))
 
+-- a slice that has all its bits takes one more
 returns-2 : tie.Need-returns-2
 returns-2 c =
-    let h = c .before .before .before in
-    let a = h .before .before .before .before .before .args in
-    c .one .ensures ∙ sym (after-header h ∙ onward-passing (a .device .registers) (a .states .now) (h .head-all .result) (c .before .enum-told .given .1))
+    let h = c .before .before .before .before .before .before in
+    let a = h .before .before .before .before .args in
+    let q = h .head-all .result in
+    let f = c .before .before .before .before .phase .given in
+    c .one .ensures
+    ∙ sym (after-header h ∙ ap (λ (p : Phase). highTaken (at (a .device .registers) p) (drop (q .at) (a .states .now)) (q .at)) (f .1)
+    ∙ high-over (a .device .registers) (f .0 .0) (f .0 .1 .0) (f .0 .1 .1 .0) (drop (q .at) (a .states .now)) (q .at)
+    (omega (arith, c .before .if1 .left, c .before .before .slice-bits .ensures)))
 
 returns-3 : tie.Need-returns-3
 returns-3 c =
+    let h = c .before .before .before in
+    let a = h .before .before .before .before .args in
+    c .one2 .ensures ∙ sym (after-header h ∙ onward-passing (a .device .registers) (a .states .now) (h .head-all .result) (c .before .enum-told .given .1))
+
+returns-4 : tie.Need-returns-4
+returns-4 c =
     let h = c .before .before .before .before in
-    let a = h .before .before .before .before .before .args in
+    let a = h .before .before .before .before .args in
     let q = h .head-all .result in
     c .quiet .ensures
     ∙ ap (λ (j : ℕ). stopped (at (a .device .registers) (q .phase)) j Nothing) (c .before .highs-end .ensures)
     ∙ sym (after-header h ∙ onward-lost (a .device .registers) (a .states .now) q (c .before .before .enum-told2 .given .1))
 
-returns-4 : tie.Need-returns-4
-returns-4 c =
+returns-5 : tie.Need-returns-5
+returns-5 c =
     let h = c .before .before in
-    let a = h .before .before .before .before .before .args in
+    let a = h .before .before .before .before .args in
     let q = h .head-all .result in
     c .quiet2 .ensures
     ∙ sym (after-header h ∙ onward-header (a .device .registers) (a .states .now) (phaseOf (a .device .place)) (a .from) q (headed h) (inHeader-tag (q .phase) (c .before .match .keys4)))
@@ -96,9 +115,11 @@ high-spec =
     phase-of-requires
     head-all-requires
     enum-known-phase
-    collect-requires
-    enum-told
+    slice-bits-requires
+    gather-requires
     one-requires
+    enum-told
+    one-requires-2
     enum-told-2
     highs-end-requires
     quiet-requires
@@ -106,4 +127,5 @@ high-spec =
     returns
     returns-2
     returns-3
-    returns-4)
+    returns-4
+    returns-5)

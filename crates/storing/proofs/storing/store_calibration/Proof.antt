@@ -14,11 +14,11 @@ cast-banks c = search needs
 
 bytes-over-requires : tie.Need-bytes-over-requires
 bytes-over-requires c κs =
-    let s = c .before .before .before in
+    let s = c .before .before in
     omega (arith, ap (λ (k : Constants). k .banks) (s .constants-of .ensures), usable (s .before .args .registers .part) .fewBanks)
 
 returns : tie.Need-returns
-returns c = rw (c .bytes-over .ensures, c .before .before .before .before .constants-of .ensures)
+returns c = rw (c .bytes-over .ensures, c .before .before .before .constants-of .ensures)
 
 pub store-calibration-spec : {M : Type 1} → statement M
 store-calibration-spec =

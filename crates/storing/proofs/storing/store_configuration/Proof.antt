@@ -1,3 +1,4 @@
+use Rattle.tables.proofs.Tests.{by-way}
 use mathlib.Core.Path.{sym, _∙_}
 use borrow.Author.Needs.{needs}
 use Rattle.storing.proofs.storing.store_configuration.Statement.{statement}
@@ -13,11 +14,11 @@ cast-byte : tie.Need-cast-byte
 cast-byte c = search needs
 
 returns : tie.Need-returns
-returns c = rw (sym (c .before .same-copies .ensures) ∙ c .if1 .taken)
-
-returns-2 : tie.Need-returns-2
-returns-2 c = rw (sym (c .before .same-copies .ensures) ∙ c .if1 .left)
+returns c =
+    by-way (c .if1 .came)
+    (λ w. rw (w .1, sym (c .before .same-copies .ensures) ∙ w .0 .taken))
+    (λ w. rw (w .1, sym (c .before .same-copies .ensures) ∙ w .0 .left))
 
 pub store-configuration-spec : {M : Type 1} → statement M
 store-configuration-spec =
-    tie.close (tie.spec same-copies-requires array-read-byte cast-byte returns returns-2)
+    tie.close (tie.spec same-copies-requires array-read-byte cast-byte returns)

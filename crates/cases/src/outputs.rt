@@ -1,22 +1,19 @@
 // The values of a device's outputs in both phases: lists of 24 places, of which a part uses one for each of its outputs.
-ghost use Prim.Native.Nat.{_<_};
 use crate::lists::least;
 use crate::lists::same_values;
 use crate::print::text;
 use crate::print::values;
 use crate::print::verdict;
 
-// So many values from `first` on, each `step` more than the last. The places behind them hold 0.
-pub fn spaced(first: u16, step: u16, outputs: usize) -> [u16; 24]
-    requires { ⌜ (first < 1024) × (step < 8) ⌝ }
-{
+// So many values from `first` on, each `step` more than the last, modulo 65,536. The places behind them hold 0.
+pub fn spaced(first: u16, step: u16, outputs: usize) -> [u16; 24] {
     let mut list = [0u16; 24];
     let end = least(outputs, 24);
     let mut value = first;
     let mut i: usize = 0;
     while i < end {
         list[i] = value;
-        value += step;
+        value = (((value as u32) + (step as u32)) % 65536) as u16;
         i += 1;
     }
     list

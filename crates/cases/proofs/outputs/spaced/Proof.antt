@@ -1,5 +1,5 @@
--- The array keeps its length, and the value stays small. The measure is what is left of the places in use.
-use Prim.Native.Nat.{_+_, _*_, _≤_, _-_}
+-- The array keeps its length, and the value is one of 16 bits. The measure is what is left of the places in use.
+use Prim.Native.Nat.{_≤_, _<_, _-_}
 use mathlib.Core.Path.{_≡_, refl}
 use lib.ListN.{length, length-set}
 use borrow.Author.Needs.{needs}
@@ -7,7 +7,7 @@ use Rattle.cases.proofs.outputs.spaced.Statement.{statement}
 use Rattle.cases.proofs.outputs.spaced.Tie as tie
 
 abbrev Inv-loop : tie.InvT-loop
-Inv-loop first step outputs list₀ end value₀ i₀ list value i = (i ≤ end) × (end ≤ 24) × (value ≤ first + 8 * i) × (length list ≡ 24)
+Inv-loop first step outputs list₀ end value₀ i₀ list value i = (i ≤ end) × (end ≤ 24) × (value < 65536) × (length list ≡ 24)
 
 abbrev μ-loop : tie.MeasureT-loop
 μ-loop first step outputs list₀ end value₀ i₀ list value i = end - i
@@ -24,8 +24,14 @@ mul-list c = search needs
 array-write-list : tie.Need-array-write-list Inv-loop μ-loop
 array-write-list c = search needs
 
+cast-value : tie.Need-cast-value Inv-loop μ-loop
+cast-value c = search needs
+
 add-value : tie.Need-add-value Inv-loop μ-loop
 add-value c = search needs
+
+cast-value-2 : tie.Need-cast-value-2 Inv-loop μ-loop
+cast-value-2 c = search needs
 
 add-i : tie.Need-add-i Inv-loop μ-loop
 add-i c = search needs
@@ -49,7 +55,9 @@ spaced-spec =
     loop-holds
     mul-list
     array-write-list
+    cast-value
     add-value
+    cast-value-2
     add-i
     loop-less
     loop-again

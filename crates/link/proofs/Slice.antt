@@ -24,6 +24,7 @@ use Rattle.phases.specs.declared.phase.Phase.the-variants.{Slice, Passing}
 use Rattle.phases.specs.declared.phase.Sent.the-variants.{Nothing, One, Header}
 use Rattle.registers.specs.declared.registers.Registers.{Registers}
 use Rattle.parts.proofs.Rows.{field-width-pos, fields-le, fields-used, field-of}
+use Rattle.registers.proofs.Flags.{fault-slice}
 use Rattle.storing.proofs.Lists.{strided-take, length-strided, length-bytes, getD-bytes}
 use Rattle.widths.proofs.Below.{Below, below-head, took-below}
 use Rattle.model.specs.Device.{slice, stepDevice, agreed, load, counted, evens, odds, headerStates}
@@ -157,12 +158,6 @@ raised-same : (n f : ℕ) → counted n (isOne f) ≡ raised n f
 raised-same n zero = omega arith
 raised-same n (suc f) = rw (ne-eqb (suc f) 0 (λ z. omega (arith, z)))
 
-fault-took : (r : Registers) (k b m : ℕ) (c : Command) → fault (took r k b m) c ≡ fault r c
-fault-took r k b m Individual = refl
-fault-took r k b m Calibration = refl
-fault-took r k b m Global = refl
-fault-took r k b m Configuration = refl
-
 header-same : (c : Command) (n : ℕ) → map stateAt (sentStates (Header c n)) ≡ headerStates c n
 unfolding headerStates
 header-same c n = map-stateAt-stateCode (clocked (header c n))
@@ -210,5 +205,5 @@ module _ (r : Registers) (c : Command) (n t bit : ℕ) (x : Coming r c t bit) wh
           lt-of-lt-of-le (field-of (partOf (r .part)) c m2 t (field-width-pos (partOf (r .part)) (usable (r .part)) c) (x .room)) (fields-used (partOf (r .part)) c m2 (mod-lt (r .configuration) (lit< tt))) in
           let y = load-same next-r (simp length-set (x .slots)) (took-below r c (t / w) bit used (x .below)) c in
           seen-sending (stored next-r c) Passing (Header c (raised n (fault next-r c))) (lit< tt)
-          ∙ rw (header-same c (raised n (fault next-r c)), fault-took r (t / w) bit (fieldLimit (partOf (r .part)) c) c, y, m, ← raised-same n (fault r c), ← fault-same r c)
+          ∙ rw (header-same c (raised n (fault next-r c)), fault-slice r (next-r .slice) c, y, m, ← raised-same n (fault r c), ← fault-same r c)
           (sym (take-last (registersOf r) (slice c n) (all - suc t) (gotten w (r .slice) t) (eqb bit 1) (omega arith)))

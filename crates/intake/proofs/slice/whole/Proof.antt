@@ -1,10 +1,4 @@
-use mathlib.Core.Path.{_≡_, refl}
-use mathlib.Core.List.{List}
-use Prim.Native.Nat.{ℕ}
-use Rattle.parts.specs.declared.command.Command.{Command}
-use Rattle.parts.specs.declared.command.Command.the-variants.{Individual, Calibration, Global, Configuration}
-use Rattle.registers.specs.Held.{withSlice, fault}
-use Rattle.registers.specs.declared.registers.Registers.{Registers}
+use Rattle.registers.proofs.Flags.{fault-slice}
 use borrow.Author.Needs.{needs}
 use Rattle.intake.proofs.slice.whole.Statement.{statement}
 use Rattle.intake.proofs.slice.whole.Tie as tie
@@ -21,13 +15,6 @@ store-requires c κs = search needs
 place-of-requires : tie.Need-place-of-requires
 place-of-requires c κs = search needs
 
--- a slice changes no fault flag
-fault-same : (r : Registers) (sl : List ℕ) (k : Command) → fault (withSlice r sl) k ≡ fault r k
-fault-same r sl Individual = refl
-fault-same r sl Calibration = refl
-fault-same r sl Global = refl
-fault-same r sl Configuration = refl
-
 returns : tie.Need-returns
 returns c =
     let a = c .before .before .before .before .args in
@@ -36,7 +23,7 @@ returns c =
       c .before .store .ensures,
       c .before .before .raise .ensures,
       c .before .before .before .fault-of .ensures,
-      fault-same (a .registers) (a .slice) (a .command),
+      fault-slice (a .registers) (a .slice) (a .command),
     )
 
 pub whole-spec : {M : Type 1} → statement M

@@ -1,0 +1,2 @@
+-- Laws of what a device holds.
+pub mod Flags

@@ -3,10 +3,11 @@
 use mathlib.Core.Path.{_≡_, refl, ap, sym, _∙_}
 use mathlib.Core.List.{List, _++_}
 use Prim.Native.Nat.{ℕ, zero, suc, _+_, _-_, _*_, _<_, _≤_}
-use native.Mathlib.Nat.{mul-suc, mul-zero, add-zero, le-of-suc-le-suc, not-suc-le-zero}
+use native.Mathlib.Nat.{mul-suc, mul-zero, add-zero, le-of-suc-le-suc, ne-of-lt, not-suc-le-zero}
 use native.Mathlib.Omega.{arith}
-use lib.ListN.{length, getD, take, drop, length-drop, length-map, List·getD-map, List·getD-append}
-use lib.Seq.{ext-getD, getD-take, getD-drop, getD-append-add, length-take-le}
+use lib.ListN.{length, getD, set, take, drop, length-drop, length-map, List·getD-map, List·getD-append}
+use lib.Seq.{ext-getD, getD-take, getD-drop, getD-append-add, getD-set-same, getD-set-other, length-take-le}
+use borrow.Author.Count.{below-more}
 use Rattle.bits.specs.Bits.{over}
 use Rattle.storing.specs.Stored.{strided, byteOf, bytesOf}
 
@@ -44,6 +45,13 @@ getD-behind ys l i h =
     let e : length ys + n ≡ i = omega arith in
     ap (λ (k : ℕ). getD (ys ++ drop (length ys) l) k 0) (sym e) ∙ getD-append-add ys (drop (length ys) l) n 0
     ∙ getD-drop (length ys) l n 0 ∙ ap (λ (k : ℕ). getD l k 0) e
+
+-- a loop that writes a list from the front has one value more of it
+pub agrees-next : (xs ys : List ℕ) (i v : ℕ) → i < length xs → ((j : ℕ) → j < i → getD xs j 0 ≡ getD ys j 0) → v ≡ getD ys i 0
+    → (j : ℕ) → j < i + 1 → getD (set xs i v) j 0 ≡ getD ys j 0
+agrees-next xs ys i v short before same =
+    below-more (λ (j : ℕ). getD (set xs i v) j 0 ≡ getD ys j 0) i (λ j h. getD-set-other xs i j v 0 (λ e. ne-of-lt h e) ∙ before j h)
+    (getD-set-same xs i v 0 short ∙ same)
 
 -- ---- the low bytes of the first fields
 

@@ -1,8 +1,7 @@
-use native.Mathlib.Nat.{ne-of-lt, not-suc-le-zero}
+use native.Mathlib.Nat.{not-suc-le-zero}
 use mathlib.Core.Path.{refl, sym, _∙_, _≡_}
-use lib.ListN.{length, getD, set, length-set}
-use lib.Seq.{ext-getD, getD-set-same, getD-set-other}
-use borrow.Author.Count.{below-more}
+use lib.ListN.{length, getD, length-set}
+use lib.Seq.{ext-getD}
 use borrow.Author.Needs.{needs}
 use native.Mathlib.Omega.{arith}
 use Prim.Native.Nat.{ℕ, _≤_, _<_, _-_}
@@ -10,7 +9,7 @@ use Rattle.tables.proofs.Tests.{by-way}
 use Rattle.bits.specs.Bits.{over}
 use Rattle.bits.proofs.Laws.{length-over}
 use Rattle.storing.specs.Stored.{bytesOf}
-use Rattle.storing.proofs.Lists.{length-bytes, getD-bytes, getD-front, getD-behind}
+use Rattle.storing.proofs.Lists.{length-bytes, getD-bytes, getD-front, getD-behind, agrees-next}
 use Rattle.storing.proofs.storing.bytes_over.Statement.{statement}
 use Rattle.storing.proofs.storing.bytes_over.Tie as tie
 
@@ -68,9 +67,7 @@ loop-again c =
     let short : l .i < length (l .bytes) = omega (arith, at-most (c .before), l .inv .1) in (
       omega (arith, at-most (c .before)),
       simp length-set (l .inv .1),
-      below-more (λ (j : ℕ). getD (set (l .bytes) (l .i) (c .if1 .byte)) j 0 ≡ getD target j 0) (l .i)
-          (λ j h. getD-set-other (l .bytes) (l .i) j _ 0 (λ e. ne-of-lt h e) ∙ l .inv .2 j h)
-          (getD-set-same (l .bytes) (l .i) _ 0 short ∙ chosen c),
+      agrees-next (l .bytes) target (l .i) _ short (l .inv .2) (chosen c),
     )
 
 returns : tie.Need-returns Inv-loop μ-loop

@@ -1,8 +1,7 @@
-use native.Mathlib.Nat.{mul-le-mul-left, ne-of-lt, not-suc-le-zero}
+use native.Mathlib.Nat.{mul-le-mul-left, not-suc-le-zero}
 use mathlib.Core.Path.{refl, sym, _∙_, _≡_}
-use lib.ListN.{length, getD, set, length-set}
-use lib.Seq.{ext-getD, getD-set-same, getD-set-other}
-use borrow.Author.Count.{below-more}
+use lib.ListN.{length, getD, length-set}
+use lib.Seq.{ext-getD}
 use Rattle.tables.proofs.Tests.{by-way}
 use borrow.Author.Needs.{needs}
 use native.Mathlib.Omega.{arith}
@@ -10,7 +9,7 @@ use Prim.Native.Nat.{ℕ, _≤_, _<_, _-_}
 use Rattle.bits.specs.Bits.{over}
 use Rattle.bits.proofs.Laws.{length-over}
 use Rattle.storing.specs.Stored.{strided}
-use Rattle.storing.proofs.Lists.{length-strided, getD-strided, getD-front, getD-behind}
+use Rattle.storing.proofs.Lists.{length-strided, getD-strided, getD-front, getD-behind, agrees-next}
 use Rattle.storing.proofs.storing.every.Statement.{statement}
 use Rattle.storing.proofs.storing.every.Tie as tie
 
@@ -78,9 +77,7 @@ loop-again c =
     let short : l .i < length (l .values) = omega (arith, at-most (c .before), l .inv .1) in (
       omega (arith, at-most (c .before)),
       simp length-set (l .inv .1),
-      below-more (λ (j : ℕ). getD (set (l .values) (l .i) (c .if1 .value)) j 0 ≡ getD target j 0) (l .i)
-          (λ j h. getD-set-other (l .values) (l .i) j _ 0 (λ e. ne-of-lt h e) ∙ l .inv .2 j h)
-          (getD-set-same (l .values) (l .i) _ 0 short ∙ chosen c),
+      agrees-next (l .values) target (l .i) _ short (l .inv .2) (chosen c),
     )
 
 returns : tie.Need-returns Inv-loop μ-loop

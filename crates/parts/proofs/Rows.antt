@@ -81,12 +81,9 @@ module _ (p : Part) (u : Usable p) where
   pub slice-bits-pos : (c : Command) (m : ℕ) → 0 < sliceBits p c m
   slice-bits-pos c m = le-trans (lit≤ tt) (slice-bits-some c m)
 
-  -- a value has 256 to 16384 values
-  pub limit-wide : 256 ≤ limit p
+  -- a value has 256 values at least
+  limit-wide : 256 ≤ limit p
   limit-wide = pow-mono (u .wide)
-
-  pub limit-narrow : limit p ≤ 16384
-  limit-narrow = pow-mono (u .narrow)
 
   -- a field is no wider than a value
   pub field-limit-le : (c : Command) → fieldLimit p c ≤ limit p

@@ -9,7 +9,7 @@ use native.Mathlib.Nat.{zero-add, add-zero, mul-mod-left, suc-add, add-comm, add
 use native.Mathlib.Numerals.{one-add, add-one}
 use native.Mathlib.Omega.{arith}
 use lib.ListN.{length, getD, set, take, drop, replicate, length-append, length-replicate, length-take, length-drop, take-append-drop}
-use lib.Seq.{take-at, drop-at, take-add, take-append-add, drop-append-add, length-take-le, take-length, take-append-seam, drop-append-seam, drop-drop, paste, paste-suc}
+use lib.Seq.{take-at, drop-at, take-add, take-append-add, drop-append-add, length-take-le, take-length, take-append-seam, drop-append-seam, drop-drop, set-split, paste, paste-suc}
 use lib.Arith.{digits-lt}
 use lib.Bits.{bitOr, or-shifted}
 use lib.Pow.{pow-add, pow-pos, pow-mono, shr-shr, shl-shr, high, low, field, mod-mod-pow, mod-pow-add}
@@ -306,6 +306,24 @@ pub over-append : (ys zs l : List ℕ) → overAt (length ys) zs (over ys l) ≡
 over-append ys zs l =
     let n : 0 + length ys ≡ length ys = zero-add (length ys) in
     sym (ap₂ (λ (k : ℕ) (z : List ℕ). overAt k zs z) n (overAt-zero ys l)) ∙ overAt-append 0 ys zs l (omega arith) ∙ overAt-zero (ys ++ zs) l
+
+pub length-overAt : (at : ℕ) (ys l : List ℕ) → at + length ys ≤ length l → length (overAt at ys l) ≡ length l
+unfolding overAt
+length-overAt at ys l h =
+    length-append (take at l) (over ys (drop at l))
+    ∙ ap₂ (λ (m n : ℕ). m + n) (length-take-le at l (omega arith)) (length-over ys (drop at l) (omega (arith, length-drop at l)) ∙ length-drop at l)
+    ∙ omega arith
+
+-- one element is a part of one
+pub set-overAt : (at : ℕ) (l : List ℕ) (v : ℕ) → at < length l → set l at v ≡ overAt at (v ∷ []) l
+unfolding overAt over
+set-overAt at l v h =
+    set-split l at v h ∙ ap (λ (z : List ℕ). take at l ++ v ∷ z) (ap (λ (k : ℕ). drop k l) (sym (add-one at)) ∙ sym (drop-drop 1 at l))
+
+-- a part replaced, and then the element right behind it
+pub overAt-next : (at : ℕ) (ys l : List ℕ) (v : ℕ) → at + length ys < length l → set (overAt at ys l) (at + length ys) v ≡ overAt at (ys ++ v ∷ []) l
+overAt-next at ys l v h =
+    set-overAt (at + length ys) (overAt at ys l) v (omega (arith, length-overAt at ys l (omega arith))) ∙ overAt-append at ys (v ∷ []) l (omega arith)
 
 -- ---- loops that write from the front
 

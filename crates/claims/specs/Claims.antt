@@ -387,10 +387,10 @@ pub record RowRestores (p : Part) (os : List Own) (ds : List model.Device) (gap 
 
 -- a made-up row of four banks with values of 8 bits, and one of one bank with values of 10 bits
 abbrev pub fourBanks : Part
-fourBanks = record { name = 1; banks = 4; width = 8; edge = 4; clocks = 256; subframesBy = 16 ∷ 8 ∷ 4 ∷ 2 ∷ [] }
+fourBanks = record { name = 1; banks = 4; width = 8; edge = 4; clocks = 256; subframesBy = 16 ∷ 8 ∷ 4 ∷ 2 ∷ []; least = 1; step = 1 }
 
 abbrev pub oneBank : Part
-oneBank = record { name = 2; banks = 1; width = 10; edge = 8; clocks = 1024; subframesBy = 100 ∷ 50 ∷ 100 ∷ 50 ∷ [] }
+oneBank = record { name = 2; banks = 1; width = 10; edge = 8; clocks = 1024; subframesBy = 100 ∷ 50 ∷ 100 ∷ 50 ∷ []; least = 1; step = 1 }
 
 -- a device's own of a row, all its bytes and values 1 but the configuration
 abbrev pub ones : Part → Own

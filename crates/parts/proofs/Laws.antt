@@ -1,21 +1,21 @@
 -- Laws of the parts, the commands and their slices: every row is usable, and what is said of slices is said of any row that is. A command is
 -- one of four. The table of slice lengths is tested whole, once, and `slice-table` turns the test into the rule. Assumes nothing.
-use mathlib.Core.Path.{_≡_, refl, sym, ap, ap₂, _∙_}
+use mathlib.Core.Path.{_≡_, refl, sym, ap, ap₂, _∙_, subst}
 use mathlib.Core.Bool.{Bool, true, false, cond, _&&_, _||_}
 use mathlib.Core.List.{List, [], _∷_}
-use Prim.Native.Nat.{ℕ, suc, _+_, _*_, _/_, _%_, _<_, _≤_}
+use Prim.Native.Nat.{ℕ, suc, _+_, _*_, _/_, _%_, _^_, _<_, _≤_}
 use native.Mathlib.Omega.{arith}
 use lib.Dec.{T, eqb, ltb, leb, eqb→eq, ltb→lt, leb→le}
-use borrow.Author.Tests.{leb-true}
+use borrow.Author.Tests.{leb-true, ltb-true}
 use lib.ListN.{length, getD}
-use Rattle.parts.specs.Parts.{Part, max6972, max6973, max6974, max6975, rows, noPart, knownIn, known, rowFrom, partOf, rowIndex, multiplex, glb4, subframes, limit, isCount, code, commandAt, sliceBits, Usable}
+use Rattle.parts.specs.Parts.{Part, max6972, max6973, max6974, max6975, rows, noPart, knownIn, known, rowFrom, partOf, rowIndex, multiplex, glb4, subframes, limit, isCount, code, commandAt, sliceBits, period, sinkCurrent, Usable, WholeFrames}
 use Rattle.parts.specs.declared.command.Command.{Command}
 use Rattle.parts.specs.declared.command.Command.the-variants.{Individual, Calibration, Global, Configuration}
 use Rattle.tables.proofs.Booleans.{and-both, or-false, cond-both}
 use Rattle.tables.proofs.Table.{everyPlace, everyPlace-at}
 
 -- what holds of each row holds of the row of any number
-each-row : (P : Part → Type 0) → P max6972 → P max6973 → P max6974 → P max6975 → (n : ℕ) → P (partOf n)
+pub each-row : (P : Part → Type 0) → P max6972 → P max6973 → P max6974 → P max6975 → (n : ℕ) → P (partOf n)
 each-row P a b c d n =
     cond-both P (eqb n (max6972 .name)) _ _ (λ _. a)
     (λ _. cond-both P (eqb n (max6973 .name)) _ _ (λ _. b) (λ _. cond-both P (eqb n (max6974 .name)) _ _ (λ _. c) (λ _. d)))
@@ -47,7 +47,9 @@ subframes-by p e t u configuration =
 
 -- a row by the tests of its numbers
 abbrev within : Part → Bool
-within p = leb 1 (p .banks) && (leb (p .banks) 3 && (leb 8 (p .width) && (leb (p .width) 14 && leb (p .edge) (p .clocks))))
+within p =
+    leb 1 (p .banks)
+    && (leb (p .banks) 3 && (leb 8 (p .width) && (leb (p .width) 14 && (leb (p .edge) (p .clocks) && ltb (sinkCurrent p 255) (2 ^ 20)))))
 
 pub usable-row :
     (p : Part)
@@ -61,15 +63,17 @@ usable-row p w c e t u =
     let a = and-both (leb 1 (p .banks)) _ w in
     let b = and-both (leb (p .banks) 3) _ (a .1) in
     let d = and-both (leb 8 (p .width)) _ (b .1) in
-    let f = and-both (leb (p .width) 14) (leb (p .edge) (p .clocks)) (d .1) in
+    let f = and-both (leb (p .width) 14) _ (d .1) in
+    let g = and-both (leb (p .edge) (p .clocks)) (ltb (sinkCurrent p 255) (2 ^ 20)) (f .1) in
     record {
       someBank = leb-true 1 (p .banks) (a .0);
       fewBanks = leb-true (p .banks) 3 (b .0);
       wide = leb-true 8 (p .width) (d .0);
       narrow = leb-true (p .width) 14 (f .0);
       clocks = c;
-      edge = leb-true (p .edge) (p .clocks) (f .1);
+      edge = leb-true (p .edge) (p .clocks) (g .0);
       subframes = subframes-by p e t u;
+      current = ltb-true (sinkCurrent p 255) (2 ^ 20) (g .1);
     }
 
 -- every row can be used
@@ -77,6 +81,23 @@ pub usable : (n : ℕ) → Usable (partOf n)
 usable n =
     each-row Usable (usable-row max6972 refl refl refl tt tt) (usable-row max6973 refl refl refl tt tt) (usable-row max6974 refl refl refl tt tt)
     (usable-row max6975 refl refl refl tt tt) n
+
+-- a number of subframes, by its place, makes frames of which the period has a whole number
+abbrev whole : Part → ℕ → ℕ → Bool
+whole p k n = eqb (period / (n * ((1 + k % 2) * p .clocks)) * (n * ((1 + k % 2) * p .clocks))) period
+
+whole-row : (p : Part) → length (p .subframesBy) ≡ 4 → T (everyPlace (whole p) 0 (p .subframesBy)) → WholeFrames p
+whole-row p e t configuration =
+    let m : ℕ = multiplex configuration in
+    let k : ℕ = m + 2 * glb4 configuration in
+    let l : k < length (p .subframesBy) = omega (arith, e) in
+    let n : ℕ = subframes p configuration in
+    let same : k % 2 ≡ m = omega arith in
+    subst (λ (j : ℕ). period / (n * ((1 + j) * p .clocks)) * (n * ((1 + j) * p .clocks)) ≡ period) same (eqb→eq _ _ (everyPlace-at (whole p) (p .subframesBy) t k l))
+
+-- every row's are
+pub whole-frames : (n : ℕ) → WholeFrames (partOf n)
+whole-frames n = each-row WholeFrames (whole-row max6972 refl tt) (whole-row max6973 refl tt) (whole-row max6974 refl tt) (whole-row max6975 refl tt) n
 
 pub row-index-lt : (n : ℕ) → rowIndex n < 4
 row-index-lt n =

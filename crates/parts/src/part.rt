@@ -21,6 +21,12 @@ impl Max6972 {
 
     // Subframes per frame: plain, multiplexed, with GLB4, both.
     pub const SUBFRAMES: [u16; 4] = Max6974::SUBFRAMES;
+
+    // Current of a lit sink at calibration byte 0, in eighths of a microamp.
+    pub const LEAST_CURRENT: u32 = 88000;
+
+    // What each 1 of the calibration byte adds to it.
+    pub const CURRENT_STEP: u32 = 1375;
 }
 
 pub struct Max6973;
@@ -37,6 +43,10 @@ impl Max6973 {
     pub const CLOCKS: u16 = 16384;
 
     pub const SUBFRAMES: [u16; 4] = Max6975::SUBFRAMES;
+
+    pub const LEAST_CURRENT: u32 = Max6972::LEAST_CURRENT;
+
+    pub const CURRENT_STEP: u32 = Max6972::CURRENT_STEP;
 }
 
 pub struct Max6974;
@@ -53,6 +63,10 @@ impl Max6974 {
     pub const CLOCKS: u16 = 4096;
 
     pub const SUBFRAMES: [u16; 4] = [128, 64, 128, 64];
+
+    pub const LEAST_CURRENT: u32 = 48000;
+
+    pub const CURRENT_STEP: u32 = 750;
 }
 
 pub struct Max6975;
@@ -69,6 +83,10 @@ impl Max6975 {
     pub const CLOCKS: u16 = 16384;
 
     pub const SUBFRAMES: [u16; 4] = [32, 16, 8, 4];
+
+    pub const LEAST_CURRENT: u32 = Max6974::LEAST_CURRENT;
+
+    pub const CURRENT_STEP: u32 = Max6974::CURRENT_STEP;
 }
 
 // A part's constants, as numbers.
@@ -78,6 +96,8 @@ pub struct Constants {
     pub width: u32,
     pub edge: u16,
     pub clocks: u16,
+    pub least: u32,
+    pub step: u32,
 }
 
 // What a part's type says, by its number.
@@ -91,6 +111,8 @@ pub fn constants_of(part: u16) -> Constants
             width: Max6972::WIDTH,
             edge: Max6972::EDGE,
             clocks: Max6972::CLOCKS,
+            least: Max6972::LEAST_CURRENT,
+            step: Max6972::CURRENT_STEP,
         }
     } else if part == Max6973::NUMBER {
         Constants {
@@ -99,6 +121,8 @@ pub fn constants_of(part: u16) -> Constants
             width: Max6973::WIDTH,
             edge: Max6973::EDGE,
             clocks: Max6973::CLOCKS,
+            least: Max6973::LEAST_CURRENT,
+            step: Max6973::CURRENT_STEP,
         }
     } else if part == Max6974::NUMBER {
         Constants {
@@ -107,6 +131,8 @@ pub fn constants_of(part: u16) -> Constants
             width: Max6974::WIDTH,
             edge: Max6974::EDGE,
             clocks: Max6974::CLOCKS,
+            least: Max6974::LEAST_CURRENT,
+            step: Max6974::CURRENT_STEP,
         }
     } else {
         Constants {
@@ -115,6 +141,8 @@ pub fn constants_of(part: u16) -> Constants
             width: Max6975::WIDTH,
             edge: Max6975::EDGE,
             clocks: Max6975::CLOCKS,
+            least: Max6975::LEAST_CURRENT,
+            step: Max6975::CURRENT_STEP,
         }
     }
 }

@@ -2,7 +2,7 @@
 -- the frame, the fields of the frame are those of the slices. So a restore and its parts are the model's; and a set whose frames the writer
 -- accepts is proper. Assumes nothing.
 use mathlib.Core.Path.{_≡_, refl, sym, ap, ap₂, _∙_}
-use mathlib.Core.Bool.{Bool, true, false}
+use mathlib.Core.Bool.{Bool, false}
 use mathlib.Core.List.{List, [], _∷_, _++_, map, flatten, map-append}
 use Prim.Native.Nat.{ℕ, _-_, _%_, _<_}
 use native.Mathlib.Omega.{arith}
@@ -11,7 +11,6 @@ use lib.Seq.{take-at}
 use borrow.Author.Tests.{ltb-true, eqb-true, not-false}
 use Rattle.bits.specs.Bits.{fields, bytesOf, padded}
 use Rattle.bits.proofs.Laws.{bits-of-bytes}
-use Rattle.tables.specs.Lists.{allBelow}
 use Rattle.parts.specs.Parts.{partOf, limit, subframes, fieldWidth, restoreOrder}
 use Rattle.parts.specs.Wire.{stateCode, statesOf, lows, frame, clocked}
 use Rattle.parts.specs.declared.command.Command.{Command}
@@ -24,18 +23,12 @@ use Rattle.frames.proofs.Lengths.{subframes-small}
 use Rattle.frame_writer.proofs.Writable.{length-settingsOf}
 use Rattle.frame_writer.proofs.Writable as writer
 use Rattle.frames.proofs.Pieces.{length-frameBits}
-use Rattle.widths.proofs.Below.{below-head}
-use Rattle.model.specs.Lists.{All}
 use Rattle.model.specs.Device.{frameStates}
 use Rattle.model.specs.Set.{Set, Proper, owned, sliceOf, frameFields}
 use Rattle.model.specs.Restore.{Piece, pieceStates, pieceOf, piecesOf, piecesStates}
-use Rattle.model.proofs.Lists.{take-map}
+use Rattle.model.proofs.Lists.{take-map, all-below}
 use Rattle.model.proofs.Set.{fields-slices}
 use Rattle.link.specs.Restore.{tailsOf, told, setByte, writtenFrame, Writable, frameSize, framePart, restorePart, restoreStates}
-
-all-below : (m : ℕ) (xs : List ℕ) → allBelow xs m ≡ true → All (λ v. v < m) xs
-all-below m [] h = tt
-all-below m (x ∷ xs) h = let t = below-head x xs m h in (t .0, all-below m xs (t .1))
 
 -- the first bits of bytes are the bits that they were made of
 take-bytes : (bs : List Bool) (n : ℕ) → length bs ≡ n → take n (fields 8 (bytesOf bs)) ≡ bs

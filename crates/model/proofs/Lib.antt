@@ -3,6 +3,7 @@ pub mod Lists
 pub mod Wire
 pub mod Frame
 pub mod Set
+pub mod Devices
 pub mod Restore
 pub mod Cut
 pub mod CutSet

@@ -1,3 +1,4 @@
--- Laws of light: lit clocks, and the claims for each part.
+-- Laws of light: sums, lit clocks, and the claims for each part.
+pub mod Sums
 pub mod Lit
 pub mod Claims

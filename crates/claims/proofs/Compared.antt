@@ -18,7 +18,7 @@ use Rattle.link.specs.View.{Arrays, Holds}
 use Rattle.differences.specs.declared.compared.Compared.{Compared}
 use Rattle.differences.specs.Groups.{differsAt, Pair, groups, inGroups, compared, same}
 use Rattle.compare.specs.Compare.{difference, compareRefusal, comparison}
-use Rattle.compare.specs.Search.{setNumbers}
+use Rattle.sets.specs.Sets.{setNumbers}
 use Rattle.compare.specs.Differences.{ofSet, ofDevice, DiffersFirst, FirstDifference}
 use Rattle.claims.specs.Claims.{SameHolds, HoldsSame, Named}
 use Rattle.differences.proofs.Lists.{differs-first}

@@ -23,11 +23,13 @@ use Rattle.model.specs.Lists.{All}
 use Rattle.model.specs.Set.{Set, Own, ownFrom, owned}
 use Rattle.judgement.specs.Judging.{unjudged, judgedFrom}
 use Rattle.differences.specs.declared.compared.Compared.{Compared}
-use Rattle.compare.specs.declared.judging.SetNumbers.{SetNumbers}
+use Rattle.sets.specs.Sets.{setBy, lengthsFit}
+use Rattle.sets.proofs.Fits.{lengths-are}
+use Rattle.sets.specs.declared.numbers.SetNumbers.{SetNumbers}
 use Rattle.compare.specs.declared.search.Search.{Search}
 use Rattle.differences.specs.Groups.{differsAt, Pair, _against_, groups, inGroups, compared, same}
-use Rattle.compare.specs.Compare.{difference, lengthsFit, sameChain, compareTable, compareRefusal, comparison}
-use Rattle.compare.specs.Search.{setBy, OwnInLists, onward, ended, lookedAt, beginSearchUnder, beginSearch}
+use Rattle.compare.specs.Compare.{difference, sameChain, compareTable, compareRefusal, comparison}
+use Rattle.compare.specs.Search.{OwnInLists, onward, ended, lookedAt, beginSearchUnder, beginSearch}
 use Rattle.compare.proofs.Judged.{refusal-found}
 
 -- ---- where no group differs
@@ -215,15 +217,15 @@ module _ (g : SetNumbers) (bytes values : List ℕ) (ds : List Device) where
   begin-live e =
       let counts : (isCount (g .devices) && isCount (length ds)) ≡ true = not-false _ (clear (compareTable set ds) refl e .1 .0) in
       let lists = accepted-lists e in
-      let sizes = and-both (eqb (length bytes) allBytes) (eqb (length values) allValues) (lists .0) in (
+      let sizes = lengths-are (g .part) (g .devices) (g .configuration) (length bytes) (length values) (lists .0) in (
         leb-true 1 (g .devices) (and-left _ _ (and-left _ _ counts)),
         record {
           left = zero-add (g .devices);
           devices = sym (eqb-true (length ds) (g .devices) (and-left _ _ (lists .1)));
           banks = refl;
           fields = refl;
-          bytesIn = zero-add allBytes ∙ sym (eqb-true (length bytes) allBytes (sizes .0));
-          valuesIn = zero-add allValues ∙ sym (eqb-true (length values) allValues (sizes .1));
+          bytesIn = zero-add allBytes ∙ sym (sizes .0);
+          valuesIn = zero-add allValues ∙ sym (sizes .1);
         },
       )
 

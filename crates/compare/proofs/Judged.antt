@@ -17,9 +17,10 @@ use Rattle.tables.specs.Lists.{every}
 use Rattle.judgement.specs.declared.judging.Judged.{Judged}
 use Rattle.judgement.specs.Judging.{unjudged, judgedWith, judgedFrom}
 use Rattle.judgement.proofs.Judged.{known-found, fits-found, same-found}
-use Rattle.compare.specs.declared.judging.SetNumbers.{SetNumbers}
-use Rattle.compare.specs.Compare.{rowsOf, lengthsFit, settingsFit, sameChain, compareRefusal}
-use Rattle.compare.specs.Search.{setBy, chainFits, rowsBy}
+use Rattle.sets.specs.Sets.{setBy, lengthsFit, settingsFit}
+use Rattle.sets.specs.declared.numbers.SetNumbers.{SetNumbers}
+use Rattle.compare.specs.Compare.{rowsOf, sameChain, compareRefusal}
+use Rattle.compare.specs.Search.{chainFits, rowsBy}
 
 -- the first record's part stays
 part-after : (j : Judged) (ds : List Device) → j .some ≡ true → judgedFrom j ds .part ≡ j .part

@@ -9,22 +9,14 @@ use Rattle.parts.specs.Parts.{partOf, known, multiplex, sliceFields, isCount}
 use Rattle.tables.specs.Refusals.{Row, first}
 use Rattle.parts.specs.declared.command.Command.the-variants.{Individual, Calibration}
 use Rattle.device.specs.declared.device.Device.{Device}
-use Rattle.model.specs.Set.{Set, Own}
+use Rattle.model.specs.Set.{Own}
 use Rattle.judgement.specs.declared.judging.Judged.{Judged}
 use Rattle.differences.specs.declared.compared.Compared.{Compared}
-use Rattle.compare.specs.declared.judging.SetNumbers.{SetNumbers}
+use Rattle.sets.specs.Sets.{lengthsFit, settingsFit}
+use Rattle.sets.specs.declared.numbers.SetNumbers.{SetNumbers}
 use Rattle.compare.specs.declared.search.Search.{Search}
-use Rattle.compare.specs.Compare.{setOf, lengthsFit, settingsFit, rowsOf}
+use Rattle.compare.specs.Compare.{rowsOf}
 use Rattle.differences.specs.Groups.{compared, same, groups, inGroups, ownOf}
-
--- what is given of a set beside its lists, and with them
-abbrev pub setNumbers : ℕ → ℕ → ℕ → ℕ → SetNumbers
-setNumbers part devices configuration global =
-    record { part = part; devices = devices; configuration = configuration; global = global }
-
--- the set of a caller: numbers and two lists
-abbrev pub setBy : SetNumbers → List ℕ → List ℕ → Set
-setBy g calibration individual = setOf (g .part) (g .devices) (g .configuration) calibration (g .global) individual
 
 -- ---- the refusal
 

@@ -1,6 +1,7 @@
 // The comparison over a lent chain, for C and Rust. It walks the records; what it does with one of them is by value.
 ghost use mathlib.Core.Path.{_≡_};
-ghost use Rattle.compare.specs.Compare.{setOf, comparison};
+ghost use Rattle.sets.specs.Sets.{setOf};
+ghost use Rattle.compare.specs.Compare.{comparison};
 use crate::search::begin;
 use crate::search::look;
 use device::Device;

@@ -2,12 +2,13 @@
 ghost use mathlib.Core.Path.{_≡_};
 ghost use Prim.Native.Nat.{_+_, _<_};
 ghost use lib.ListN.{length};
-ghost use Rattle.compare.specs.Search.{setNumbers, OwnInLists, beginSearch, beginSearchUnder, lookedAt};
-use crate::judging::SetNumbers;
+ghost use Rattle.sets.specs.Sets.{setNumbers};
+ghost use Rattle.compare.specs.Search.{OwnInLists, beginSearch, beginSearchUnder, lookedAt};
 use device::Device;
 use differences::Compared;
 use judgement::Judged;
 use parts::Command;
+use sets::SetNumbers;
 
 // How far a search has come.
 pub struct Search {

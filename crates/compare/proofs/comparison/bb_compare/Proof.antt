@@ -22,10 +22,11 @@ use Rattle.judgement.proofs.judge.Symbol as judge-def
 use Rattle.judgement.proofs.judge.Symbol.{name as #judge}
 use Rattle.judgement.proofs.judge.Met as judge-thm
 use Rattle.differences.specs.declared.compared.Compared.{Compared}
-use Rattle.compare.specs.declared.judging.SetNumbers.{SetNumbers}
+use Rattle.sets.specs.Sets.{setOf, setNumbers}
+use Rattle.sets.specs.declared.numbers.SetNumbers.{SetNumbers}
 use Rattle.compare.specs.declared.search.Search.{Search}
-use Rattle.compare.specs.Compare.{setOf, comparison}
-use Rattle.compare.specs.Search.{setNumbers, OwnInLists, beginSearch, lookedAt}
+use Rattle.compare.specs.Compare.{comparison}
+use Rattle.compare.specs.Search.{OwnInLists, beginSearch, lookedAt}
 use Rattle.compare.proofs.Found.{Stands, stands-zero, stands-end, stands-index, stands-ready, stands-next, stands-start}
 use Rattle.differences.proofs.compared.Compared as R
 use Rattle.differences.proofs.compared.Compared.Laws as R′

@@ -4,10 +4,8 @@ use mathlib.Core.Bool.{Bool, true, _&&_}
 use lib.ListN.{length}
 use borrow.Author.Tests.{not-true, not-false}
 use Rattle.parts.specs.Parts.{known, isCount}
-use Rattle.parts.proofs.Laws.{count-bounds}
-use Rattle.tables.proofs.Booleans.{and-left}
 use Rattle.tables.proofs.Tests.{by-way}
-use Rattle.compare.specs.Compare.{lengthsFit}
+use Rattle.sets.specs.Sets.{lengthsFit}
 use Rattle.compare.specs.Search.{chainFits}
 use borrow.Author.Needs.{needs}
 use Rattle.compare.proofs.judging.refusal_of.Statement.{statement}
@@ -74,9 +72,7 @@ returns-2 : tie.Need-returns-2
 returns-2 c = rw (parts-pass (c .before .before .before), sym (counts-tested (c .before)) ∙ not-true _ (c .if4 .taken))
 
 lists-fit-requires : tie.Need-lists-fit-requires
-lists-fit-requires c κs =
-    let s = c .before .before .before .before .before .before .before in
-    count-bounds (s .args .given .devices) (and-left _ _ (counts-pass c)) .1
+lists-fit-requires c κs = search needs
 
 chain-fits-requires : tie.Need-chain-fits-requires
 chain-fits-requires c κs = search needs

@@ -1,7 +1,7 @@
 use borrow.Author.Tests.{lt-ltb, le-ltb}
 use borrow.Author.Needs.{needs}
-use Rattle.compare.proofs.judging.settings_fit.Statement.{statement}
-use Rattle.compare.proofs.judging.settings_fit.Tie as tie
+use Rattle.sets.proofs.judge.settings_fit.Statement.{statement}
+use Rattle.sets.proofs.judge.settings_fit.Tie as tie
 
 cast-if1 : tie.Need-cast-if1
 cast-if1 c = search needs

@@ -1,0 +1,2 @@
+-- What a set has whose lists fit.
+pub mod Fits

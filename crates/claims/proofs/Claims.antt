@@ -1,17 +1,19 @@
 -- Each claim of specs/Claims, under its name, from the theorem that proves it. Assumes nothing.
 use Rattle.parts.specs.Parts.{partOf}
-use Rattle.parts.proofs.Laws.{usable}
+use Rattle.parts.proofs.Laws.{usable, whole-frames}
 use Rattle.frame_laws.proofs.RoundTrip.{written-read, read-written}
 use Rattle.subframes.proofs.Claims as subframes
 use Rattle.schedule.proofs.Claims as light
 use Rattle.schedule.proofs.Lit.{lit-count}
 use Rattle.device_light.proofs.Claims as device-light
+use Rattle.current.proofs.Closed.{closed-form}
 use Rattle.claims.specs.Claims as claim
 use Rattle.claims.proofs.Tables.{accepted-exactly}
 use Rattle.claims.proofs.Chains as chains
 use Rattle.claims.proofs.Demand as demand
 use Rattle.claims.proofs.Compared as compared
 use Rattle.claims.proofs.RestoredSame.{restored-same}
+use Rattle.claims.proofs.Largest.{largest-totals}
 use Rattle.claims.proofs.AnyRow.{any-row}
 use Rattle.claims.proofs.Examples.{examples-hold}
 
@@ -76,6 +78,15 @@ litClocks = record {
 
 pub litCount : claim.LitCount
 litCount = lit-count
+
+pub closedForm : claim.ClosedForm
+closedForm = closed-form
+
+pub period : claim.Period
+period = whole-frames
+
+pub largest : claim.Largest
+largest = largest-totals
 
 pub anyRow : claim.AnyRow
 anyRow = any-row

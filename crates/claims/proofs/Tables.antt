@@ -46,6 +46,9 @@ use Rattle.answers.specs.Answers.{accepted, refused}
 use Rattle.answers.specs.declared.answer.Answer.{Answer as RowAnswer}
 use Rattle.capi_bits.specs.PartAnswers.{partRows}
 use Rattle.capi_frames.specs.FrameAnswers.{returnReadNumber}
+use Rattle.current.specs.Answers.{currentTable, currentRefusal, current, currentOut}
+use Rattle.current.specs.Answers as currents
+use Rattle.current.specs.declared.sign.Current.{Current}
 use Rattle.claims.specs.Tables.{Exactly, Answers, Leaves, convertedNumber, writtenNumber, readNumber, askedNumber, leadNumber, clocksNumber, argumentsNumber}
 use Rattle.claims.specs.Claims as claim
 
@@ -213,6 +216,13 @@ compares : (s : Set) (ds : List Device)
 unfolding comparison compareRefusal
 compares s ds = answers (compareTable s ds) refl refl (λ (r : Compared). r .refusal) (λ n. compared n 0 0 0) (difference 1 (owned s) ds) (difference-zero 1 (owned s) ds) itself
 
+gives-current : (s : Set) (out : List ℕ) → claim.GivesCurrent s out
+unfolding current currentOut currentRefusal
+gives-current s out =
+    let table = currentTable s (length out) in
+    let number : Current → ℕ = λ r. r .refusal in
+    (answers table refl refl number currents.refused _ refl itself, leaves table refl refl number currents.refused _ refl itself out _)
+
 -- ---- all
 
 pub accepted-exactly : claim.AcceptedExactly
@@ -228,6 +238,7 @@ accepted-exactly = record {
   calls = calls;
   runs = runs;
   compares = compares;
+  givesCurrent = gives-current;
   on = λ part configuration global s. answers (onRows part configuration s) refl refl askedNumber A.Refused _ refl itself;
   lead = λ part configuration global from w. answers (leadRows part configuration from w) refl refl leadNumber D.Refused _ refl itself;
   lit = λ part configuration global value output s clock phase. answers (litRows part configuration value output s clock phase) refl refl askedNumber A.Refused _ refl itself;

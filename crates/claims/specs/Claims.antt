@@ -2,7 +2,7 @@
 -- proofs are in proofs/, one for each, under the same name in small letters. What a claim says of an operation is said with the definitions
 -- that the operation's contract cites: of bytes written and read, of lent records and lent room. Numbers that stand for bytes are below 256,
 -- as their types say. docs/RULES.md fixes the terms.
-use Prim.Native.Nat.{ℕ, _+_, _-_, _<_, _≤_}
+use Prim.Native.Nat.{ℕ, _+_, _-_, _*_, _/_, _^_, _<_, _≤_}
 use mathlib.Core.Path.{_≡_}
 use mathlib.Core.Bool.{Bool, true, false}
 use mathlib.Core.List.{List, [], _∷_, _++_, map, flatten}
@@ -11,7 +11,7 @@ use lib.IntN.{pos, negℤ}
 use lib.ListN.{length, take, getD, replicate}
 use lib.Signed.{_<ℤ_}
 use Rattle.bits.specs.Bits.{digit, fields, bytesOf, bytesFor, over}
-use Rattle.parts.specs.Parts.{Part, partOf, outputs, subframes, restoreOrder, Usable}
+use Rattle.parts.specs.Parts.{Part, max6972, max6973, rows, known, partOf, outputs, subframes, phaseCount, frameClocks, period, periodFrames, sinkCurrent, restoreOrder, isCount, Usable}
 use Rattle.tables.specs.Refusals.{first}
 use Rattle.parts.specs.Wire.{State, stateAt, stateCode, lows, dataBit}
 use Rattle.parts.specs.declared.command.Command.{Command}
@@ -48,7 +48,7 @@ use Rattle.link.specs.Restore.{Writable, framePart, restorePart, restoreStates,
 use Rattle.cursor.specs.Answer.{ran, runAnswer}
 use Rattle.cursor.specs.declared.entry.Ran.{Ran}
 use Rattle.subframes.specs.Subframes.{level, isOn, leadOf, howManyFrom}
-use Rattle.schedule.specs.Light.{isLit, litAt, inRun, litCount}
+use Rattle.schedule.specs.Light.{total, isLit, litAt, inRun, litCount}
 use Rattle.subframes.specs.Answers.{onRows, leadRows, onAnswer, leadAnswer}
 use Rattle.schedule.specs.Answers.{litRows, litRun, litAnswer, litClocksAnswer}
 use Rattle.device_light.specs.OfDevice.{isShown, shownRun, deviceRows, deviceAnswer, deviceClocksAnswer}
@@ -59,6 +59,11 @@ use Rattle.differences.specs.Groups.{same, compared}
 use Rattle.compare.specs.Compare.{difference, compareTable, compareRefusal, comparison}
 use Rattle.compare.specs.Differences.{FirstDifference}
 use Rattle.differences.specs.declared.compared.Compared.{Compared}
+use Rattle.current.specs.Current.{valueIn, drawn, deviceFigures, signTotal}
+use Rattle.current.specs.Answers.{currentTable, currentRefusal, current, currentOut, drawing}
+use Rattle.current.specs.Answers as current
+use Rattle.current.specs.Most.{mostDrawn, brightest, brightestSet}
+use Rattle.current.specs.declared.sign.Current.{Current}
 use Rattle.arguments.specs.Arguments.{parsed, valueOf, askedRows, asked}
 use Rattle.arguments.specs.declared.judging.Asked.the-variants as B
 use Rattle.answers.specs.Answers.{accepted, refused}
@@ -116,6 +121,12 @@ RunAnswers ds ss out =
     Answers (λ (r : Ran). r .refusal) (runTable ds ss (length out)) (λ n. ran n 0) (ran 0 (length (returned ds ss))) (runAnswer ds ss (length out))
     × Leaves (runAnswer ds ss (length out) .refusal) out (over (returned ds ss) out) (runRoom ds ss out)
 
+-- the current of a set: the sign's figures, and those of each device in front of the lent list
+abbrev pub GivesCurrent : Set → List ℕ → Type 0
+GivesCurrent s out =
+    Answers (λ (r : Current). r .refusal) (currentTable s (length out)) current.refused (drawing (signTotal s)) (current s (length out))
+    × Leaves (current s (length out) .refusal) out (over (deviceFigures s) out) (currentOut s out)
+
 -- every public operation that can refuse, for any input
 pub record AcceptedExactly : Type 0 where
   pub writes : (t : Told) (tail : Tail) (byte : ℕ) (bytes values out : List ℕ) → Writes t tail byte bytes values out
@@ -129,6 +140,7 @@ pub record AcceptedExactly : Type 0 where
   pub runs : (ds : List Device) (ss out : List ℕ) → RunAnswers ds ss out
   pub compares : (s : Set) (ds : List Device)
       → Answers (λ (r : Compared). r .refusal) (compareTable s ds) (λ n. compared n 0 0 0) (difference 1 (owned s) ds) (comparison s ds)
+  pub givesCurrent : (s : Set) (out : List ℕ) → GivesCurrent s out
   pub on : (part configuration global s : ℕ)
       → Answers askedNumber (onRows part configuration s) A.Refused (A.Is (isOn (partOf part) configuration global s)) (onAnswer part configuration global s)
   pub lead : (part configuration global from w : ℕ)
@@ -372,6 +384,52 @@ pub record LitClocks : Type 0 where
 abbrev pub LitCount : Type 0
 LitCount = (p : Part) (value output : ℕ) → howManyFrom (litAt p value output) 0 (p .clocks) ≡ litCount p value
 
+-- ---- current
+
+-- what a device draws, added up clock by clock, is frames times g + 1 times, over banks, outputs and phases, an output's lit clocks of an ON
+-- subframe times the current of its bank; of any row, and any global byte
+abbrev pub ClosedForm : Type 0
+ClosedForm =
+    (p : Part) (o : Own)
+    → 1 ≤ subframes p (o .configuration)
+    → drawn p o
+    ≡ periodFrames p (o .configuration) * (level p (o .configuration) (o .global) + 1)
+    * total
+    (λ bank.
+    total (λ k. total (λ phase. litCount p (valueIn o (8 * bank + k) phase)) (phaseCount (o .configuration))) 8 * sinkCurrent p (getD (o .calibration) bank 0))
+    (p .banks)
+
+-- the clocks over which it is added up are 524,288, in whole frames, for every part and configuration
+abbrev pub Period : Type 0
+Period = (part configuration : ℕ) → periodFrames (partOf part) configuration * frameClocks (partOf part) configuration ≡ 524288
+
+-- the largest totals, and that they fit
+pub record Largest : Type 0 where
+  -- no device of a row draws more than the most, and one of each part draws it, at any configuration
+  pub device : (p : Part) (o : Own) → Usable p → OwnProper p o → drawn p o ≤ mostDrawn p
+  pub deviceReached : (part configuration : ℕ) → drawn (partOf part) (brightest (partOf part) configuration) ≡ mostDrawn (partOf part)
+  -- no accepted set of N devices draws more than N times that, and one of each N draws it
+  pub sign :
+      (s : Set) (room : ℕ)
+      → s .configuration < 256
+      → Bytes (s .calibration)
+      → currentRefusal s room ≡ 0
+      → signTotal s ≤ s .devices * mostDrawn (partOf (s .part))
+  pub signReached :
+      (part devices configuration room : ℕ)
+      → known part ≡ true
+      → isCount devices ≡ true
+      → 3 * devices ≤ room
+      → (currentRefusal (brightestSet part devices configuration) room ≡ 0)
+      × (signTotal (brightestSet part devices configuration) ≡ devices * mostDrawn (partOf part))
+  -- the most of each part, in the order of the rows; of 1023 devices of any part; and of 1820 of the 6972
+  pub parts : map mostDrawn rows ≡ 3650707456000 ∷ 3665080320000 ∷ 2986942464000 ∷ 2998702080000 ∷ []
+  pub most : (part devices : ℕ) → devices ≤ 1023 → devices * mostDrawn (partOf part) ≤ 3749377167360000
+  pub longer : 1820 * mostDrawn max6972 ≡ 6644287569920000
+  -- all of this is below 2 ^ 53, for any part and up to 2457 devices; the average of 1023 is not below 2 ^ 32
+  pub fits : (part devices : ℕ) → devices ≤ 2457 → devices * mostDrawn (partOf part) < 2 ^ 53
+  pub average : 2 ^ 32 ≤ 1023 * mostDrawn max6973 / period
+
 -- ---- any row: nothing above is said of a number of banks or a width
 
 -- what a restore does to devices of the model that have the row p, in any phases and with any registers, where os is each device's own
@@ -418,6 +476,6 @@ pub record AnyRow : Type 0 where
 
 -- ---- the lettered examples
 
--- a to s hold
+-- a to z hold
 abbrev pub ExamplesHold : Type 0
 ExamplesHold = Each examples

@@ -1,4 +1,4 @@
--- The lettered examples of docs/RULES.md, a to s, as one list in the order of their letters and with the numbers given there.
+-- The lettered examples of docs/RULES.md, a to z, as one list in the order of their letters and with the numbers given there.
 use Prim.Native.Nat.{ℕ, zero, suc, _-_}
 use mathlib.Core.Path.{_≡_}
 use mathlib.Core.Bool.{Bool, true, false, _&&_}
@@ -28,6 +28,8 @@ use Rattle.schedule.specs.Light.{isEven}
 use Rattle.schedule.specs.Answers.{litRows, litAnswer}
 use Rattle.subframes.specs.declared.answer.Asked.the-variants.{Is}
 use Rattle.subframes.specs.declared.answer.Lead.the-variants.{By}
+use Rattle.sets.specs.Sets.{setOf}
+use Rattle.current.specs.Answers.{current, currentOut}
 
 -- what a frame is told by, at configuration 0
 abbrev told : ℕ → ℕ → Command → Told
@@ -65,6 +67,8 @@ pub data Example : Type 0 where
   dark : ℕ → ℕ → Bool → Example
   -- whether an output of a part is lit is refused with a number, or answered where it is 0
   output : ℕ → ℕ → ℕ → Example
+  -- one device of a part, by its configuration, calibration bytes, global byte and values, and the sign that it is: total, average and remainder
+  draws : ℕ → ℕ → List ℕ → ℕ → List ℕ → ℕ → ℕ → ℕ → Example
 
 -- what is answered of every output of a parity with a value, at every clock of every ON subframe, in every phase that there is
 abbrev pub Lights : ℕ → ℕ → Bool → (ℕ → Bool) → Type 0
@@ -88,6 +92,9 @@ Says (lead part global from to z) = leadAnswer part 0 global from (suc to - from
 Says (lit part value even from to) = Lights part value even (λ clock. leb from clock && leb clock to)
 Says (dark part value even) = Lights part value even (λ clock. false)
 Says (output part number n) = first (litRows part 0 0 number 0 0 0) ≡ n
+Says (draws part configuration bytes global values total average remainder) =
+    (current (setOf part 1 configuration bytes global values) 3 ≡ record { total = total; average = average; remainder = remainder; refusal = 0 })
+    × (currentOut (setOf part 1 configuration bytes global values) (replicate 3 0) ≡ total ∷ average ∷ remainder ∷ [])
 
 -- all that stands under one letter
 abbrev pub All-say : List Example → Type 0
@@ -97,7 +104,7 @@ All-say (e ∷ es) = Says e × All-say es
 -- ---- the list
 
 pub data Letter : Type 0 where
-  a b c d e f g h i j k l m n o p q r s : Letter
+  a b c d e f g h i j k l m n o p q r s t u v w x y z : Letter
 
 infix 10 _says_
 pub data Lettered : Type 0 where
@@ -108,7 +115,7 @@ abbrev pub Each : List Lettered → Type 0
 Each [] = Unit {0}
 Each ((letter says es) ∷ rest) = All-say es × Each rest
 
--- a to s
+-- a to z
 abbrev pub examples : List Lettered
 examples =
     (a says sends (told 6974 1 Configuration) noTail 0x00 [] [] (0xE8 ∷ 0xFC ∷ 0x00 ∷ 0x00 ∷ 0x00 ∷ 0x00 ∷ []) ∷ [])
@@ -139,4 +146,12 @@ examples =
     ∷ lit 6973 33 true 32 32
     ∷ lit 6973 33 false 16351 16351 ∷ [])
     ∷ (s says output 6972 16 13 ∷ output 6974 16 0 ∷ [])
+    ∷ (t says draws 6974 0x00 (0xA9 ∷ 0x10 ∷ 0x01 ∷ []) 96 (replicate 24 2560) 559669824000 1067485 248320 ∷ [])
+    ∷ (u says draws 6974 0x00 (replicate 3 0) 0 (replicate 23 0 ++ 17 ∷ []) 48000 0 48000 ∷ [])
+    ∷ (v says draws 6974 0x00 (replicate 3 0xFF) 127 (replicate 24 16) 0 0 0 ∷ [])
+    ∷ (w says draws 6974 0x01 (replicate 3 0xA9) 63 (times 24 (2560 ∷ 16 ∷ [])) 682850304000 1302433 311296 ∷ [])
+    ∷ (x says draws 6975 0x00 (0xA9 ∷ 0 ∷ 0 ∷ []) 31 (33 ∷ replicate 23 0) 5592000 10 349120
+    ∷ draws 6975 0x11 (replicate 3 0) 3 (0 ∷ 16383 ∷ replicate 46 0) 12533760000 23906 131072 ∷ [])
+    ∷ (y says draws 6972 0x00 (0xA9 ∷ 0 ∷ []) 96 (replicate 16 2560) 806191056000 1537687 214144 ∷ [])
+    ∷ (z says draws 6974 0x08 (1 ∷ 2 ∷ 3 ∷ []) 5 (replicate 24 1000) 7013952000 13378 27136 ∷ [])
     ∷ []

@@ -1,5 +1,5 @@
 /*
- * Bractbeacon: frames, chains and light of MAX6972, MAX6973, MAX6974 and MAX6975 LED drivers.
+ * Bractbeacon: frames, chains, light and current of MAX6972, MAX6973, MAX6974 and MAX6975 LED drivers.
  *
  * The functions are those of the static library target/staticlib/libbractbeacon.a (`tools/library`, x86-64 Linux).
  * Each has one result and one content of every lent list, for any numbers; the library's contracts say which.
@@ -14,6 +14,8 @@
  *   value width, bits            12          14          12             14
  *   edge zone, clocks            16          32          16             32
  *   clocks per subframe          4096        16,384      4096           16,384
+ *   least current, 1/8 uA        88,000      88,000      48,000         48,000
+ *   current step, 1/8 uA         1375        1375        750            750
  *
  *   Outputs are in wire order, from 0: Z7 to Z0, Y7 to Y0; or B7 to B0, G7 to G0, R7 to R0. A device's share of a list
  *   of settings is one byte for each bank, or one value for each output, and multiplexed (the configuration's D0 is 1)
@@ -189,6 +191,14 @@ struct bb_compared {
     uint16_t place;  /* in that device's slice, from 0; 0 for a repeated byte */
     uint8_t group;   /* BB_SAME, BB_IN_CONFIGURATION, ... */
     uint8_t refusal;
+};
+
+/* What a sign draws over 524,288 clocks, in eighths of a microamp, or a refusal. */
+struct bb_sign_current {
+    uint64_t total;     /* the currents of all lit sinks at each clock, added up; 0 where refused */
+    uint64_t average;   /* total / 524288, rounded down; 0 where refused */
+    uint64_t remainder; /* what the average leaves, below 524288; 0 where refused */
+    uint8_t refusal;    /* 0 where accepted */
 };
 
 /* ---- Bits: these two are not of the table above, and their answers hold no number of it ---- */
@@ -383,6 +393,26 @@ struct bb_clocks bb_device_lit_clocks(struct bb_device device, uint32_t output, 
 struct bb_compared bb_compare(uint16_t part, size_t devices, uint8_t configuration, const uint8_t *calibration,
                               size_t calibration_length, uint8_t global, const uint16_t *individual,
                               size_t individual_length, const struct bb_device *chain, size_t chain_length);
+
+/* ---- Current ---- */
+
+/*
+ * What a set draws. An output that is lit sinks the least current of its part and, for each 1 of its bank's calibration
+ * byte, the current step more. This is added up over all outputs and 524,288 clocks, which are one frame, or four where
+ * GLB4 shortens it. Answers total, average and remainder of the sign, and writes the same three of each device, device
+ * 1 first, to the front of `figures`. The sign's average is its total divided, and may be over the devices' averages
+ * added up. All are in eighths of a microamp, which is 1/8000 mA: average / 8000 is the current in milliamps. At
+ * calibration byte 255 a lit output sinks 239,250 / 8000 = 29.90625 mA on a part of 24 outputs and 438,625 / 8000 =
+ * 54.828125 mA on one of 16, which the data sheet rounds to 30 and 55.
+ * Refusals:
+ *   1, 2  part, devices
+ *   4     `calibration` or `individual` is not as long as the shares of so many devices
+ *   5     `figures_length` is below 3 * devices
+ *   6     the global byte is not below S, or an individual value is not below 2^width
+ */
+struct bb_sign_current bb_current(uint16_t part, size_t devices, uint8_t configuration, const uint8_t *calibration,
+                                  size_t calibration_length, uint8_t global, const uint16_t *individual,
+                                  size_t individual_length, uint64_t *figures, size_t figures_length);
 
 #ifdef __cplusplus
 }

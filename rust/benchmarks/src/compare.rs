@@ -3,8 +3,8 @@
 use crate::frames::page;
 use crate::race::{best, print};
 use baseline::compare::{compare, compare_quickly};
-use model::set;
-use record::{Device, Set};
+use model::set::Set;
+use record::Device;
 use std::hint::black_box;
 
 const DEVICES: usize = 512;
@@ -17,7 +17,7 @@ pub fn races() {
 }
 
 /// A device that runs the set as the one with this number.
-fn running(set: &set::Set, number: usize) -> Device {
+fn running(set: &Set, number: usize) -> Device {
     let mut device = Device::fresh(set.part);
     let r = &mut device.registers;
     r.configuration = set.configuration;
@@ -30,16 +30,9 @@ fn running(set: &set::Set, number: usize) -> Device {
     device
 }
 
-fn race(set: &set::Set) {
+fn race(set: &Set) {
     let chain: Vec<Device> = (1..=DEVICES).map(|number| running(set, number)).collect();
-    let lent = Set {
-        part: set.part,
-        devices: DEVICES,
-        configuration: set.configuration,
-        calibration: &set.calibration,
-        global: set.global,
-        individual: &set.individual,
-    };
+    let lent = set.lent();
     let found = ffi::compare(&lent, &chain);
     assert_eq!((found.group, found.refusal), (0, 0), "compared alike");
     assert_eq!(compare(&lent, &chain), Ok(None), "compared alike");

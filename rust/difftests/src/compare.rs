@@ -1,6 +1,5 @@
 //! A set against a chain that runs it, with differences and damage.
 
-use crate::history::lent;
 use crate::tally::{Case, Tally};
 use cases::{records, sets, Random};
 use ffi::Compared;
@@ -30,7 +29,7 @@ fn compare_case(case: &mut Case, random: &mut Random, part: u16) {
         damage(random, &mut set, &mut chain);
     }
     let before = chain.clone();
-    let found = ffi::compare(&lent(&set), &chain);
+    let found = ffi::compare(&set.lent(), &chain);
     case.same("answer", found, expected(compare(&set, &chain)));
     case.same("records", &chain, &before);
     case.reach(found.refusal);

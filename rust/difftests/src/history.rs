@@ -199,7 +199,7 @@ impl Restore<'_> {
         }
         chain.boundary(case);
         self.is_restored(case, &chain.library);
-        let compared = ffi::compare(&lent(self.set), &chain.library);
+        let compared = ffi::compare(&self.set.lent(), &chain.library);
         case.same("compare", (compared.group, compared.refusal), (0, 0));
     }
 
@@ -336,18 +336,6 @@ fn told(set: &Set, command: Command, tail: Tail) -> ffi::Told {
         configuration: set.configuration,
         tail: tail.number,
         tail_length: tail.length,
-    }
-}
-
-/// A set as the library is lent it.
-pub fn lent(set: &Set) -> record::Set<'_> {
-    record::Set {
-        part: set.part,
-        devices: set.devices,
-        configuration: set.configuration,
-        calibration: &set.calibration,
-        global: set.global,
-        individual: &set.individual,
     }
 }
 

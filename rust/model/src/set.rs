@@ -46,6 +46,18 @@ impl Set {
             || self.individual.iter().any(|&value| !part.holds(value))
     }
 
+    /// The set as it is lent to the library and to the baseline.
+    pub fn lent(&self) -> record::Set<'_> {
+        record::Set {
+            part: self.part,
+            devices: self.devices,
+            configuration: self.configuration,
+            calibration: &self.calibration,
+            global: self.global,
+            individual: &self.individual,
+        }
+    }
+
     /// What the writer is told for one of the set's frames.
     pub fn told(&self, command: Command, tail: Tail) -> Told {
         Told {

@@ -1,17 +1,22 @@
 //! Light: ON subframes, leads, lit outputs.
 
 use crate::device::Device;
-use crate::part::{multiplexed, Part};
+use crate::part::{phases, Part};
 use crate::{refuse, Refusal};
 use std::ops::Range;
 
 /// Whether a subframe is ON.
 pub fn is_on(part: u16, configuration: u8, global: u8, subframe: u32) -> Result<bool, Refusal> {
     let part = Part::of(part)?;
+    refuse(13, subframe >= part.subframes(configuration))?;
+    Ok(on(part, configuration, global, subframe))
+}
+
+/// The same of a subframe that the part has.
+fn on(part: Part, configuration: u8, global: u8, subframe: u32) -> bool {
     let subframes = part.subframes(configuration);
-    refuse(13, subframe >= subframes)?;
     let on = u32::from(global) % subframes + 1;
-    Ok((subframe + 1) * on / subframes > subframe * on / subframes)
+    (subframe + 1) * on / subframes > subframe * on / subframes
 }
 
 /// The lead of a window: S times its ON subframes less what g + 1 in S would be.
@@ -56,7 +61,12 @@ pub fn is_lit(
     let known = Part::of(part)?;
     refuse(6, !known.holds(value))?;
     judge_position(known, configuration, at)?;
-    let (clocks, edge, value) = (known.clocks(), known.edge_zone(), u32::from(value));
+    Ok(lit(known, configuration, global, value, at))
+}
+
+/// The same of a position and a value that the part has.
+pub fn lit(part: Part, configuration: u8, global: u8, value: u16, at: Position) -> bool {
+    let (clocks, edge, value) = (part.clocks(), part.edge_zone(), u32::from(value));
     let named = named(at.output);
     let phased = if named.is_multiple_of(2) {
         at.clock < value
@@ -64,7 +74,7 @@ pub fn is_lit(
         at.clock >= clocks - value
     };
     let inside = edge <= at.clock && at.clock < clocks - edge;
-    Ok(is_on(part, configuration, global, at.subframe)? && phased && inside)
+    on(part, configuration, global, at.subframe) && phased && inside
 }
 
 /// Whether an output of a device is lit, by its active values.
@@ -112,12 +122,11 @@ fn named(output: u32) -> u32 {
 }
 
 fn judge_position(part: Part, configuration: u8, at: Position) -> Result<(), Refusal> {
-    let phases = if multiplexed(configuration) { 2 } else { 1 };
     refuse(
         13,
         at.output as usize >= part.outputs()
             || at.subframe >= part.subframes(configuration)
             || at.clock >= part.clocks()
-            || at.phase >= phases,
+            || at.phase >= phases(configuration),
     )
 }

@@ -24,6 +24,10 @@ struct Row {
     clocks: u32,
     /// Plain, multiplexed, with GLB4, with both.
     subframes: [u32; 4],
+    /// Of a lit output at calibration byte 0, in eighths of a microamp.
+    least_current: u64,
+    /// What each 1 of the calibration byte adds.
+    current_step: u64,
 }
 
 /// Outputs of a bank.
@@ -39,6 +43,15 @@ pub fn glb4(configuration: u8) -> bool {
     configuration >> 4 & 1 == 1
 }
 
+/// MUX0 alone or, multiplexed, MUX0 and MUX1: how often a subframe runs, and values of an output.
+pub fn phases(configuration: u8) -> u32 {
+    if multiplexed(configuration) {
+        2
+    } else {
+        1
+    }
+}
+
 impl Part {
     /// The four parts.
     pub const ALL: [Part; 4] = [Part::Max6972, Part::Max6973, Part::Max6974, Part::Max6975];
@@ -49,11 +62,15 @@ impl Part {
             Part::Max6972 => Row {
                 number: 6972,
                 banks: 2,
+                least_current: 88_000,
+                current_step: 1375,
                 ..Part::Max6974.row()
             },
             Part::Max6973 => Row {
                 number: 6973,
                 banks: 2,
+                least_current: 88_000,
+                current_step: 1375,
                 ..Part::Max6975.row()
             },
             Part::Max6974 => Row {
@@ -63,6 +80,8 @@ impl Part {
                 edge_zone: 16,
                 clocks: 4096,
                 subframes: [128, 64, 128, 64],
+                least_current: 48_000,
+                current_step: 750,
             },
             Part::Max6975 => Row {
                 number: 6975,
@@ -71,6 +90,8 @@ impl Part {
                 edge_zone: 32,
                 clocks: 16_384,
                 subframes: [32, 16, 8, 4],
+                least_current: 48_000,
+                current_step: 750,
             },
         }
     }
@@ -129,11 +150,18 @@ impl Part {
 
     /// Individual values of one device.
     pub fn values(self, configuration: u8) -> usize {
-        if multiplexed(configuration) {
-            2 * self.outputs()
-        } else {
-            self.outputs()
-        }
+        self.outputs() * phases(configuration) as usize
+    }
+
+    /// What an output of a bank with this calibration byte sinks while it is lit, in eighths of a microamp.
+    pub fn sink_current(self, calibration: u8) -> u64 {
+        let row = self.row();
+        row.least_current + row.current_step * u64::from(calibration)
+    }
+
+    /// The bank of an output, both in wire order.
+    pub fn bank_of(output: u32) -> usize {
+        output as usize / BANK
     }
 }
 

@@ -2,7 +2,8 @@
 
 use crate::chain::judge_parts;
 use crate::device::all_fit;
-use crate::part::{banks, is_known, subframes, values, width};
+use crate::part::{banks, is_known, values};
+use crate::sets::{lists_fit, settings_fit};
 use crate::Refusal;
 use record::{Device, Registers, Set};
 
@@ -66,18 +67,14 @@ fn judge(set: &Set, chain: &[Device]) -> Result<(), Refusal> {
     if set.devices == 0 || set.devices > 1023 || of_chain == 2 {
         return Err(2);
     }
-    let values = values(set.part, set.configuration) * set.devices;
-    if set.calibration.len() != banks(set.part) * set.devices
-        || set.individual.len() != values
+    if !lists_fit(set)
         || chain.len() != set.devices
         || of_chain == 4
         || chain[0].registers.part != set.part
     {
         return Err(4);
     }
-    let all = set.individual.iter().fold(0, |all, &value| all | value);
-    let limit = subframes(set.part, set.configuration);
-    if u16::from(set.global) >= limit || all >> width(set.part) != 0 {
+    if !settings_fit(set) {
         return Err(6);
     }
     if all_fit(chain) {

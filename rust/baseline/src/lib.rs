@@ -4,11 +4,13 @@
 
 pub mod chain;
 pub mod compare;
+pub mod current;
 pub mod device;
 pub mod grouped;
 pub mod packing;
 pub mod part;
 pub mod reader;
+pub mod sets;
 pub mod writer;
 
 /// A number of the table in docs/RULES.md, "Refusal numbers".

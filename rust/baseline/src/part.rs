@@ -36,6 +36,32 @@ pub fn width(part: u16) -> u32 {
     }
 }
 
+/// Clocks at either end of a subframe in which nothing is lit.
+#[inline]
+pub fn edge_zone(part: u16) -> u16 {
+    if part & 1 == 0 {
+        16
+    } else {
+        32
+    }
+}
+
+/// Clocks per subframe.
+#[inline]
+pub fn clocks(part: u16) -> u16 {
+    1 << width(part)
+}
+
+/// What a lit output sinks at calibration byte 0, and what each 1 of the byte adds, in eighths of a microamp.
+#[inline]
+pub fn currents(part: u16) -> (u32, u32) {
+    if banks(part) == 2 {
+        (88_000, 1375)
+    } else {
+        (48_000, 750)
+    }
+}
+
 /// Subframes per frame.
 #[inline]
 pub fn subframes(part: u16, configuration: u8) -> u16 {

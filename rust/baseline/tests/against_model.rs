@@ -1,9 +1,10 @@
 //! Every baseline against the model, on random cases. The four parts take turns.
 
 use baseline::writer::Told;
-use baseline::{chain, compare, device, grouped, packing, reader, writer};
+use baseline::{chain, compare, current, device, grouped, packing, reader, writer};
 use cases::{records, sets, states, Random};
 use model::bits;
+use model::current::Figure;
 use model::frame::Tail;
 use model::part::{Command, Part};
 use model::reader::Contents;
@@ -219,15 +220,57 @@ fn comparisons() {
         }
         let expected = model::compare::compare(&set, &records)
             .map(|found| found.map(|d| (d.device, d.group as u8 + 1, d.place)));
-        let of_set = record::Set {
-            part: set.part,
-            devices: set.devices,
-            configuration: set.configuration,
-            calibration: &set.calibration,
-            global: set.global,
-            individual: &set.individual,
-        };
-        assert_eq!(compare::compare(&of_set, &records), expected);
-        assert_eq!(compare::compare_quickly(&of_set, &records), expected);
+        assert_eq!(compare::compare(&set.lent(), &records), expected);
+        assert_eq!(compare::compare_quickly(&set.lent(), &records), expected);
+    }
+}
+
+/// The sign's figures and the lent list, which is as long as the random `before`.
+fn draws_alike(set: &Set, before: &[u64]) {
+    let mut figures = before.to_vec();
+    let drawn = current::current(&set.lent(), &mut figures);
+    let expected = model::current::current(set, before.len());
+    let listed = |f: &Figure| [f.total, f.average, f.remainder];
+    assert_eq!(
+        drawn,
+        expected.as_ref().map(|c| listed(&c.sign)).map_err(|&n| n)
+    );
+    let front: Vec<u64> = expected
+        .iter()
+        .flat_map(|c| c.devices.iter().flat_map(listed))
+        .collect();
+    assert_eq!(figures, [&front, &before[front.len()..]].concat());
+}
+
+/// Each part with each of the configurations that matter.
+#[test]
+fn currents() {
+    for case in 0..16 {
+        let random = &mut Random::of_case(SEED, case);
+        let mode = sets::MODES[case as usize / 4];
+        let set = sets::drawing(random, sets::part(case), 2, mode);
+        draws_alike(&set, &random.longs(7));
+    }
+}
+
+/// A global byte of 255 is always refused; lower numbers may apply as well.
+#[test]
+fn refused_currents() {
+    for case in 0..4000 {
+        let random = &mut Random::of_case(SEED, case);
+        let mut set = any_set(random, case);
+        set.global = 255;
+        for _ in 0..random.below(3) {
+            match random.below(6) {
+                0 => set.part = sets::unknown_part(random),
+                1 => set.devices = random.pick(&[0, 1024, usize::MAX]),
+                2 => set.calibration.push(0),
+                3 => drop(set.individual.pop()),
+                4 => set.configuration ^= 1,
+                _ => set.part = sets::other_part(random, set.part),
+            }
+        }
+        let room = random.below(20);
+        draws_alike(&set, &random.longs(room));
     }
 }

@@ -56,4 +56,9 @@ impl Random {
     pub fn words(&mut self, count: usize) -> Vec<u16> {
         (0..count).map(|_| self.next() as u16).collect()
     }
+
+    /// Any numbers of 64 bits.
+    pub fn longs(&mut self, count: usize) -> Vec<u64> {
+        (0..count).map(|_| self.next()).collect()
+    }
 }

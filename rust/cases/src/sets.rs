@@ -47,6 +47,44 @@ pub fn value(random: &mut Random, part: Part) -> u16 {
     }
 }
 
+/// What of the configuration means something: D0 and D4.
+pub const MODES: [u8; 4] = [0x00, 0x01, 0x10, 0x11];
+
+/// A set that no number refuses, of a mode. What it draws is often at an edge: least and most calibration and global
+/// bytes, and values about the edge zones.
+pub fn drawing(random: &mut Random, part: u16, devices: usize, mode: u8) -> Set {
+    let known = Part::of(part).expect("a part's number");
+    let configuration = random.byte() & !0x11 | mode;
+    let subframes = known.subframes(configuration) as usize;
+    let any = random.below(subframes);
+    let count = devices * known.values(configuration);
+    Set {
+        part,
+        devices,
+        configuration,
+        calibration: (0..devices * known.banks())
+            .map(|_| calibration_at_edges(random))
+            .collect(),
+        global: random.pick(&[0, subframes - 1, any, any]) as u8,
+        individual: (0..count).map(|_| value_at_edges(random, known)).collect(),
+    }
+}
+
+fn calibration_at_edges(random: &mut Random) -> u8 {
+    let any = random.byte();
+    random.pick(&[0, 255, any, any])
+}
+
+/// A value in range, often about one of the edge zones.
+fn value_at_edges(random: &mut Random, part: Part) -> u16 {
+    let (edge, clocks) = (part.edge_zone() as u16, part.clocks() as u16);
+    let end = clocks - edge;
+    match random.below(2) {
+        0 => random.pick(&[edge - 1, edge, edge + 1, end - 1, end, end + 1, clocks - 1]),
+        _ => value(random, part),
+    }
+}
+
 /// A tail that no number refuses.
 pub fn tail(random: &mut Random) -> Tail {
     let length = match random.below(4) {

@@ -1,4 +1,5 @@
-//! The proved library against the independent model, on random cases from fixed seeds.
+//! The proved library against the independent model, on random cases from fixed seeds; currents also against the
+//! baseline, which takes large signs.
 //!
 //! Every kind of test prints its cases, its seed and how often each answer was given. A kind is one test: it fails if a
 //! case differs or if an answer that it must reach was never given. The last line is `N passed, M failed` and counts
@@ -8,6 +9,7 @@
 mod bits;
 mod chain;
 mod compare;
+mod current;
 mod device;
 mod frames;
 mod history;
@@ -19,7 +21,7 @@ use tally::{commas, Tally};
 
 fn main() {
     let wanted: Vec<String> = std::env::args().skip(1).collect();
-    let kinds: [(&str, fn() -> Tally); 17] = [
+    let kinds: [(&str, fn() -> Tally); 20] = [
         ("bits::packing", bits::packing),
         ("bits::parts", bits::parts),
         ("frames::written", frames::written),
@@ -37,6 +39,9 @@ fn main() {
         ("light::runs", light::runs),
         ("light::device_runs", light::device_runs),
         ("compare::compared", compare::compared),
+        ("current::clock_by_clock", current::clock_by_clock),
+        ("current::large_signs", current::large_signs),
+        ("current::refused", current::refused),
     ];
     let (mut passed, mut failed, mut cases) = (0, 0, 0);
     for (name, kind) in kinds {

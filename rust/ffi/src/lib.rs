@@ -62,6 +62,20 @@ pub struct Compared {
     pub refusal: u8,
 }
 
+/// `struct bb_sign_current`.
+#[repr(C)]
+#[derive(Clone, Copy, Debug, PartialEq, Eq)]
+pub struct SignCurrent {
+    /// In eighths of a microamp, added up over 524,288 clocks; 0 where refused.
+    pub total: u64,
+    /// Over those clocks, rounded down.
+    pub average: u64,
+    /// What the average leaves.
+    pub remainder: u64,
+    /// 0 where accepted.
+    pub refusal: u8,
+}
+
 /// `struct bb_stepped`.
 #[repr(C)]
 #[derive(Clone, Copy, Debug, PartialEq, Eq)]
@@ -316,6 +330,25 @@ pub fn compare(set: &Set, chain: &[Device]) -> Compared {
             set.individual.len(),
             chain.as_ptr(),
             chain.len(),
+        )
+    }
+}
+
+/// What a set draws: answered for the sign, and in front of `figures` for each device.
+pub fn current(set: &Set, figures: &mut [u64]) -> SignCurrent {
+    // SAFETY: the slices are lent for the call, with their lengths.
+    unsafe {
+        raw::bb_current(
+            set.part,
+            set.devices,
+            set.configuration,
+            set.calibration.as_ptr(),
+            set.calibration.len(),
+            set.global,
+            set.individual.as_ptr(),
+            set.individual.len(),
+            figures.as_mut_ptr(),
+            figures.len(),
         )
     }
 }

@@ -1,6 +1,6 @@
 //! `include/bractbeacon.h`, declared again.
 
-use crate::{Answer, Clocks, Compared, Packed, Signed, Stepped};
+use crate::{Answer, Clocks, Compared, Packed, SignCurrent, Signed, Stepped};
 use record::Device;
 
 extern "C" {
@@ -128,4 +128,16 @@ extern "C" {
         chain: *const Device,
         chain_length: usize,
     ) -> Compared;
+    pub fn bb_current(
+        part: u16,
+        devices: usize,
+        configuration: u8,
+        calibration: *const u8,
+        calibration_length: usize,
+        global: u8,
+        individual: *const u16,
+        individual_length: usize,
+        figures: *mut u64,
+        figures_length: usize,
+    ) -> SignCurrent;
 }

@@ -1,8 +1,9 @@
 //! The proved library beside plain Rust, in one run: times, ratios, and the limits that were asked for. Arguments choose
-//! among `packing`, `frames`, `steps`, `chains` and `compare`.
+//! among `packing`, `frames`, `steps`, `chains`, `compare` and `current`.
 
 mod chains;
 mod compare;
+mod current;
 mod frames;
 mod packing;
 mod race;
@@ -20,12 +21,13 @@ fn main() {
         "{:64} {:>10} {:>10} {:12} {:>6}",
         "", "proved", "Rust", "in", "ratio"
     );
-    let kinds: [(&str, fn()); 5] = [
+    let kinds: [(&str, fn()); 6] = [
         ("packing", packing::races),
         ("frames", frames::races),
         ("steps", steps::races),
         ("chains", chains::races),
         ("compare", compare::races),
+        ("current", current::races),
     ];
     for (name, races) in kinds {
         if wanted.is_empty() || wanted.iter().any(|word| word == name) {

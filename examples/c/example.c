@@ -1,7 +1,7 @@
 /*
  * From a set to a running sign, through include/bractbeacon.h: frames, line states, a run on three devices, what comes
- * back, the light, the comparison; and what is different with 16 outputs. Prints what came out and exits with 1 where
- * it is not what docs/RULES.md says.
+ * back, the comparison, the light, the current; and what is different with 16 outputs. Prints what came out and exits
+ * with 1 where it is not what docs/RULES.md says.
  *
  *   tools/library
  *   gcc -std=c11 -Wall -Wextra -Iinclude examples/c/example.c -Ltarget/staticlib -lbractbeacon -o target/example
@@ -161,6 +161,24 @@ static void light(const struct bb_device *chain)
            bb_lit(6975, 0, 31, 33, 23, 0, 32, 1).refusal == BB_REFUSED_POSITION_OR_RECORD);
 }
 
+/* What the set draws: an eighth of a microamp is 1/8000 mA. */
+static void current(const struct set *set)
+{
+    uint64_t figures[3 * DEVICES];
+    struct bb_sign_current sign = bb_current(PART, DEVICES, CONFIGURATION, set->calibration, 3 * DEVICES, GLOBAL,
+                                             set->individual, 24 * DEVICES, figures, 3 * DEVICES);
+    expect("the set is accepted", sign.refusal == 0);
+    for (int i = 0; i < DEVICES; i++) {
+        const uint64_t *device = figures + 3 * i;
+        expect("a device", device[0] == 559669824000 && device[1] == 1067485 && device[2] == 248320);
+    }
+    printf("current: %.3f mA\n", (double)sign.average / 8000);
+    expect("the sign", sign.total == 1679009472000 && sign.average == 3202456 && sign.remainder == 220672);
+    struct bb_sign_current refused = bb_current(PART, DEVICES, CONFIGURATION, set->calibration, 3 * DEVICES, GLOBAL,
+                                                set->individual, 24 * DEVICES, figures, 3 * DEVICES - 1);
+    expect("three numbers for each device", refused.refusal == BB_REFUSED_ROOM && refused.total == 0);
+}
+
 /* A part of two banks, Z and Y: two calibration bytes, two copies of a byte, 16 outputs. */
 static void sixteen_outputs(void)
 {
@@ -199,6 +217,7 @@ int main(void)
     frames_of_one(&set);
     restore(&set, chain);
     light(chain);
+    current(&set);
     sixteen_outputs();
     printf("%s\n", mismatches == 0 ? "all as docs/RULES.md says" : "not as docs/RULES.md says");
     return mismatches != 0;

@@ -1,4 +1,4 @@
-//! What a set of 512 multiplexed devices draws.
+//! What a set of multiplexed devices draws.
 
 use crate::frames::page;
 use crate::race::{best, print};
@@ -6,18 +6,20 @@ use baseline::current::current;
 use model::set::Set;
 use std::hint::black_box;
 
-const DEVICES: usize = 512;
-
-/// The limit is for 24 outputs with 14-bit values; the other parts are for information.
+/// The limit is for 512 devices of 24 outputs with 14-bit values. Other numbers of devices show that a value costs the
+/// same in each; the other parts are for information.
 pub fn races() {
-    for (part, limit) in [(6975, Some(2.0)), (6974, None), (6973, None), (6972, None)] {
-        race(&page(part, DEVICES), limit);
+    race(&page(6975, 64), None);
+    race(&page(6975, 512), Some(2.0));
+    race(&page(6975, 1023), None);
+    for part in [6974, 6973, 6972] {
+        race(&page(part, 512), None);
     }
 }
 
 fn race(set: &Set, limit: Option<f64>) {
     let lent = set.lent();
-    let [mut a, mut b] = [(); 2].map(|()| vec![0; 3 * DEVICES]);
+    let [mut a, mut b] = [(); 2].map(|()| vec![0; 3 * set.devices]);
     let found = ffi::current(&lent, &mut a);
     let sign = [found.total, found.average, found.remainder];
     assert_eq!(current(&lent, &mut b), Ok(sign), "drawn alike");
@@ -31,6 +33,12 @@ fn race(set: &Set, limit: Option<f64>) {
         },
     ]);
     assert!(a == b, "drawn alike");
-    let what = format!("current of a {} sign, N = {DEVICES}", set.part);
-    print(&what, ("ns a device", DEVICES as f64), proved, plain, limit);
+    let what = format!("current of a {} sign, N = {}", set.part, set.devices);
+    print(
+        &what,
+        ("ns a device", set.devices as f64),
+        proved,
+        plain,
+        limit,
+    );
 }

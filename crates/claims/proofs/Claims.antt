@@ -13,6 +13,7 @@ use Rattle.claims.proofs.Chains as chains
 use Rattle.claims.proofs.Demand as demand
 use Rattle.claims.proofs.Compared as compared
 use Rattle.claims.proofs.RestoredSame.{restored-same}
+use Rattle.claims.proofs.Scheduled.{sum-over-schedule}
 use Rattle.claims.proofs.Largest.{largest-totals}
 use Rattle.claims.proofs.AnyRow.{any-row}
 use Rattle.claims.proofs.Examples.{examples-hold}
@@ -78,6 +79,9 @@ litClocks = record {
 
 pub litCount : claim.LitCount
 litCount = lit-count
+
+pub sumOverSchedule : claim.SumOverSchedule
+sumOverSchedule = sum-over-schedule
 
 pub closedForm : claim.ClosedForm
 closedForm = closed-form

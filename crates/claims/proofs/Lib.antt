@@ -5,6 +5,7 @@ pub mod Chains
 pub mod Demand
 pub mod Compared
 pub mod RestoredSame
+pub mod Scheduled
 pub mod Largest
 pub mod AnyRow
 pub mod Examples

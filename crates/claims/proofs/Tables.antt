@@ -216,7 +216,7 @@ compares : (s : Set) (ds : List Device)
 unfolding comparison compareRefusal
 compares s ds = answers (compareTable s ds) refl refl (λ (r : Compared). r .refusal) (λ n. compared n 0 0 0) (difference 1 (owned s) ds) (difference-zero 1 (owned s) ds) itself
 
-gives-current : (s : Set) (out : List ℕ) → claim.GivesCurrent s out
+pub gives-current : (s : Set) (out : List ℕ) → claim.GivesCurrent s out
 unfolding current currentOut currentRefusal
 gives-current s out =
     let table = currentTable s (length out) in

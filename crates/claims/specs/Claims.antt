@@ -59,7 +59,7 @@ use Rattle.differences.specs.Groups.{same, compared}
 use Rattle.compare.specs.Compare.{difference, compareTable, compareRefusal, comparison}
 use Rattle.compare.specs.Differences.{FirstDifference}
 use Rattle.differences.specs.declared.compared.Compared.{Compared}
-use Rattle.current.specs.Current.{valueIn, drawn, deviceFigures, signTotal}
+use Rattle.current.specs.Current.{valueIn, drawn, drawnInClock, figure, sum, deviceFigures, signTotal}
 use Rattle.current.specs.Answers.{currentTable, currentRefusal, current, currentOut, drawing}
 use Rattle.current.specs.Answers as current
 use Rattle.current.specs.Most.{mostDrawn, brightest, brightestSet}
@@ -385,6 +385,19 @@ abbrev pub LitCount : Type 0
 LitCount = (p : Part) (value output : ℕ) → howManyFrom (litAt p value output) 0 (p .clocks) ≡ litCount p value
 
 -- ---- current
+
+-- the answer is the sum over the schedule: an accepted set draws, over its devices and 524,288 clocks one after the other, the current of each
+-- sink that is lit in that clock; the average is that sum divided, and the remainder what is left
+abbrev pub SumOverSchedule : Type 0
+SumOverSchedule =
+    (s : Set) (out : List ℕ)
+    → let r : Current = current s (length out) in
+    let drawnOver : Own → ℕ = λ o. total (drawnInClock (partOf (s .part)) o) 524288 in
+    r .refusal ≡ 0
+    → (r .total ≡ sum (map drawnOver (owned s)))
+    × (r .total ≡ r .average * 524288 + r .remainder)
+    × (r .remainder < 524288)
+    × (take (3 * s .devices) (currentOut s out) ≡ flatten (map figure (map drawnOver (owned s))))
 
 -- what a device draws, added up clock by clock, is frames times g + 1 times, over banks, outputs and phases, an output's lit clocks of an ON
 -- subframe times the current of its bank; of any row, and any global byte

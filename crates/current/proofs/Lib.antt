@@ -5,6 +5,7 @@ pub mod Places
 pub mod Front
 pub mod Closed
 pub mod Devices
+pub mod EachClock
 pub mod Answered
 pub mod Most
 pub mod Largest

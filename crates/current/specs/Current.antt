@@ -4,7 +4,7 @@ use Prim.Native.Nat.{ℕ, _+_, _*_, _/_, _%_}
 use mathlib.Core.Bool.{cond}
 use mathlib.Core.List.{List, [], _∷_, map, flatten}
 use lib.ListN.{getD}
-use Rattle.parts.specs.Parts.{Part, partOf, subframes, phaseCount, period, periodFrames, sinkCurrent}
+use Rattle.parts.specs.Parts.{Part, partOf, subframes, phaseCount, frameClocks, period, periodFrames, sinkCurrent}
 use Rattle.schedule.specs.Light.{total, isLit}
 use Rattle.model.specs.Set.{Set, Own, owned}
 
@@ -31,6 +31,22 @@ drawnInFrame p o =
 -- in 524,288 clocks: one frame, or four where GLB4 shortens it
 unfoldable pub drawn : Part → Own → ℕ
 drawn p o = total (λ frame. drawnInFrame p o) (periodFrames p (o .configuration))
+
+-- ---- the same, clock after clock
+
+-- where clock t, from 0, lies: its subframe, its phase, its clock there
+abbrev pub subframeOf : Part → ℕ → ℕ → ℕ
+subframeOf p configuration t = t % frameClocks p configuration / (phaseCount configuration * p .clocks)
+
+abbrev pub phaseOf : Part → ℕ → ℕ → ℕ
+phaseOf p configuration t = t / p .clocks % phaseCount configuration
+
+abbrev pub clockOf : Part → ℕ → ℕ
+clockOf p t = t % p .clocks
+
+-- what the device draws in clock t
+abbrev pub drawnInClock : Part → Own → ℕ → ℕ
+drawnInClock p o t = drawnAt p o (subframeOf p (o .configuration) t) (phaseOf p (o .configuration) t) (clockOf p t)
 
 -- ---- figures: a total, its average over 524,288 clocks rounded down, and the remainder
 

@@ -3,10 +3,9 @@
 use mathlib.Core.Path.{_≡_, refl, ap, _∙_}
 use mathlib.Core.Bool.{Bool, true, false, cond}
 use mathlib.Core.List.{List, [], _∷_, map}
-use Prim.Native.Nat.{ℕ, zero, suc, _-_, _≤_}
-use native.Mathlib.Omega.{arith}
+use Prim.Native.Nat.{ℕ, zero, suc, _-_}
 use lib.Dec.{eqb}
-use lib.ListN.{length, length-map, getD, set, take, replicate, List·getD-map}
+use lib.ListN.{length, length-map, getD, set, replicate, List·getD-map}
 use borrow.Author.Tests.{eq-eqb}
 use Rattle.bits.specs.Bits.{isOne, digit}
 use Rattle.parts.specs.Parts.{partOf, outputs}
@@ -26,6 +25,7 @@ use Rattle.calls.specs.Calls.{runRefusal}
 use Rattle.calls.proofs.Accepted.{accepted-run}
 use Rattle.calls.specs.History.{Call, fresh, run, boundary, fault, refusalOf, effect, after, given, answered}
 use Rattle.model.specs.Lists.{All}
+use Rattle.model.proofs.Lists.{take-replicate}
 use Rattle.machine.specs.Machine.{chain}
 use Rattle.model.specs.Device as model
 use Rattle.device.specs.Run.{stepRecord}
@@ -40,11 +40,6 @@ one-digit true = refl
 one-digit false = refl
 
 -- ---- a fresh device
-
-take-replicate : (n k v : ℕ) → n ≤ k → take n (replicate k v) ≡ replicate n v
-take-replicate zero k v h = refl
-take-replicate (suc n) zero v h = absurd (omega arith)
-take-replicate (suc n) (suc k) v h = ap (λ (vs : List ℕ). v ∷ vs) (take-replicate n k v (omega arith))
 
 fresh-same : (part : ℕ) → deviceOf (freshDevice part) ≡ model.freshDevice (partOf part)
 unfolding deviceOf

@@ -6,11 +6,11 @@ use Prim.Native.Nat.{ℕ, zero, suc, _+_, _*_}
 use native.Mathlib.Nat.{zero-mul, suc-mul}
 use native.Mathlib.Omega.{arith}
 use lib.ListN.{take, drop, replicate, length-replicate}
-use lib.Seq.{drop-drop, take-at, drop-at}
+use lib.Seq.{drop-drop, drop-at}
 use Rattle.parts.specs.Parts.{Part, multiplex, sliceFields}
 use Rattle.parts.specs.declared.command.Command.the-variants.{Individual}
 use Rattle.model.specs.Set.{Own, ownFrom}
-use Rattle.model.proofs.Lists.{replicate-row}
+use Rattle.model.proofs.Lists.{take-replicate, replicate-row}
 
 -- ---- lists by rows of k
 
@@ -23,7 +23,7 @@ drop-none : (k : ℕ) (l : List ℕ) → l ≡ drop (0 * k) l
 drop-none k l = ap (λ (m : ℕ). drop m l) (sym (zero-mul k))
 
 take-equal : (n k v : ℕ) → take k (replicate (suc n * k) v) ≡ replicate k v
-take-equal n k v = ap (take k) (replicate-row n k v) ∙ take-at (replicate k v) (replicate (n * k) v) k (length-replicate k v)
+take-equal n k v = take-replicate k (suc n * k) v (omega (arith, suc-mul n k))
 
 drop-equal : (n k v : ℕ) → drop k (replicate (suc n * k) v) ≡ replicate (n * k) v
 drop-equal n k v = ap (drop k) (replicate-row n k v) ∙ drop-at (replicate k v) (replicate (n * k) v) k (length-replicate k v)

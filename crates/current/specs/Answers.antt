@@ -27,10 +27,11 @@ currentTable s room =
 unfoldable pub currentRefusal : Set → ℕ → ℕ
 currentRefusal s room = first (currentTable s room)
 
--- an answer: the refusal's number, or the sign's three figures
+-- an answer: the refusal's number alone
 abbrev pub refused : ℕ → Current
 refused number = record { total = 0; average = 0; remainder = 0; refusal = number }
 
+-- or the sign's three figures, by its total
 abbrev pub drawing : ℕ → Current
 drawing n = record { total = n; average = n / period; remainder = n % period; refusal = 0 }
 

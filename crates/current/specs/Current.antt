@@ -34,13 +34,15 @@ drawn p o = total (λ frame. drawnInFrame p o) (periodFrames p (o .configuration
 
 -- ---- the same, clock after clock
 
--- where clock t, from 0, lies: its subframe, its phase, its clock there
+-- the subframe of clock t, from 0
 abbrev pub subframeOf : Part → ℕ → ℕ → ℕ
 subframeOf p configuration t = t % frameClocks p configuration / (phaseCount configuration * p .clocks)
 
+-- its phase: MUX0 in each subframe, and then MUX1
 abbrev pub phaseOf : Part → ℕ → ℕ → ℕ
 phaseOf p configuration t = t / p .clocks % phaseCount configuration
 
+-- its clock in that subframe and phase
 abbrev pub clockOf : Part → ℕ → ℕ
 clockOf p t = t % p .clocks
 

@@ -9,7 +9,8 @@ use lib.ListN.{take, drop}
 use borrow.Author.Tests.{eq-eqb, ne-eqb}
 use Rattle.device.specs.declared.device.Device.{Device}
 use Rattle.differences.specs.declared.compared.Compared.{Compared}
-use Rattle.differences.specs.Groups.{ownOf, groups, same, inGroups}
+use Rattle.model.specs.Set.{ownOf}
+use Rattle.differences.specs.Groups.{groups, same, inGroups}
 use Rattle.differences.proofs.Lists.{part-of}
 use Rattle.compare.specs.declared.search.Search.{Search}
 use Rattle.compare.specs.Search.{onward, ended, lookedAt}

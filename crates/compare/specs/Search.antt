@@ -9,14 +9,14 @@ use Rattle.parts.specs.Parts.{partOf, known, multiplex, sliceFields, isCount}
 use Rattle.tables.specs.Refusals.{Row, first}
 use Rattle.parts.specs.declared.command.Command.the-variants.{Individual, Calibration}
 use Rattle.device.specs.declared.device.Device.{Device}
-use Rattle.model.specs.Set.{Own}
+use Rattle.model.specs.Set.{Own, ownOf}
 use Rattle.judgement.specs.declared.judging.Judged.{Judged}
 use Rattle.differences.specs.declared.compared.Compared.{Compared}
 use Rattle.sets.specs.Sets.{lengthsFit, settingsFit}
 use Rattle.sets.specs.declared.numbers.SetNumbers.{SetNumbers}
 use Rattle.compare.specs.declared.search.Search.{Search}
 use Rattle.compare.specs.Compare.{rowsOf}
-use Rattle.differences.specs.Groups.{compared, same, groups, inGroups, ownOf}
+use Rattle.differences.specs.Groups.{compared, same, groups, inGroups}
 
 -- ---- the refusal
 

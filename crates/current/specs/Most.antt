@@ -4,7 +4,7 @@ use lib.ListN.{replicate}
 use Rattle.parts.specs.Parts.{Part, partOf, subframes, multiplex, period, limit, outputs, sinkCurrent, sliceFields}
 use Rattle.parts.specs.declared.command.Command.the-variants.{Individual}
 use Rattle.schedule.specs.Light.{litCount}
-use Rattle.model.specs.Set.{Set, Own}
+use Rattle.model.specs.Set.{Set, Own, ownOf}
 use Rattle.sets.specs.Sets.{setOf}
 
 -- in every subframe of the period all outputs are lit as long as they can be, at the greatest current
@@ -14,12 +14,8 @@ mostDrawn p = period / p .clocks * (litCount p (limit p - 1) * (outputs p * sink
 -- a device with every byte and every value at its greatest
 abbrev pub brightest : Part → ℕ → Own
 brightest p configuration =
-    record {
-      configuration = configuration;
-      calibration = replicate (p .banks) 255;
-      global = subframes p configuration - 1;
-      individual = replicate (sliceFields p Individual (multiplex configuration)) (limit p - 1);
-    }
+    ownOf configuration (replicate (p .banks) 255) (subframes p configuration - 1)
+    (replicate (sliceFields p Individual (multiplex configuration)) (limit p - 1))
 
 -- a sign of such devices
 abbrev pub brightestSet : ℕ → ℕ → ℕ → Set

@@ -25,11 +25,6 @@ inTurns [] ys = []
 inTurns (x ∷ xs) [] = []
 inTurns (x ∷ xs) (y ∷ ys) = x ∷ y ∷ inTurns xs ys
 
--- what is a device's own, by what a caller gives
-abbrev pub ownOf : ℕ → List ℕ → ℕ → List ℕ → Own
-ownOf configuration calibration global individual =
-    record { configuration = configuration; calibration = calibration; global = global; individual = individual }
-
 -- a device's active values in wire order, by the set's multiplex bit
 abbrev pub activeValues : ℕ → Device → List ℕ
 activeValues configuration d =

@@ -3,7 +3,8 @@ ghost use mathlib.Core.Path.{_≡_};
 ghost use Prim.Native.Nat.{_≤_, _%_};
 ghost use lib.Dec.{eqb};
 ghost use lib.ListN.{length, take};
-ghost use Rattle.differences.specs.Groups.{differsAt, inTurns, ownOf, activeValues, groups, compared, same, inGroups};
+ghost use Rattle.model.specs.Set.{ownOf};
+ghost use Rattle.differences.specs.Groups.{differsAt, inTurns, activeValues, groups, compared, same, inGroups};
 use crate::compared::Compared;
 use device::Device;
 

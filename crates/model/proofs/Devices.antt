@@ -9,7 +9,7 @@ use lib.ListN.{take, drop, replicate, length-replicate}
 use lib.Seq.{drop-drop, drop-at}
 use Rattle.parts.specs.Parts.{Part, multiplex, sliceFields}
 use Rattle.parts.specs.declared.command.Command.the-variants.{Individual}
-use Rattle.model.specs.Set.{Own, ownFrom}
+use Rattle.model.specs.Set.{Own, ownOf, ownFrom}
 use Rattle.model.proofs.Lists.{take-replicate, replicate-row}
 
 -- ---- lists by rows of k
@@ -35,8 +35,8 @@ module _ (p : Part) (configuration global : ℕ) where
   each = sliceFields p Individual (multiplex configuration)
 
   -- a device's own, by its bytes and values
-  abbrev pub ownWith : List ℕ → List ℕ → Own
-  ownWith bytes values = record { configuration = configuration; calibration = bytes; global = global; individual = values }
+  abbrev ownWith : List ℕ → List ℕ → Own
+  ownWith bytes values = ownOf configuration bytes global values
 
   -- what is device n's own, counted from 0
   abbrev pub ownAt : List ℕ → List ℕ → ℕ → Own

@@ -5,9 +5,9 @@ use native.Mathlib.Omega.{arith}
 use lib.ListN.{length, take}
 use Rattle.parts.specs.declared.part.Constants.{Constants}
 use Rattle.parts.proofs.Laws.{usable}
-use Rattle.model.specs.Set.{Own}
+use Rattle.model.specs.Set.{Own, ownOf}
 use Rattle.registers.specs.Held.{bankBytes}
-use Rattle.differences.specs.Groups.{differsAt, ownOf, compared}
+use Rattle.differences.specs.Groups.{differsAt, compared}
 use Rattle.differences.proofs.Groups.{configuration-differs, calibration-differs, global-differs, individual-differs, none-differs}
 use borrow.Author.Needs.{needs}
 use Rattle.differences.proofs.own.device_differs.Statement.{statement}

@@ -307,7 +307,7 @@ over-append ys zs l =
     let n : 0 + length ys ≡ length ys = zero-add (length ys) in
     sym (ap₂ (λ (k : ℕ) (z : List ℕ). overAt k zs z) n (overAt-zero ys l)) ∙ overAt-append 0 ys zs l (omega arith) ∙ overAt-zero (ys ++ zs) l
 
-pub length-overAt : (at : ℕ) (ys l : List ℕ) → at + length ys ≤ length l → length (overAt at ys l) ≡ length l
+length-overAt : (at : ℕ) (ys l : List ℕ) → at + length ys ≤ length l → length (overAt at ys l) ≡ length l
 unfolding overAt
 length-overAt at ys l h =
     length-append (take at l) (over ys (drop at l))

@@ -1,13 +1,16 @@
 -- What a set has that is not refused, and that its closed form is then what is answered. By the rows of the table, none of which holds.
 -- Assumes nothing.
 use mathlib.Core.Path.{_≡_, refl}
+use mathlib.Core.Bool.{true}
 use Prim.Native.Nat.{ℕ, _*_, _<_, _≤_}
+use lib.Dec.{ltb}
 use lib.ListN.{length}
 use borrow.Author.Tests.{not-false, ltb-true, ltb-false}
+use Rattle.tables.specs.Lists.{allBelow}
 use Rattle.tables.specs.Refusals.{first}
-use Rattle.tables.proofs.Booleans.{and-left}
+use Rattle.tables.proofs.Booleans.{and-both}
 use Rattle.tables.proofs.Rows.{Clear, clear}
-use Rattle.parts.specs.Parts.{Part, partOf, subframes, multiplex, sliceFields}
+use Rattle.parts.specs.Parts.{Part, partOf, subframes, multiplex, limit, sliceFields}
 use Rattle.parts.specs.declared.command.Command.the-variants.{Individual}
 use Rattle.parts.proofs.Laws.{count-bounds}
 use Rattle.model.specs.Set.{Set, owned}
@@ -41,8 +44,14 @@ module _ (s : Set) (room : ℕ) (e : first (currentTable s room) ≡ 0) where
   pub room-enough : 3 * s .devices ≤ room
   room-enough = ltb-false _ _ (passed .1 .1 .1 .0)
 
+  settings : (ltb (s .global) (subframes p (s .configuration)) ≡ true) × (allBelow (s .individual) (limit p) ≡ true)
+  settings = and-both _ _ (not-false _ (passed .1 .1 .1 .1 .0))
+
   pub global-below : s .global < subframes p (s .configuration)
-  global-below = ltb-true _ _ (and-left _ _ (not-false _ (passed .1 .1 .1 .1 .0)))
+  global-below = ltb-true _ _ (settings .0)
+
+  pub values-below : allBelow (s .individual) (limit p) ≡ true
+  values-below = settings .1
 
   abbrev drive : Drive
   drive = driveOf p (s .configuration) (s .global)

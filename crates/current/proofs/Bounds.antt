@@ -44,7 +44,7 @@ driven p configuration global u h =
 inside-le : (edge end value : ℕ) → inside edge end value ≤ end
 inside-le edge end value = omega arith
 
-pub clocks-within : {m n : ℕ} (edge end : ℕ) (values : List ℕ) (from each : ℕ) → each ≤ m → end ≤ n → bankClocks edge end values from each ≤ m * n
+clocks-within : {m n : ℕ} (edge end : ℕ) (values : List ℕ) (from each : ℕ) → each ≤ m → end ≤ n → bankClocks edge end values from each ≤ m * n
 clocks-within edge end values from each h k =
     le-trans (total-le (λ i. inside edge end (getD values (from + i) 0)) end each (λ i _. inside-le edge end (getD values (from + i) 0))) (mul-le-mul h k)
 

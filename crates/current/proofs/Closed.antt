@@ -100,30 +100,25 @@ module _ (p : Part) (o : Own) where
         (λ bank. clocksOf bank * current bank * on) (p .banks) (λ bank _. bank-drawn bank)
         ∙ total-scale (λ bank. clocksOf bank * current bank) on (p .banks)
 
+    -- the period, where the banks' sum is known
+    period-drawn : (banks : ℕ) → total (λ bank. clocksOf bank * current bank) (p .banks) ≡ banks → drawn p o ≡ periodFrames p (o .configuration) * on * banks
+    unfolding drawn
+    period-drawn banks e =
+        let frames : ℕ = periodFrames p (o .configuration) in
+        total-const (drawnInFrame p o) frames ∙ ap (λ (n : ℕ). frames * n) (frame-drawn ∙ ap (λ (n : ℕ). n * on) e ∙ mul-comm banks on)
+        ∙ sym (mul-assoc frames on banks)
+
     -- by banks, outputs and phases
     pub closed-form : drawn p o
         ≡ periodFrames p (o .configuration) * on * total (λ bank. total (λ k. total (λ phase. lit (8 * bank + k) phase) phases) 8 * current bank) (p .banks)
-    unfolding drawn
     closed-form =
-        let frames : ℕ = periodFrames p (o .configuration) in
-        let banks : ℕ = total (λ bank. total (λ k. total (λ phase. lit (8 * bank + k) phase) phases) 8 * current bank) (p .banks) in
-        total-const (drawnInFrame p o) frames
-        ∙ ap (λ (n : ℕ). frames * n)
-        (frame-drawn
-        ∙ ap (λ (n : ℕ). n * on)
+        period-drawn (total (λ bank. total (λ k. total (λ phase. lit (8 * bank + k) phase) phases) 8 * current bank) (p .banks))
         (total-same (λ bank. clocksOf bank * current bank) (λ bank. total (λ k. total (λ phase. lit (8 * bank + k) phase) phases) 8 * current bank) (p .banks)
         (λ bank _. ap (λ (n : ℕ). n * current bank) (sym (bank-lit bank))))
-        ∙ mul-comm banks on)
-        ∙ sym (mul-assoc frames on banks)
 
     -- any global byte, by its level
     pub closed-level : drawn p o ≡ closedTotal drive (o .calibration) 0 (o .individual) 0
-    unfolding drawn
-    closed-level =
-        let frames : ℕ = periodFrames p (o .configuration) in
-        let banks : ℕ = total (bankTotal drive (o .calibration) 0 (o .individual) 0) (p .banks) in
-        total-const (drawnInFrame p o) frames ∙ ap (λ (n : ℕ). frames * n) (frame-drawn ∙ ap (λ (n : ℕ). n * on) from-zero ∙ mul-comm banks on)
-        ∙ sym (mul-assoc frames on banks)
+    closed-level = period-drawn (total (bankTotal drive (o .calibration) 0 (o .individual) 0) (p .banks)) from-zero
 
 -- a global byte that is a level
 pub closed-drawn : (p : Part) (o : Own) → o .global < subframes p (o .configuration)

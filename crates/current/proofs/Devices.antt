@@ -55,7 +55,7 @@ module _ (d : Drive) (calibration : List ℕ) (bytes : ℕ) (individual : List �
   byte-taken bank h =
       ap (λ (i : ℕ). getD bytesOf i 0) (zero-add bank) ∙ getD-part (d .banks) bytes calibration bank h
 
-  pub closedTotal-taken : closedTotal d bytesOf 0 valuesOf 0 ≡ closedTotal d calibration bytes individual values
+  closedTotal-taken : closedTotal d bytesOf 0 valuesOf 0 ≡ closedTotal d calibration bytes individual values
   closedTotal-taken =
       ap (λ (n : ℕ). d .repeats * n)
       (total-same (bankTotal d bytesOf 0 valuesOf 0) (bankTotal d calibration bytes individual values) (d .banks)
@@ -72,7 +72,7 @@ module _ (p : Part) (configuration global : ℕ) where
     abbrev drive : Drive
     drive = driveOf p configuration global
 
-    pub own-drawn : (n : ℕ) → drawn p (ownAt p configuration global bytes values n) ≡ closedAt drive bytes values n
+    own-drawn : (n : ℕ) → drawn p (ownAt p configuration global bytes values n) ≡ closedAt drive bytes values n
     own-drawn n =
         closed-drawn p (ownAt p configuration global bytes values n) h
         ∙ ap (λ (k : ℕ). closedTotal drive (take (p .banks) (drop (n * p .banks) bytes)) 0 (take k (drop (n * k) values)) 0) (fields-banks p configuration)

@@ -6,7 +6,7 @@ use Rattle.current.specs.declared.drive.Drive.{Drive}
 use Rattle.current.specs.Closed.{OwnInLists, SignInLists}
 
 -- the last one of so many is within what all have
-pub last-within : {i n : ℕ} (each : ℕ) → i < n → i * each + each ≤ n * each
+last-within : {i n : ℕ} (each : ℕ) → i < n → i * each + each ≤ n * each
 last-within {i} {n} each h = omega (arith, suc-mul i each, mul-le-mul-right each h)
 
 -- a bank's values

@@ -4,7 +4,7 @@
 use mathlib.Core.Path.{_≡_, refl, sym, ap, ap₂, _∙_}
 use mathlib.Core.Bool.{Bool, true, false, _&&_, _||_, cond, and-comm}
 use Prim.Native.Nat.{ℕ, zero, suc, _+_, _-_, _*_, _%_, _<_, _≤_, min, max}
-use native.Mathlib.Nat.{add-zero, zero-add, zero-mul, one-mul, add-mul}
+use native.Mathlib.Nat.{add-zero}
 use native.Mathlib.Omega.{arith}
 use lib.Dec.{ltb, leb, eqb}
 use borrow.Author.Tests.{eqb-true, eqb-false, eq-eqb, ne-eqb, ltb-true, ltb-false, leb-true, leb-false, lt-ltb, le-ltb, le-leb, lt-leb}
@@ -13,6 +13,7 @@ use Rattle.parts.specs.Parts.{Part, outputs, subframes, multiplex}
 use Rattle.subframes.specs.Subframes.{howManyFrom, isOn}
 use Rattle.schedule.specs.Answers.{positionOver}
 use Rattle.schedule.specs.Light.{total, nameNumber, litAt, litBy, isEven, inRun, litFrom, litTo, litCount, isLit, litFirst, litEnd}
+use Rattle.schedule.proofs.Sums.{total-same, total-count}
 use Rattle.tables.proofs.Booleans.{or-none, and-false, and-assoc, or-second}
 
 ltb-min : (c m n : ℕ) → ltb c (min m n) ≡ ltb c n && ltb c m
@@ -129,15 +130,13 @@ howManyFrom-none from (suc n) = add-zero _ ∙ howManyFrom-none from n
 pub total-lit :
     (p : Part) (configuration global v output n : ℕ)
     → total (λ s. howManyFrom (isLit p configuration global v output s) 0 (p .clocks)) n ≡ howManyFrom (isOn p configuration global) 0 n * litCount p v
-unfolding howManyFrom total
-total-lit p configuration global v output zero = sym (zero-mul (litCount p v))
-total-lit p configuration global v output (suc n) =
-    ap₂ (λ (j k : ℕ). j + k) (total-lit p configuration global v output n)
-    (at (isOn p configuration global n) ∙ ap (λ (k : ℕ). digit (isOn p configuration global k) * litCount p v) (sym (zero-add n)))
-    ∙ sym (add-mul (howManyFrom (isOn p configuration global) 0 n) (digit (isOn p configuration global (0 + n))) (litCount p v)) where
-      at : (t : Bool) → howManyFrom (λ c. t && litAt p v output c) 0 (p .clocks) ≡ digit t * litCount p v
-      at true = lit-count p v output ∙ sym (one-mul (litCount p v))
-      at false = howManyFrom-none 0 (p .clocks) ∙ sym (zero-mul (litCount p v))
+total-lit p configuration global v output n =
+    total-same (λ s. howManyFrom (isLit p configuration global v output s) 0 (p .clocks)) (λ s. cond (isOn p configuration global s) (litCount p v) 0) n
+    (λ s _. at (isOn p configuration global s))
+    ∙ total-count (isOn p configuration global) (litCount p v) n where
+      at : (t : Bool) → howManyFrom (λ c. t && litAt p v output c) 0 (p .clocks) ≡ cond t (litCount p v) 0
+      at true = lit-count p v output
+      at false = howManyFrom-none 0 (p .clocks)
 
 -- ---- by the tests of the code
 

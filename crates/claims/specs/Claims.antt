@@ -418,9 +418,12 @@ Period = (part configuration : ℕ) → periodFrames (partOf part) configuration
 
 -- the largest totals, and that they fit
 pub record Largest : Type 0 where
-  -- no device of a row draws more than the most, and one of each part draws it, at any configuration
+  -- no device of a row that a set can have draws more than the most, and one of each part draws it, at any configuration
   pub device : (p : Part) (o : Own) → Usable p → OwnProper p o → drawn p o ≤ mostDrawn p
-  pub deviceReached : (part configuration : ℕ) → drawn (partOf part) (brightest (partOf part) configuration) ≡ mostDrawn (partOf part)
+  pub deviceReached :
+      (part configuration : ℕ)
+      → (configuration < 256 → OwnProper (partOf part) (brightest (partOf part) configuration))
+      × (drawn (partOf part) (brightest (partOf part) configuration) ≡ mostDrawn (partOf part))
   -- no accepted set of N devices draws more than N times that, and one of each N draws it
   pub sign :
       (s : Set) (room : ℕ)

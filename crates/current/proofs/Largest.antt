@@ -7,13 +7,12 @@ use mathlib.Core.List.{List, [], _∷_}
 use Prim.Native.Nat.{ℕ, zero, suc, _-_, _*_, _<_, _≤_}
 use native.Mathlib.Nat.{zero-mul, suc-mul, mul-le-mul}
 use native.Mathlib.Omega.{arith}
-use lib.Dec.{ltb, lit≤}
+use lib.Dec.{lit≤}
 use lib.ListN.{length, getD, replicate, length-replicate}
-use borrow.Author.Tests.{not-false, eq-eqb, lt-ltb, le-ltb}
+use borrow.Author.Tests.{eq-eqb, lt-ltb, le-ltb}
 use Rattle.tables.specs.Lists.{allBelow}
 use Rattle.tables.specs.Refusals.{first}
-use Rattle.tables.proofs.Booleans.{and-right}
-use Rattle.tables.proofs.Rows.{clear, none}
+use Rattle.tables.proofs.Rows.{none}
 use Rattle.parts.specs.Parts.{Part, partOf, known, isCount, subframes, multiplex, limit, sliceFields, Usable}
 use Rattle.parts.specs.declared.command.Command.the-variants.{Individual}
 use Rattle.parts.proofs.Laws.{each-row, usable, whole-frames}
@@ -26,8 +25,8 @@ use Rattle.model.proofs.Devices.{ownFrom-equal}
 use Rattle.current.specs.Current.{drawn, sum, totalsOf, signTotal}
 use Rattle.current.specs.Answers.{currentTable, currentRefusal}
 use Rattle.current.specs.Most.{mostDrawn, brightest, brightestSet}
-use Rattle.current.proofs.Answered.{bytes-long, values-long, global-below}
-use Rattle.current.proofs.Most.{drawn-most, drawn-reached}
+use Rattle.current.proofs.Answered.{bytes-long, values-long, global-below, values-below}
+use Rattle.current.proofs.Most.{drawn-most, brightest-proper, drawn-reached}
 
 -- ---- no more
 
@@ -40,11 +39,6 @@ module _ (s : Set) (room : ℕ) (configuration : s .configuration < 256) (calibr
   unfolding currentRefusal
   passed = e
 
-  values : allBelow (s .individual) (limit (partOf (s .part))) ≡ true
-  values =
-      let c = clear (currentTable s room) refl passed in
-      and-right (ltb (s .global) (subframes (partOf (s .part)) (s .configuration))) _ (not-false _ (c .1 .1 .1 .1 .0))
-
   proper : Proper s
   proper =
       record {
@@ -52,7 +46,7 @@ module _ (s : Set) (room : ℕ) (configuration : s .configuration < 256) (calibr
         global = omega (arith, global-below s room passed, usable (s .part) .subframes (s .configuration) .1);
         calibration = all-at 256 (s .calibration) calibration;
         calibrationLength = bytes-long s room passed;
-        individual = all-below (limit (partOf (s .part))) (s .individual) values;
+        individual = all-below (limit (partOf (s .part))) (s .individual) (values-below s room passed);
         individualLength = values-long s room passed;
       }
 
@@ -71,8 +65,15 @@ below-equal : (n m v : ℕ) → v < m → allBelow (replicate n v) m ≡ true
 below-equal zero m v h = refl
 below-equal (suc n) m v h = ap₂ (λ (a b : Bool). a && b) (lt-ltb v m h) (below-equal n m v h)
 
-pub device-reached : (part configuration : ℕ) → drawn (partOf part) (brightest (partOf part) configuration) ≡ mostDrawn (partOf part)
+device-reached : (part configuration : ℕ) → drawn (partOf part) (brightest (partOf part) configuration) ≡ mostDrawn (partOf part)
 device-reached part configuration = drawn-reached (partOf part) (usable part) configuration (whole-frames part)
+
+-- by a device that a set can have
+pub proper-reached :
+    (part configuration : ℕ)
+    → (configuration < 256 → OwnProper (partOf part) (brightest (partOf part) configuration))
+    × (drawn (partOf part) (brightest (partOf part) configuration) ≡ mostDrawn (partOf part))
+proper-reached part configuration = (brightest-proper (partOf part) (usable part) configuration, device-reached part configuration)
 
 pub sign-reached : (part devices configuration : ℕ) → signTotal (brightestSet part devices configuration) ≡ devices * mostDrawn (partOf part)
 unfolding owned

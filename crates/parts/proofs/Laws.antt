@@ -8,7 +8,8 @@ use native.Mathlib.Omega.{arith}
 use lib.Dec.{T, eqb, ltb, leb, eqb→eq, ltb→lt, leb→le}
 use borrow.Author.Tests.{leb-true, ltb-true}
 use lib.ListN.{length, getD}
-use Rattle.parts.specs.Parts.{Part, max6972, max6973, max6974, max6975, rows, noPart, knownIn, known, rowFrom, partOf, rowIndex, multiplex, glb4, subframes, limit, isCount, code, commandAt, sliceBits, period, sinkCurrent, Usable, WholeFrames}
+use Rattle.parts.specs.Parts.{Part, max6972, max6973, max6974, max6975, rows, noPart, knownIn, known, rowFrom, partOf, rowIndex, multiplex}
+use Rattle.parts.specs.Parts.{glb4, subframes, limit, isCount, code, commandAt, sliceBits, period, sinkCurrent, Usable, WholeFrames}
 use Rattle.parts.specs.declared.command.Command.{Command}
 use Rattle.parts.specs.declared.command.Command.the-variants.{Individual, Calibration, Global, Configuration}
 use Rattle.tables.proofs.Booleans.{and-both, or-false, cond-both}

@@ -1,7 +1,16 @@
 -- `compare::bb_compare` meets its contract: a walk of its MIR, by hand. The set's two lists and the chain are opened at entry and shut before it
 -- returns. The records are judged once, and the search begins (`walk`). Each turn of the loop reads a record and calls `look` with the two lists
 -- lent on (`more`), or ends with the search's answer (`ends`). What the search comes to is in proofs/Found.
-use Rattle.judgement.proofs.Walk.{_≡_, refl, _∙_, ap, subst, ℕ, zero, suc, _*_, _<_, _^_, arith, Bool, true, false, List, [], _∷_, length, getD, URA, fullShare, Ty, named, imm, w8, w64, tyBool, tyPtr, tyRef, vbool, vint, vptr, Val, SProp, ent, sep, emp, via, fst∗, Lft, GName, Share, ftrue, fat, flft, Memory, Routine, Heap, Out, Env, Wp, WpFn, Tables, afterSeq, afterBlock, afterTurn, atReturn, Atoms, sem, fmOf, Given, Item, ‵, raw, _⊛_, ⋆, anyQ, atRet, _$_, _∵_, !, qed, by, move, use1, drop, split, join, rewrite, fsplit, fjoin, suffices, frame, done, whole, sub, look-in, look, look-raw, store, init, forget, stop, hop, fld, from, load, lit, of-opd, and-then, no-more, bin, assigns, assigns-last, land, stays, leaves-loop, exec, returns, enter, alloc1, alloc0, params1, pass1, pass0, Fun, givenOf, tables, tablesOf, yes, owns, pointee, Is, shows, uint-vals, uint-tells, uint-makes, uint-copy, RefT, sliceTy, sliceVal, ShrSlice, Room, slice-vals, shr-slice-tells, row, plain, shrSliceOf, u8, usize, onEntry, tripleOf, Contract, Triple, cited, nothing, owned, heard, says, Stays, stay-dropped, walkOf, ends-at, walked, goes-dropped, word, byte, loop, id⊢}
+use Rattle.judgement.proofs.Walk.{_≡_, refl, _∙_, ap, subst, ℕ, zero, suc, _*_, _<_, _^_, arith, Bool, true, false, List, [], _∷_, length, getD, URA}
+use Rattle.judgement.proofs.Walk.{fullShare, Ty, named, imm, w8, w64, tyBool, tyPtr, tyRef, vbool, vint, vptr, Val, SProp, ent, sep, emp, via, fst∗}
+use Rattle.judgement.proofs.Walk.{Lft, GName, Share, ftrue, fat, flft, Memory, Routine, Heap, Out, Env, Wp, WpFn, Tables, afterSeq, afterBlock}
+use Rattle.judgement.proofs.Walk.{afterTurn, atReturn, Atoms, sem, fmOf, Given, Item, ‵, raw, _⊛_, ⋆, anyQ, atRet, _$_, _∵_, !, qed, by, move, use1}
+use Rattle.judgement.proofs.Walk.{drop, split, join, rewrite, fsplit, fjoin, suffices, frame, done, whole, sub, look-in, look, look-raw, store, init}
+use Rattle.judgement.proofs.Walk.{forget, stop, hop, fld, from, load, lit, of-opd, and-then, no-more, bin, assigns, assigns-last, land, stays}
+use Rattle.judgement.proofs.Walk.{leaves-loop, exec, returns, enter, alloc1, alloc0, params1, pass1, pass0, Fun, givenOf, tables, tablesOf, yes, owns}
+use Rattle.judgement.proofs.Walk.{pointee, Is, shows, uint-vals, uint-tells, uint-makes, uint-copy, RefT, sliceTy, sliceVal, ShrSlice, Room}
+use Rattle.judgement.proofs.Walk.{slice-vals, shr-slice-tells, row, plain, shrSliceOf, u8, usize, onEntry, tripleOf, Contract, Triple, cited, nothing}
+use Rattle.judgement.proofs.Walk.{owned, heard, says, Stays, stay-dropped, walkOf, ends-at, walked, goes-dropped, word, byte, loop, id⊢}
 use package.mir.Syntax.{w16, tyInt, Body}
 use base.Fml.{Fml}
 use denote.Builtin.{u16}

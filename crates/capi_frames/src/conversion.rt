@@ -16,16 +16,16 @@ fn of_converted(converted: Converted) -> Answer
     }
 }
 
-// The line states of a packed frame.
+// The line states of a packed frame that is sent with an edge.
 #[no_mangle]
-pub extern "C" fn bb_states(frame: &[u8], bits: usize, states: &mut [u8]) -> Answer
+pub extern "C" fn bb_states(frame: &[u8], bits: usize, edge: u8, states: &mut [u8]) -> Answer
     ensures { λ r.
         ⌜
-        (r ≡ ofConverted (clockedAnswer (now (frame .entry)) bits (now (states .entry))))
-        × (now (states .exit) ≡ clockedOut (now (frame .entry)) bits (now (states .entry)))
+        (r ≡ ofConverted (clockedAnswer (now (frame .entry)) bits edge (now (states .entry))))
+        × (now (states .exit) ≡ clockedOut (now (frame .entry)) bits edge (now (states .entry)))
         ⌝ }
 {
-    let written = serial::frame_states(frame, bits, states);
+    let written = serial::frame_states(frame, bits, edge, states);
     of_converted(written)
 }
 

@@ -54,10 +54,32 @@ lows bs = map low bs
 abbrev pub highs : List Bool → List State
 highs bs = map high bs
 
--- the clocks of a frame or of a header: SYNC at low load and the rest at high
-unfoldable pub clocked : List Bool → List State
-clocked bs = lows (take 8 bs) ++ highs (drop 8 bs)
+-- where load rises in a frame (no edge zone of light): with SYNC's last bit, with the first command bit, or with the second
+pub data Edge : Type 0 where
+  early exact late : Edge
 
--- the same as numbers
+-- the edge of a number; of a number over 2, late
+abbrev pub edgeAt : ℕ → Edge
+edgeAt n = cond (eqb n 0) early (cond (eqb n 1) exact late)
+
+-- bits at low load before it
+abbrev pub lowClocks : Edge → ℕ
+lowClocks early = 7
+lowClocks exact = 8
+lowClocks late = 9
+
+-- the clocks of a frame or of a header that is sent with an edge
+unfoldable pub clockedAt : Edge → List Bool → List State
+clockedAt e bs = lows (take (lowClocks e) bs) ++ highs (drop (lowClocks e) bs)
+
+-- with the exact edge, which every device sends: SYNC at low load and the rest at high
+abbrev pub clocked : List Bool → List State
+clocked bs = clockedAt exact bs
+
+-- the clocks with an edge, as numbers
+abbrev pub statesAt : Edge → List Bool → List ℕ
+statesAt e bs = map stateCode (clockedAt e bs)
+
+-- with the exact edge, as numbers
 abbrev pub statesOf : List Bool → List ℕ
-statesOf bs = map stateCode (clocked bs)
+statesOf bs = statesAt exact bs

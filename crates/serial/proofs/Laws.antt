@@ -12,7 +12,7 @@ use lib.ListN.{length, getD, take, drop, replicate, length-append, length-map, l
 use lib.Seq.{getD-drop, getD-take, getD-append-add, drop-drop, take-suc, length-take-le}
 use Rattle.bits.specs.Bits.{isOne, digit, bits, number, fields, split, padded, bytesOf, bytesFor}
 use Rattle.bits.proofs.Laws.{digit-isOne, length-padded, length-bits, length-fields, number-append}
-use Rattle.parts.specs.Wire.{low, high, dataBit, stateCode, stateAt, lows, highs, clocked, statesOf}
+use Rattle.parts.specs.Wire.{low, high, dataBit, stateCode, stateAt, lows, highs, Edge, lowClocks, clockedAt, statesAt}
 use Rattle.serial.specs.States.{dataBits, digitAt, frameStates}
 
 -- ---- bits
@@ -53,54 +53,61 @@ highs-digits : (bs : List Bool) → map stateCode (highs bs) ≡ map (λ b. 2 + 
 highs-digits [] = refl
 highs-digits (b ∷ bs) = ap (_∷_ (2 + digit b)) (highs-digits bs)
 
-states-digits : (bs : List Bool) → statesOf bs ≡ map digit (take 8 bs) ++ map (λ b. 2 + digit b) (drop 8 bs)
-unfolding clocked
-states-digits bs = map-append stateCode (lows (take 8 bs)) (highs (drop 8 bs)) ∙ ap₂ _++_ (lows-digits (take 8 bs)) (highs-digits (drop 8 bs))
+states-digits : (e : Edge) (bs : List Bool) → statesAt e bs ≡ map digit (take (lowClocks e) bs) ++ map (λ b. 2 + digit b) (drop (lowClocks e) bs)
+unfolding clockedAt
+states-digits e bs =
+    map-append stateCode (lows (take (lowClocks e) bs)) (highs (drop (lowClocks e) bs))
+    ∙ ap₂ _++_ (lows-digits (take (lowClocks e) bs)) (highs-digits (drop (lowClocks e) bs))
 
-pub length-statesOf : (bs : List Bool) → length (statesOf bs) ≡ length bs
-length-statesOf bs = rw (states-digits bs, length-append, length-map, length-map, length-take, length-drop) (omega arith)
+pub length-statesAt : (e : Edge) (bs : List Bool) → length (statesAt e bs) ≡ length bs
+length-statesAt e bs = rw (states-digits e bs, length-append, length-map, length-map, length-take, length-drop) (omega arith)
 
--- the state of a bit: at low load within SYNC, at high load after it
-pub getD-statesOf : (bs : List Bool) (i : ℕ) → i < length bs → getD (statesOf bs) i 0 ≡ cond (ltb i 8) 0 2 + digit (getD bs i false)
-getD-statesOf bs i h = ap (λ (l : List ℕ). getD l i 0) (states-digits bs) ∙ by (ltb i 8) refl where
-  by : (t : Bool) → ltb i 8 ≡ t → getD (map digit (take 8 bs) ++ map (λ b. 2 + digit b) (drop 8 bs)) i 0 ≡ cond (ltb i 8) 0 2 + digit (getD bs i false)
+-- bits at low load before a place, and at high load from it on
+getD-low-high : (n : ℕ) (bs : List Bool) (i : ℕ) → i < length bs
+    → getD (map digit (take n bs) ++ map (λ b. 2 + digit b) (drop n bs)) i 0 ≡ cond (ltb i n) 0 2 + digit (getD bs i false)
+getD-low-high n bs i h = by (ltb i n) refl where
+  by : (t : Bool) → ltb i n ≡ t → getD (map digit (take n bs) ++ map (λ b. 2 + digit b) (drop n bs)) i 0 ≡ cond (ltb i n) 0 2 + digit (getD bs i false)
   by true e =
-      let k : i < 8 = ltb-true i 8 e in
-      let l : i < length (map digit (take 8 bs)) = rw (length-map, length-take) (omega arith) in
+      let k : i < n = ltb-true i n e in
+      let l : i < length (map digit (take n bs)) = rw (length-map, length-take) (omega arith) in
       rw e
-      (List·getD-append (map digit (take 8 bs)) (map (λ b. 2 + digit b) (drop 8 bs)) 0 i l
-      ∙ List·getD-map digit (take 8 bs) i false
-      ∙ ap digit (getD-take 8 bs i false k)
+      (List·getD-append (map digit (take n bs)) (map (λ b. 2 + digit b) (drop n bs)) 0 i l
+      ∙ List·getD-map digit (take n bs) i false
+      ∙ ap digit (getD-take n bs i false k)
       ∙ sym (zero-add (digit (getD bs i false))))
   by false e =
-      let k : 8 ≤ i = ltb-false i 8 e in
-      let l : length (map digit (take 8 bs)) ≡ 8 = length-map (take 8 bs) digit ∙ length-take-le 8 bs (omega arith) in
-      let m : i ≡ length (map digit (take 8 bs)) + (i - 8) = rw l (omega arith) in
-      let n : 8 + (i - 8) ≡ i = omega arith in
+      let k : n ≤ i = ltb-false i n e in
+      let l : length (map digit (take n bs)) ≡ n = length-map (take n bs) digit ∙ length-take-le n bs (omega arith) in
+      let m : i ≡ length (map digit (take n bs)) + (i - n) = rw l (omega arith) in
+      let z : n + (i - n) ≡ i = omega arith in
       rw e
-      (ap (λ (j : ℕ). getD (map digit (take 8 bs) ++ map (λ b. 2 + digit b) (drop 8 bs)) j 0) m
-      ∙ getD-append-add (map digit (take 8 bs)) (map (λ b. 2 + digit b) (drop 8 bs)) (i - 8) 0
-      ∙ at-high (drop 8 bs) (i - 8) (rw length-drop (omega arith))
-      ∙ ap (λ (b : Bool). 2 + digit b) (getD-drop 8 bs (i - 8) false ∙ ap (λ (j : ℕ). getD bs j false) n)) where
+      (ap (λ (j : ℕ). getD (map digit (take n bs) ++ map (λ b. 2 + digit b) (drop n bs)) j 0) m
+      ∙ getD-append-add (map digit (take n bs)) (map (λ b. 2 + digit b) (drop n bs)) (i - n) 0
+      ∙ at-high (drop n bs) (i - n) (rw length-drop (omega arith))
+      ∙ ap (λ (b : Bool). 2 + digit b) (getD-drop n bs (i - n) false ∙ ap (λ (j : ℕ). getD bs j false) z)) where
         at-high : (xs : List Bool) (j : ℕ) → j < length xs → getD (map (λ b. 2 + digit b) xs) j 0 ≡ 2 + digit (getD xs j false)
         at-high [] j h = absurd (omega arith)
         at-high (x ∷ xs) zero h = refl
         at-high (x ∷ xs) (suc j) h = at-high xs j (omega arith)
 
--- the states of a packed frame
-pub length-frameStates : (frame : List ℕ) (n : ℕ) → n ≤ 8 * length frame → length (frameStates frame n) ≡ n
-unfolding frameStates
-length-frameStates frame n h =
-    length-statesOf (take n (fields 8 frame)) ∙ length-take-le n (fields 8 frame) (rw (length-fields 8 frame) (omega arith))
+-- the state of a bit: at low load before the edge, at high load after it
+pub getD-statesAt : (e : Edge) (bs : List Bool) (i : ℕ) → i < length bs → getD (statesAt e bs) i 0 ≡ cond (ltb i (lowClocks e)) 0 2 + digit (getD bs i false)
+getD-statesAt e bs i h = ap (λ (l : List ℕ). getD l i 0) (states-digits e bs) ∙ getD-low-high (lowClocks e) bs i h
 
-pub getD-frameStates : (frame : List ℕ) (n i : ℕ) → n ≤ 8 * length frame → i < n
-    → getD (frameStates frame n) i 0 ≡ cond (ltb i 8) 0 2 + getD frame (i / 8) 0 / 2 ^ (7 - i % 8) % 2
+-- the states of a packed frame
+pub length-frameStates : (e : Edge) (frame : List ℕ) (n : ℕ) → n ≤ 8 * length frame → length (frameStates e frame n) ≡ n
 unfolding frameStates
-getD-frameStates frame n i h k =
+length-frameStates e frame n h =
+    length-statesAt e (take n (fields 8 frame)) ∙ length-take-le n (fields 8 frame) (rw (length-fields 8 frame) (omega arith))
+
+pub getD-frameStates : (e : Edge) (frame : List ℕ) (n i : ℕ) → n ≤ 8 * length frame → i < n
+    → getD (frameStates e frame n) i 0 ≡ cond (ltb i (lowClocks e)) 0 2 + getD frame (i / 8) 0 / 2 ^ (7 - i % 8) % 2
+unfolding frameStates
+getD-frameStates e frame n i h k =
     let l : length (take n (fields 8 frame)) ≡ n = length-take-le n (fields 8 frame) (rw (length-fields 8 frame) (omega arith)) in
-    getD-statesOf (take n (fields 8 frame)) i (rw l k)
-    ∙ ap (λ (b : Bool). cond (ltb i 8) 0 2 + digit b) (getD-take n (fields 8 frame) i false k)
-    ∙ ap (λ (d : ℕ). cond (ltb i 8) 0 2 + d) (getD-bytes frame i (omega arith))
+    getD-statesAt e (take n (fields 8 frame)) i (rw l k)
+    ∙ ap (λ (b : Bool). cond (ltb i (lowClocks e)) 0 2 + digit b) (getD-take n (fields 8 frame) i false k)
+    ∙ ap (λ (d : ℕ). cond (ltb i (lowClocks e)) 0 2 + d) (getD-bytes frame i (omega arith))
 
 -- ---- packed data bits
 

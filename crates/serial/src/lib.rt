@@ -4,4 +4,7 @@ mod states;
 
 pub use packing::pack_states;
 pub use states::Converted;
+pub use states::EARLY;
+pub use states::EXACT;
+pub use states::LATE;
 pub use states::frame_states;

@@ -120,7 +120,7 @@ fn send(
     let end = least(n, 219);
     let bits = end * 8;
     let mut states = [0u8; 1752];
-    serial::frame_states(&frame[..end], bits, &mut states);
+    serial::frame_states(&frame[..end], bits, serial::EXACT, &mut states);
     let mut returned = [0u8; 1775];
     load_three(chain, &states[..bits], &mut returned)
 }

@@ -60,7 +60,7 @@ fn fault_case(name: &[u8], part: u16, bytes: &[u8]) {
     let mut frame = [0u8; 13];
     frame_writer::write(told, tail, 0, bytes, &[0u16; 1], &mut frame);
     let mut states = [0u8; 104];
-    serial::frame_states(&frame[..long], bits, &mut states);
+    serial::frame_states(&frame[..long], bits, serial::EXACT, &mut states);
     let mut returned = [0u8; 127];
     let ran = run_three(open_leds(part, 1, 0, 1), &states[..bits], &mut returned);
     let end = least(ran.returned, 127);
@@ -76,7 +76,7 @@ fn joined_case(name: &[u8], part: u16, long: usize)
     let mut frame = [0u8; 3072];
     frame_writer::write(told, no_tail(), 0, b"", &[0u16; 1], &mut frame);
     let mut states = [0u8; 24576];
-    serial::frame_states(&frame[..long], bits, &mut states);
+    serial::frame_states(&frame[..long], bits, serial::EXACT, &mut states);
     let end = least(join(part, &mut states, bits, 341), 24576);
     return_case(name, told, no_tail(), &states[..end], b"\xE8\xFF\xFF", 1023);
 }

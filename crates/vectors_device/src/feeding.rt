@@ -16,7 +16,7 @@ pub struct Fed {
 pub fn feed(device: Device, frame: &[u8]) -> Fed {
     let mut states = [0u8; 408];
     let bits = least(frame.len(), 51) * 8;
-    serial::frame_states(frame, bits, &mut states);
+    serial::frame_states(frame, bits, serial::EXACT, &mut states);
     steps(device, &states[..bits])
 }
 

@@ -4,6 +4,7 @@ use Rattle.bits.specs.Bits.{over}
 use Rattle.tables.proofs.Rows as rows
 use mathlib.Core.Path.{refl, sym, _∙_}
 use lib.ListN.{length}
+use Rattle.parts.specs.Wire.{edgeAt}
 use borrow.Author.Tests.{eqb-true, ltb-false, not-false}
 use borrow.Author.Needs.{needs}
 use Rattle.serial.proofs.states.frame_states.Statement.{statement}
@@ -16,11 +17,11 @@ returns : tie.Need-returns
 unfolding clockedAnswer clockedOut
 returns c = let a = c .before .before .before .before .args in
     let e = c .before .judge-frame .ensures in
-    (rows.refused L.Refused (L.Written (a .bits)) e (c .if1 .taken), rows.kept (a .out .now) (over (frameStates (a .frame .now) (a .bits)) (a .out .now)) e (c .if1 .taken))
+    (rows.refused L.Refused (L.Written (a .bits)) e (c .if1 .taken), rows.kept (a .out .now) (over (frameStates (edgeAt (a .edge)) (a .frame .now) (a .bits)) (a .out .now)) e (c .if1 .taken))
 
 put-states-requires : tie.Need-put-states-requires
 put-states-requires c κs = let a = c .before .before .before .before .before .args in
-    let k = rows.clear (frameRows (length (a .frame .now)) (a .bits) (length (a .out .now))) refl (sym (c .before .before .judge-frame .ensures) ∙ c .before .if1 .left) in
+    let k = rows.clear (frameRows (length (a .frame .now)) (a .bits) (a .edge) (length (a .out .now))) refl (sym (c .before .before .judge-frame .ensures) ∙ c .before .if1 .left) in
     (eqb-true _ _ (not-false _ (k .0)), ltb-false _ _ (k .1 .0))
 
 same-length : tie.Need-same-length

@@ -27,6 +27,7 @@ use Rattle.parts.proofs.Rows.{limit-pos, field-width-pos, slice-bits-pos, field
 use Rattle.widths.proofs.Below.{Fit, fit-zeros, below-drop, Below, below-of, of-below, stored-below, took-below, showing-below}
 use Rattle.device.proofs.Places.{place-fits}
 use Rattle.phases.proofs.Places.{Small, phase-small}
+use Rattle.phases.proofs.Rising.{rising-any}
 use Rattle.tables.proofs.Booleans.{and-both, both-and, cond-both}
 
 -- ---- devices
@@ -44,8 +45,11 @@ device-fits r p b g = both-and (placeFits (placeOf p) r) (flagsFit r && valuesFi
 module _ (r : Registers) where
   rising-good : (window bit : ℕ) → bit < 2 → Good r (rising window bit)
   rising-good window bit h =
-      cond-both (Good r) (eqb window 0xE8) _ _
-      (λ _. (lit< tt, both-and _ _ (le-leb 2 (2 + bit) (omega arith)) (lt-ltb (2 + bit) 64 (omega arith)))) (λ _. (lit< tt, refl))
+      rising-any (Good r) window bit (begun 1 (omega arith) (omega arith)) (begun (2 + bit) (omega arith) (omega arith))
+      (begun (4 + window % 2 * 2 + bit) (omega arith) (omega arith)) (lit< tt, refl)
+    where
+      begun : (read : ℕ) → 1 ≤ read → read < 64 → Good r (Opening read)
+      begun read l u = (lit< tt, both-and _ _ (le-leb 1 read l) (lt-ltb read 64 u))
 
   opened-good : (pairs : ℕ) → Good r (opened pairs)
   opened-good pairs =
@@ -54,10 +58,10 @@ module _ (r : Registers) where
       (λ _. cond-both (Good r) (eqb pairs 42) _ _ (λ _. (lit< tt, refl))
       (λ _. cond-both (Good r) (eqb pairs 63) _ _ (λ _. (lit< tt, refl)) (λ _. (lit< tt, refl)))))
 
-  opening-good : (read bit : ℕ) → 2 ≤ read → Good r (opening read bit)
+  opening-good : (read bit : ℕ) → 1 ≤ read → Good r (opening read bit)
   opening-good read bit h =
       cond-both (Good r) (ltb (read * 2 + bit) 64) _ _
-      (λ t. (lit< tt, both-and _ _ (le-leb 2 (read * 2 + bit) (omega arith)) t))
+      (λ t. (lit< tt, both-and _ _ (le-leb 1 (read * 2 + bit) (omega arith)) t))
       (λ _. opened-good (read * 2 + bit - 64))
 
   counting-good : (c : Command) (read bit : ℕ) → 1 ≤ read → Good r (counting c read bit)
@@ -78,7 +82,7 @@ Fits s = fits (s .device) ≡ true
 high-fits : (r : Registers) (p : Phase) (s : ℕ) → Below r → Good r p → Fits (stepHigh r p s)
 high-fits r (Hunting window) s b g = device-fits r (rising window (s % 2)) b (rising-good r window (s % 2) (mod-lt s (lit< tt)))
 high-fits r (Opening read) s b g =
-    device-fits r (opening read (s % 2)) b (opening-good r read (s % 2) (leb-true 2 read (and-both _ _ (g .1) .0)))
+    device-fits r (opening read (s % 2)) b (opening-good r read (s % 2) (leb-true 1 read (and-both _ _ (g .1) .0)))
 high-fits r (Counting c read) s b g =
     device-fits r (counting c read (s % 2)) b (counting-good r c read (s % 2) (leb-true 1 read (and-both _ _ (g .1) .0)))
 high-fits r (Slice c n t) s b g =

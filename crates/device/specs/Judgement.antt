@@ -20,7 +20,7 @@ use Rattle.device.specs.declared.device.Answer.{Answer}
 -- a phase's numbers are ones that a device can come to
 abbrev pub phaseFits : Phase → Registers → Bool
 phaseFits (Hunting window) r = true
-phaseFits (Opening read) r = leb 2 read && ltb read 64
+phaseFits (Opening read) r = leb 1 read && ltb read 64
 phaseFits (Counting c read) r = leb 1 read && ltb read 1024
 phaseFits (Slice c count taken) r = ltb count 1024 && ltb taken (sliceLength r c)
 phaseFits Passing r = true

@@ -18,7 +18,7 @@ fn phase_fits(phase: Phase, registers: Registers) -> bool
     ensures { λ r. ⌜ r ≡ phaseFits phase registers ⌝ }
 {
     match phase {
-        Phase::Opening { read } => 2 <= read && read < 64,
+        Phase::Opening { read } => 1 <= read && read < 64,
         Phase::Counting { read, .. } => 1 <= read && read < 1024,
         Phase::Slice {
             command,

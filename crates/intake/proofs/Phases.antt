@@ -17,6 +17,7 @@ use Rattle.parts.specs.declared.command.Command.{Command}
 use Rattle.phases.specs.Phases.{phaseOf, heard, inHeader, headed, opened}
 use Rattle.device.specs.Step.{step, stepHigh, at, moved, sliceLength}
 use Rattle.phases.proofs.Places.{Small, phase-place, phase-small}
+use Rattle.phases.proofs.Rising.{rising-small}
 use Rattle.tables.proofs.Booleans.{cond-both}
 use Rattle.phases.specs.declared.phase.Phase.{Phase}
 use Rattle.phases.specs.declared.phase.Phase.the-variants.{Hunting, Opening, Counting, Slice, Passing, Lost}
@@ -93,7 +94,7 @@ opened-small n =
     (λ _. cond-both Small (eqb n 63) _ _ (λ _. lit< tt) (λ _. lit< tt))))
 
 pub headed-small : (p : Phase) (b : ℕ) → Small p → Small (headed p b)
-headed-small (Hunting w) b h = cond-both Small (eqb w 0xE8) _ _ (λ _. lit< tt) (λ _. lit< tt)
+headed-small (Hunting w) b h = rising-small w b
 headed-small (Opening n) b h = cond-both Small (ltb (n * 2 + b) 64) _ _ (λ _. lit< tt) (λ _. opened-small (n * 2 + b - 64))
 headed-small (Counting c n) b h = cond-both Small (ltb (n * 2 + b) 1024) _ _ (λ _. lit< tt) (λ _. lit< tt)
 headed-small (Slice c n t) b h = h

@@ -15,7 +15,7 @@ use Rattle.phases.specs.declared.phase.Place.{Place}
 
 -- a phase's numbers fit the types of the record's: only the window can be too large for its own
 abbrev pub Small : Phase → Type 0
-Small p = windowOf p < 256
+Small p = windowOf p < 512
 
 -- the phase of any place is such a phase
 pub phase-small : (q : Place) → Small (phaseOf q)

@@ -1,7 +1,7 @@
 -- Where a device stands in a frame: the phases, their numbers in the record, and how a data bit moves a device on at low load and in the
 -- header. docs/RULES.md, "One device, clock by clock". A phase's number is its place in this list: hunting, opening, counting, slice,
 -- passing, lost.
-use Prim.Native.Nat.{ℕ, _+_, _-_, _*_, _%_}
+use Prim.Native.Nat.{ℕ, _+_, _-_, _*_, _/_, _%_}
 use mathlib.Core.Bool.{Bool, true, false, _&&_, cond}
 use lib.Dec.{eqb, ltb}
 use Rattle.parts.specs.Parts.{code, commandAt}
@@ -27,7 +27,7 @@ placeOf Lost = numbers 5 0 0 0
 -- the phase of the record's numbers: of a number over 5, lost
 abbrev pub phaseOf : Place → Phase
 phaseOf q =
-    cond (eqb (q .phase) 0) (Hunting (q .read % 256))
+    cond (eqb (q .phase) 0) (Hunting (q .read % 512))
     (cond (eqb (q .phase) 1) (Opening (q .read))
     (cond (eqb (q .phase) 2) (Counting (commandAt (q .command)) (q .read))
     (cond (eqb (q .phase) 3) (Slice (commandAt (q .command)) (q .count) (q .read))
@@ -42,7 +42,7 @@ samePlace p q =
 abbrev pub pushed : ℕ → ℕ → ℕ → ℕ
 pushed n bit m = (n * 2 + bit) % m
 
--- the bits of the low clocks since the last high one, as a number, the last eight of them: none in any other phase than hunting
+-- the bits of the low clocks since the last high one, as a number, the last nine of them: none in any other phase than hunting
 abbrev pub windowOf : Phase → ℕ
 windowOf (Hunting window) = window
 windowOf (Opening read) = 0
@@ -53,11 +53,15 @@ windowOf Lost = 0
 
 -- low load, in any phase: a frame in progress is dropped
 abbrev pub heard : Phase → ℕ → Phase
-heard p bit = Hunting (pushed (windowOf p) bit 256)
+heard p bit = Hunting (pushed (windowOf p) bit 512)
 
--- high load while hunting: after SYNC, which has its top bit set and so is no number of fewer than eight bits, the first command bit
+-- high load while hunting: SYNC's last bit, a 0, after its seven others (early); the first command bit after SYNC (exact); or the second,
+-- after SYNC and the first (late). SYNC begins with a one, so no shorter run of low clocks fits
 abbrev pub rising : ℕ → ℕ → Phase
-rising window bit = cond (eqb window 0xE8) (Opening (2 + bit)) Lost
+rising window bit =
+    cond (eqb (window % 128) 0x74 && eqb bit 0) (Opening 1)
+    (cond (eqb (window % 256) 0xE8) (Opening (2 + bit))
+    (cond (eqb (window / 2) 0xE8) (Opening (4 + window % 2 * 2 + bit)) Lost))
 
 -- six command bits: three equal pairs name the command, and the device is lost otherwise
 abbrev pub opened : ℕ → Phase

@@ -18,11 +18,11 @@ pub struct Place {
 }
 
 pub enum Phase {
-    // The last eight bits of the low clocks since the last high one, as a number.
+    // The last nine bits of the low clocks since the last high one, as a number.
     Hunting {
-        window: u8,
+        window: u16,
     },
-    // A one and then the command bits read so far, as a number: 2 to 63.
+    // A one and then the command bits read so far, as a number: 1 to 63.
     Opening {
         read: u16,
     },
@@ -53,7 +53,7 @@ pub fn place_of(phase: Phase) -> Place
     ensures { λ r. ⌜ r ≡ placeOf phase ⌝ }
 {
     match phase {
-        Phase::Hunting { window } => numbered(0, 0, 0, window as u16),
+        Phase::Hunting { window } => numbered(0, 0, 0, window),
         Phase::Opening { read } => numbered(1, 0, 0, read),
         Phase::Counting { command, read } => numbered(2, parts::number_of(command), 0, read),
         Phase::Slice {
@@ -84,9 +84,7 @@ pub fn phase_of(place: Place) -> Phase
     let phase = place.phase;
     let read = place.read;
     match phase {
-        0 => Phase::Hunting {
-            window: (read % 256) as u8,
-        },
+        0 => Phase::Hunting { window: read % 512 },
         1 => Phase::Opening { read },
         2 => Phase::Counting {
             command: parts::command_of(place.command),
@@ -111,7 +109,7 @@ pub fn same_place(one: Place, other: Place) -> bool
 }
 
 // The bits of the low clocks since the last high one: none in any other phase than hunting.
-pub fn window_of(phase: Phase) -> u8
+pub fn window_of(phase: Phase) -> u16
     ensures { λ r. ⌜ r ≡ windowOf phase ⌝ }
 {
     match phase {
@@ -124,21 +122,29 @@ pub fn window_of(phase: Phase) -> u8
 pub fn hear(phase: Phase, bit: u8) -> Phase
     ensures { λ r. ⌜ r ≡ heard phase bit ⌝ }
 {
-    let next = (window_of(phase) as u16) * 2 + (bit as u16);
+    let next = (window_of(phase) as u32) * 2 + (bit as u32);
     Phase::Hunting {
-        window: (next % 256) as u8,
+        window: (next % 512) as u16,
     }
 }
 
-// High load while hunting: after SYNC this is the first command bit.
-fn rise(window: u8, bit: u8) -> Phase
+// High load while hunting: with SYNC's last bit, with the first command bit, or with the second.
+fn rise(window: u16, bit: u8) -> Phase
     ensures { λ r. ⌜ r ≡ rising window bit ⌝ }
 {
-    if window != 0xE8 {
+    if window % 128 == 0x74 && bit == 0 {
+        return Phase::Opening { read: 1 };
+    }
+    if window % 256 == 0xE8 {
+        return Phase::Opening {
+            read: 2 + (bit as u16),
+        };
+    }
+    if window / 2 != 0xE8 {
         return Phase::Lost;
     }
     Phase::Opening {
-        read: 2 + (bit as u16),
+        read: 4 + window % 2 * 2 + (bit as u16),
     }
 }
 

@@ -1,7 +1,8 @@
--- A header leaves any record before the first bit of its slice, whatever it did before, and nothing is sent. SYNC pushes all that was there out
--- of the window; the command bits are read as numbers, by cases; the count bits by induction, after a leading one. The same of the model's
--- device, whose rows and registers are any and which keeps the bits as lists, is `headed` of model/proofs/Frame: neither law gives the other.
-use mathlib.Core.Path.{_≡_, refl, ap, _∙_}
+-- A header, sent with the exact edge as devices send it, leaves any record before the first bit of its slice, whatever it did before, and nothing
+-- is sent. SYNC fills the last eight places of the window; the command bits are read as numbers, by cases; the count bits by induction, after a
+-- leading one. The same of the model's device, whose rows and registers are any and which keeps the bits as lists, is `headed` of
+-- model/proofs/Frame: neither law gives the other.
+use mathlib.Core.Path.{_≡_, ap, sym, _∙_}
 use mathlib.Core.List.{List, [], _∷_}
 use Prim.Native.Nat.{ℕ, zero, suc, _+_, _*_, _/_, _%_, _^_, _<_, _≤_}
 use native.Mathlib.Nat.{mod-lt, pow-succ', mul-le-mul-left, mul-assoc, add-mul}
@@ -20,37 +21,43 @@ use Rattle.phases.specs.Phases.{phaseOf, placeOf, windowOf, pushed}
 use Rattle.device.specs.Step.{step, stepHigh, at}
 use Rattle.device.specs.Run.{stepRecord, run}
 use Rattle.phases.specs.declared.phase.Phase.{Phase}
-use Rattle.phases.specs.declared.phase.Phase.the-variants.{Hunting, Counting, Slice}
+use Rattle.phases.specs.declared.phase.Phase.the-variants.{Opening, Counting, Slice}
+use Rattle.phases.proofs.Rising.{rising-exact}
 use Rattle.registers.specs.declared.registers.Registers.{Registers}
 use Rattle.device.specs.declared.device.Device.{Device}
 use Rattle.turns.specs.Front.{sliceStart}
 use Rattle.turns.proofs.LeavingStates.{bitStates, header-parts}
 
--- ---- SYNC
+-- ---- SYNC and the command
 
--- a bit into the window, which a record keeps below 256
+-- a bit into the window, which a record keeps below 512
 abbrev push : ℕ → ℕ → ℕ
-push w b = pushed (w % 256) b 256
+push w b = pushed (w % 512) b 512
 
--- eight bits push all that was there out of it
-eight : (w : ℕ) → push (push (push (push (push (push (push ((w * 2 + 1) % 256) 1) 1) 0) 1) 0) 0) 0 ≡ 0xE8
+-- the window after the bits of SYNC
+abbrev synced : ℕ → ℕ
+synced w = push (push (push (push (push (push (push ((w * 2 + 1) % 512) 1) 1) 0) 1) 0) 0) 0
+
+-- they are its last eight
+eight : (w : ℕ) → synced w % 512 % 256 ≡ 0xE8
 eight w = omega arith
 
-synced : (d : Device) (xs : List ℕ) → run d (1 ∷ 1 ∷ 1 ∷ 0 ∷ 1 ∷ 0 ∷ 0 ∷ 0 ∷ xs) ≡ run (at (d .registers) (Hunting 0xE8)) xs
+-- SYNC, and the first command bit with the exact edge
+opens : (d : Device) (b : ℕ) (xs : List ℕ) → b < 2 → run d (1 ∷ 1 ∷ 1 ∷ 0 ∷ 1 ∷ 0 ∷ 0 ∷ 0 ∷ (2 + b) ∷ xs) ≡ run (at (d .registers) (Opening (2 + b))) xs
 unfolding machine.run stepRecord
-synced d xs = ap (λ (w : ℕ). run (at (d .registers) (Hunting w)) xs) (eight (windowOf (phaseOf (d .place))))
+opens d zero xs h = ap (λ (p : Phase). run (at (d .registers) p) xs) (sym (rising-exact (synced (windowOf (phaseOf (d .place))) % 512) 0 (eight (windowOf (phaseOf (d .place))))))
+opens d (suc zero) xs h = ap (λ (p : Phase). run (at (d .registers) p) xs) (sym (rising-exact (synced (windowOf (phaseOf (d .place))) % 512) 1 (eight (windowOf (phaseOf (d .place))))))
+opens d (suc (suc b)) xs h = absurd (omega arith)
 
--- ---- the command
-
-commanded : (r : Registers) (c : Command) (xs : List ℕ)
+commanded : (d : Device) (c : Command) (xs : List ℕ)
     → let high = code c / 2 % 2 + 2 in
     let low = code c / 1 % 2 + 2 in
-    run (at r (Hunting 0xE8)) (high ∷ low ∷ high ∷ low ∷ high ∷ low ∷ xs) ≡ run (at r (Counting c 1)) xs
+    run d (1 ∷ 1 ∷ 1 ∷ 0 ∷ 1 ∷ 0 ∷ 0 ∷ 0 ∷ high ∷ low ∷ high ∷ low ∷ high ∷ low ∷ xs) ≡ run (at (d .registers) (Counting c 1)) xs
 unfolding machine.run stepRecord
-commanded r Individual xs = refl
-commanded r Calibration xs = refl
-commanded r Global xs = refl
-commanded r Configuration xs = refl
+commanded d Individual xs = opens d 0 (2 ∷ 2 ∷ 2 ∷ 2 ∷ 2 ∷ xs) (omega arith)
+commanded d Calibration xs = opens d 0 (3 ∷ 2 ∷ 3 ∷ 2 ∷ 3 ∷ xs) (omega arith)
+commanded d Global xs = opens d 1 (2 ∷ 3 ∷ 2 ∷ 3 ∷ 2 ∷ xs) (omega arith)
+commanded d Configuration xs = opens d 1 (3 ∷ 3 ∷ 3 ∷ 3 ∷ 3 ∷ xs) (omega arith)
 
 -- ---- the count
 
@@ -97,5 +104,5 @@ low-count n h = omega arith
 
 pub run-header : (d : Device) (c : Command) (n : ℕ) → n < 1024 → run d (statesOf (header c n)) ≡ (sliceStart d c n, [])
 run-header d c n h =
-    ap (λ (ss : List ℕ). run d ss) (header-parts c n) ∙ synced d _ ∙ commanded (d .registers) c (bitStates 10 n)
+    ap (λ (ss : List ℕ). run d ss) (header-parts c n) ∙ commanded d c (bitStates 10 n)
     ∙ (rw (low-count n h) at (counted (d .registers) c n 9 1 (1024 + n) (all-count n h) (omega arith) (omega arith)))

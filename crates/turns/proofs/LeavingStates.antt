@@ -13,7 +13,7 @@ use lib.Seq.{set-out, length-take-le}
 use borrow.Author.Tests.{le-leb, lt-leb, leb-true, leb-false}
 use Rattle.bits.specs.Bits.{isOne, digit, bits, over}
 use Rattle.parts.specs.Parts.{code}
-use Rattle.parts.specs.Wire.{high, stateCode, commandCount, header, clocked, statesOf}
+use Rattle.parts.specs.Wire.{high, stateCode, commandCount, header, clockedAt, statesOf}
 use Rattle.parts.specs.declared.command.Command.{Command}
 use Rattle.parts.specs.declared.command.Command.the-variants.{Individual, Calibration, Global, Configuration}
 use Rattle.tables.proofs.Booleans.{cond-both}
@@ -149,7 +149,7 @@ opening c =
     ∷ (code c / 2 % 2 + 2) ∷ (code c / 1 % 2 + 2) ∷ (code c / 2 % 2 + 2) ∷ (code c / 1 % 2 + 2) ∷ (code c / 2 % 2 + 2) ∷ (code c / 1 % 2 + 2) ∷ []
 
 opening-states : (c : Command) (n : ℕ) → statesOf (header c n) ≡ opening c ++ map stateCode (map high (bits 10 n))
-unfolding header commandCount clocked bits
+unfolding header commandCount clockedAt bits
 opening-states Individual n = refl
 opening-states Calibration n = refl
 opening-states Global n = refl

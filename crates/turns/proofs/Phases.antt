@@ -17,6 +17,7 @@ use Rattle.phases.specs.declared.phase.Phase.the-variants.{Hunting, Opening, Co
 use Rattle.registers.specs.declared.registers.Registers.{Registers}
 use Rattle.device.specs.declared.device.Device.{Device}
 use Rattle.phases.proofs.Places.{Small, phase-place}
+use Rattle.phases.proofs.Rising.{rising-any}
 use Rattle.tables.proofs.Booleans.{cond-both}
 use Rattle.intake.proofs.Clauses.{drop-on}
 use Rattle.intake.proofs.Phases.{step-high, headed-small}
@@ -34,7 +35,7 @@ passes-number d = go (eqb (d .place .phase) 0) refl (eqb (d .place .phase) 1) re
     go : (a : Bool) → eqb (d .place .phase) 0 ≡ a → (b : Bool) → eqb (d .place .phase) 1 ≡ b → (c : Bool) → eqb (d .place .phase) 2 ≡ c → (e : Bool) → eqb (d .place .phase) 3 ≡ e
         → (f : Bool) → eqb (d .place .phase) 4 ≡ f
         → isPassing
-        (cond a (Hunting (d .place .read % 256))
+        (cond a (Hunting (d .place .read % 512))
         (cond b (Opening (d .place .read))
         (cond c (Counting (commandAt (d .place .command)) (d .place .read))
         (cond e (Slice (commandAt (d .place .command)) (d .place .count) (d .place .read)) (cond f Passing Lost)))))
@@ -85,7 +86,7 @@ opened-quiet x =
     (λ _. cond-both Quiet (eqb x 63) _ _ (λ _. refl) (λ _. refl))))
 
 pub headed-quiet : (p : Phase) (b : ℕ) → Quiet p → Quiet (headed p b)
-headed-quiet (Hunting w) b e = cond-both Quiet (eqb w 0xE8) _ _ (λ _. refl) (λ _. refl)
+headed-quiet (Hunting w) b e = rising-any Quiet w b refl refl refl refl
 headed-quiet (Opening a) b e = cond-both Quiet (ltb (a * 2 + b) 64) _ _ (λ _. refl) (λ _. opened-quiet (a * 2 + b - 64))
 headed-quiet (Counting c a) b e = cond-both Quiet (ltb (a * 2 + b) 1024) _ _ (λ _. refl) (λ _. refl)
 headed-quiet (Slice c n t) b e = e

@@ -1,6 +1,6 @@
 -- A run of n states returns at most n + 23, so an accepted run never lacks room. A device sends a header's 24 states only after it has kept
--- the 16 high states of a header and a slice of 8 or more, as any usable row has, so it sends at most 23 more than it takes. What a device that
--- is not passing sends begins with a low state, and after a low state no device has a surplus.
+-- the 15 last states of a header or more and a slice of 8 or more, as any usable row has, so it sends at most 23 more than it takes. What a device
+-- that is not passing sends begins with a low state, and after a low state no device has a surplus.
 use mathlib.Core.Path.{_≡_, refl, subst}
 use mathlib.Core.Bool.{Bool, true, false, _&&_}
 use mathlib.Core.List.{List, [], _∷_, _++_}
@@ -33,6 +33,7 @@ use Rattle.registers.specs.declared.registers.Registers.{Registers}
 use Rattle.device.specs.declared.device.Device.{Device}
 use Rattle.device.specs.declared.device.Stepped.{Stepped}
 use Rattle.parts.proofs.Rows.{slice-bits-some}
+use Rattle.phases.proofs.Rising.{rising-any}
 use Rattle.tables.proofs.Booleans.{and-both, cond-both}
 use Rattle.calls.specs.Chain.{through, allFit}
 use Rattle.calls.proofs.Accepted.{Accepted}
@@ -61,9 +62,10 @@ read-next a b h = omega (arith, size-le (a * 2 + b) (suc (size a)) (omega (arith
 
 -- ---- what a device may send more than it takes
 
--- 24 less the high states that must still come before it sends: six of a command, ten of a count, and its slice, taken as 8 until it begins
+-- 24 less the high states that must still come before it sends: six of a command, ten of a count, and its slice, taken as 8 until it begins;
+-- while hunting five of a command, since with the late edge the first one has come at low load
 abbrev credit : Registers → Phase → ℕ
-credit r (Hunting w) = 0
+credit r (Hunting w) = 1
 credit r (Opening a) = 24 - (6 - bitsRead a + 10 + 8)
 credit r (Counting c a) = 24 - (10 - bitsRead a + 8)
 credit r (Slice c n t) = 24 - (sliceLength r c - t)
@@ -107,8 +109,10 @@ opened-more r a x h =
 
 high-credit : (r : Registers) (p : Phase) (s : ℕ) → Owes (credit r p) (stepHigh r p s)
 high-credit r (Hunting w) s =
-    moved-owes r (rising w (s % 2)) 0
-    (cond-both (OneMore r (Hunting w)) (eqb w 0xE8) _ _ (λ _. omega (arith, read-most (2 + s % 2) 1 (omega arith))) (λ _. omega arith))
+    let read : (a j : ℕ) → j ≤ 2 → a < 2 ^ suc j → OneMore r (Hunting w) (Opening a) = λ a j h l. omega (arith, read-most a j l) in
+    moved-owes r (rising w (s % 2)) 1
+    (rising-any (OneMore r (Hunting w)) w (s % 2) (read 1 0 (omega arith) (omega arith)) (read (2 + s % 2) 1 (omega arith) (omega arith))
+    (read (4 + w % 2 * 2 + s % 2) 2 (omega arith) (omega arith)) (omega arith))
 high-credit r (Opening a) s =
     let n = a * 2 + s % 2 in
     moved-owes r (opening a (s % 2)) (credit r (Opening a))
@@ -196,7 +200,7 @@ place-credit d h =
     phase-credit r Lost e = omega arith
 
 passing-credit : (r : Registers) (p : Phase) → isPassing p ≡ true → credit r p ≤ 0
-passing-credit r (Hunting w) e = omega arith
+passing-credit r (Hunting w) e = absurd (no-way e)
 passing-credit r (Opening a) e = absurd (no-way e)
 passing-credit r (Counting c a) e = absurd (no-way e)
 passing-credit r (Slice c n t) e = absurd (no-way e)

@@ -3,9 +3,6 @@ use borrow.Author.Needs.{needs}
 use Rattle.phases.proofs.phase.phase_of.Statement.{statement}
 use Rattle.phases.proofs.phase.phase_of.Tie as tie
 
-cast-t6 : tie.Need-cast-t6
-cast-t6 c = search needs
-
 command-of-requires : tie.Need-command-of-requires
 command-of-requires c κs = search needs
 
@@ -35,7 +32,6 @@ pub phase-of-spec : {M : Type 1} → statement M
 phase-of-spec =
     tie.close
     (tie.spec
-    cast-t6
     command-of-requires
     command-of-requires-2
     returns

@@ -5,9 +5,6 @@ use Rattle.phases.proofs.phase.place_of.Tie as tie
 enum-known-phase : tie.Need-enum-known-phase
 enum-known-phase c = search needs
 
-cast-numbered : tie.Need-cast-numbered
-cast-numbered c = search needs
-
 numbered-requires : tie.Need-numbered-requires
 numbered-requires c κs = search needs
 
@@ -70,7 +67,6 @@ place-of-spec =
     tie.close
     (tie.spec
     enum-known-phase
-    cast-numbered
     numbered-requires
     enum-known-phase-2
     numbered-requires-2

@@ -1,6 +1,6 @@
 -- The law of the link, `agree`: one step of a record that fits is one step of the model's device, and `keep`: it still fits. By cases on
 -- the phase. Chains of records follow by `chain-view`. Assumes nothing.
-use mathlib.Core.Path.{_≡_, refl, _∙_}
+use mathlib.Core.Path.{_≡_, refl, sym, ap, _∙_}
 use mathlib.Core.Bool.{Bool, true, false, cond}
 use mathlib.Core.List.{List, [], _∷_, map}
 use Prim.Native.Nat.{ℕ, zero, suc, _+_, _-_, _*_, _/_, _%_, _≤_, _<_}
@@ -10,13 +10,13 @@ use lib.Dec.{eqb, ltb, leb, lit<}
 use lib.ListN.{length}
 use borrow.Author.Tests.{leb-true, ltb-true, ltb-false, le-ltb}
 use Rattle.parts.specs.Parts.{partOf, multiplex, fieldWidth, fieldLimit}
-use Rattle.parts.specs.Wire.{low, high, stateAt, header}
+use Rattle.parts.specs.Wire.{State, low, high, stateAt, stateCode, header, clocked, statesOf}
 use Rattle.parts.specs.declared.command.Command.{Command}
 use Rattle.parts.specs.declared.command.Command.the-variants.{Individual, Calibration, Global, Configuration}
 use Rattle.phases.specs.Phases.{phaseOf, windowOf, heard, rising, opened, opening, counting}
 use Rattle.registers.specs.Held.{holding, took}
 use Rattle.storing.specs.Stored.{stored, copies}
-use Rattle.device.specs.Step.{moved, sliceLength, step, stepHigh}
+use Rattle.device.specs.Step.{moved, sentStates, sliceLength, step, stepHigh}
 use Rattle.device.specs.Judgement.{placeFits, fits}
 use Rattle.phases.specs.declared.phase.Phase.{Phase}
 use Rattle.phases.specs.declared.phase.Phase.the-variants.{Hunting, Opening, Counting, Slice, Passing, Lost}
@@ -25,6 +25,7 @@ use Rattle.registers.specs.declared.registers.Registers.{Registers}
 use Rattle.device.specs.declared.device.Device.{Device}
 use Rattle.device.specs.declared.device.Stepped.{Stepped}
 use Rattle.phases.proofs.Places.{Small}
+use Rattle.phases.proofs.Rising.{rising-small}
 use Rattle.tables.proofs.Booleans.{and-both, cond-both}
 use Rattle.device.proofs.Kept.{Good, phase-good, kept}
 use Rattle.widths.proofs.Below.{Below, below-of}
@@ -32,9 +33,11 @@ use Rattle.model.specs.Lists.{All}
 use Rattle.machine.specs.Machine.{chain}
 use Rattle.model.specs.Device.{slice, stepDevice}
 use Rattle.model.specs.Device as model
-use Rattle.machine.proofs.Machine.{chain-view, chain-holds}
+use Rattle.machine.proofs.Machine.{run-view, run-sends, chain-view, chain-holds, chain-sends}
+use Rattle.model.proofs.Lists.{all-below}
+use Rattle.model.proofs.Wire.{codes-below, map-stateCode-stateAt, map-stateAt-stateCode}
 use Rattle.link.proofs.Numbers.{digit-bit}
-use Rattle.device.specs.Run.{stepRecord}
+use Rattle.device.specs.Run.{stepRecord, run}
 use Rattle.link.specs.View.{phaseIn, viewed, deviceOf}
 use Rattle.link.proofs.View.{Sound, seen, seen-sending}
 use Rattle.link.proofs.Arrays.{step-arrays}
@@ -49,7 +52,7 @@ stateAt-low zero h = refl
 stateAt-low (suc zero) h = refl
 stateAt-low (suc (suc s)) h = absurd (omega arith)
 
-window-same : (r : Registers) (p : Phase) → model.window (phaseIn r p) ≡ windowOf p
+pub window-same : (r : Registers) (p : Phase) → model.window (phaseIn r p) ≡ windowOf p
 window-same r (Hunting w) = refl
 window-same r (Opening read) = refl
 window-same r (Counting c read) = refl
@@ -70,9 +73,6 @@ unfolding stepDevice
 passing-same r b = refl
 
 -- the phases that a high clock moves a header to are small
-rising-small : (w bit : ℕ) → Small (rising w bit)
-rising-small w bit = cond-both Small (eqb w 0xE8) _ _ (λ _. lit< tt) (λ _. lit< tt)
-
 opened-small : (n : ℕ) → Small (opened n)
 opened-small n =
     cond-both Small (eqb n 0) _ _ (λ _. lit< tt)
@@ -89,10 +89,9 @@ counting-small c read bit = cond-both Small (ltb (read * 2 + bit) 1024) _ _ (λ 
 high-same : (r : Registers) (p : Phase) (s : ℕ) → 2 ≤ s → length (r .slice) ≡ 48 → Below r → Good r p → seen (stepHigh r p s) ≡ stepDevice (viewed r p) (high (eqb (s % 2) 1))
 high-same r (Hunting w) s h e b g = seen-sending r (rising w (s % 2)) Nothing (rising-small w (s % 2)) ∙ rising-same r w (s % 2) (mod-lt s (lit< tt))
 high-same r (Opening read) s h e b g =
-    let f = and-both (leb 2 read) (ltb read 64) (g .1) in
-    let l = leb-true 2 read (f .0) in
+    let f = and-both (leb 1 read) (ltb read 64) (g .1) in
     seen-sending r (opening read (s % 2)) Nothing (opening-small read (s % 2))
-    ∙ opening-same r read (s % 2) (omega arith) (ltb-true read 64 (f .1)) (mod-lt s (lit< tt))
+    ∙ opening-same r read (s % 2) (leb-true 1 read (f .0)) (ltb-true read 64 (f .1)) (mod-lt s (lit< tt))
 high-same r (Counting c read) s h e b g =
     let f = and-both (leb 1 read) (ltb read 1024) (g .1) in
     seen-sending r (counting c read (s % 2)) Nothing (counting-small c read (s % 2))
@@ -156,11 +155,48 @@ module _ {A : Type 0} (f : Registers → A)
 pub step-part : (d : Device) (s : ℕ) → (stepRecord d s) .0 .registers .part ≡ d .registers .part
 step-part d s = step-keeps (λ r. r .part) (λ r configuration calibration waiting waiting0 waiting1 slots. refl) d s
 
--- ---- chains of records
+-- ---- what is sent
+
+-- states below 4, as they are given, are sent on as such
+sent-below : (d : Device) (s : ℕ) → s < 4 → All (λ x. x < 4) ((stepRecord d s) .1)
+unfolding stepRecord
+sent-below d s h = cond-both Sends (ltb s 2) _ _ (λ _. tt) (λ _. high-sends (d .registers) (phaseOf (d .place)))
+  where
+    Sends : Stepped → Type 0
+    Sends x = All (λ y. y < 4) (sentStates (x .sent))
+
+    high-sends : (r : Registers) (p : Phase) → Sends (stepHigh r p s)
+    high-sends r (Hunting w) = tt
+    high-sends r (Opening read) = tt
+    high-sends r (Counting c read) = tt
+    high-sends r (Slice c n t) =
+        cond-both Sends (ltb (t + 1) (sliceLength r c)) _ _ (λ _. tt) (λ _. all-below 4 (statesOf (header c _)) (codes-below (clocked (header c _))))
+    high-sends r Passing = (h, tt)
+    high-sends r Lost = tt
+
+-- ---- one record, and chains of records
+
+pub run-agree : (d : Device) (ss : List ℕ) → Sound d → (deviceOf ((run d ss) .0), map stateAt ((run d ss) .1)) ≡ model.runDevice (deviceOf d) (map stateAt ss)
+run-agree d ss o = run-view stepDevice stepRecord deviceOf stateAt Sound keep agree d ss o
+
+-- its states are those of the model's device, number for number
+pub run-sent : (d : Device) (ls : List State) → Sound d → (run d (map stateCode ls)) .1 ≡ map stateCode ((model.runDevice (deviceOf d) ls) .1)
+run-sent d ls o =
+    let ss : List ℕ = map stateCode ls in
+    let a = run-sends stepRecord (λ x. x < 4) sent-below d ss (all-below 4 ss (codes-below ls)) in
+    sym (map-stateCode-stateAt ((run d ss) .1) a)
+    ∙ ap (λ (x : model.Device × List State). map stateCode (x .1)) (rw map-stateAt-stateCode at (run-agree d ss o))
 
 pub chain-agree : (ds : List Device) (ss : List ℕ) → All Sound ds
     → (map deviceOf ((chain stepRecord ds ss) .0), map stateAt ((chain stepRecord ds ss) .1)) ≡ model.runChain (map deviceOf ds) (map stateAt ss)
 chain-agree ds ss o = chain-view stepDevice stepRecord deviceOf stateAt Sound keep agree ds ss o
+
+pub chain-sent : (ds : List Device) (ls : List State) → All Sound ds → (chain stepRecord ds (map stateCode ls)) .1 ≡ map stateCode ((model.runChain (map deviceOf ds) ls) .1)
+chain-sent ds ls o =
+    let ss : List ℕ = map stateCode ls in
+    let a = chain-sends stepRecord (λ x. x < 4) sent-below ds ss (all-below 4 ss (codes-below ls)) in
+    sym (map-stateCode-stateAt ((chain stepRecord ds ss) .1) a)
+    ∙ ap (λ (x : List model.Device × List State). map stateCode (x .1)) (rw map-stateAt-stateCode at (chain-agree ds ss o))
 
 pub chain-keep : (ds : List Device) (ss : List ℕ) → All Sound ds → All Sound ((chain stepRecord ds ss) .0)
 chain-keep ds ss o = chain-holds stepRecord Sound keep ds ss o

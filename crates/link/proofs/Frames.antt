@@ -12,7 +12,7 @@ use borrow.Author.Tests.{ltb-true, eqb-true, not-false}
 use Rattle.bits.specs.Bits.{fields, bytesOf, padded}
 use Rattle.bits.proofs.Laws.{bits-of-bytes}
 use Rattle.parts.specs.Parts.{partOf, limit, subframes, fieldWidth, restoreOrder}
-use Rattle.parts.specs.Wire.{stateCode, statesOf, lows, frame, clocked}
+use Rattle.parts.specs.Wire.{Edge, stateCode, statesAt, lows, frame, clockedAt}
 use Rattle.parts.specs.declared.command.Command.{Command}
 use Rattle.parts.specs.declared.command.Command.the-variants.{Individual, Calibration, Global, Configuration}
 use Rattle.serial.specs.States as serial
@@ -59,40 +59,40 @@ module _ {s : Set} {tail : Command → Tail} (w : Writable s tail) where
   fields-settingsOf Configuration = refl
 
   -- the states of the bytes are those of the frame's bits
-  writtenFrame-states : (c : Command) → serial.frameStates (writtenFrame s c (tail c)) (frameSize s c (tail c))
-      ≡ statesOf (frame c 0 (fields (fieldWidth (partOf (s .part)) c) (frameFields s c)) (tailsOf tail c))
+  writtenFrame-states : (e : Edge) (c : Command) → serial.frameStates e (writtenFrame s c (tail c)) (frameSize s c (tail c))
+      ≡ statesAt e (frame c 0 (fields (fieldWidth (partOf (s .part)) c) (frameFields s c)) (tailsOf tail c))
   unfolding serial.frameStates frameOf frameBits
-  writtenFrame-states c =
+  writtenFrame-states e c =
       let vs : List ℕ = settings (told s c) (setByte s c) (s .calibration) (s .individual) in
       let n = length-settingsOf (told s c) c (setByte s c) (s .calibration) (s .individual) (accepted-writable c .list) in
-      ap statesOf (take-bytes (frameBits (told s c) (tail c) vs) (frameSize s c (tail c)) (length-frameBits (told s c) (tail c) vs n))
-      ∙ ap (λ (l : List ℕ). statesOf (frame c 0 (fields (fieldWidth (partOf (s .part)) c) l) (tailBits (tail c)))) (fields-settingsOf c)
+      ap (statesAt e) (take-bytes (frameBits (told s c) (tail c) vs) (frameSize s c (tail c)) (length-frameBits (told s c) (tail c) vs n))
+      ∙ ap (λ (l : List ℕ). statesAt e (frame c 0 (fields (fieldWidth (partOf (s .part)) c) l) (tailBits (tail c)))) (fields-settingsOf c)
 
-  module _ (gap : Command → List Bool) where
+  module _ (edge : Command → Edge) (gap : Command → List Bool) where
     abbrev piece : Command → Piece
-    piece c = pieceOf (partOf (s .part)) (owned s) gap (tailsOf tail) c
+    piece c = pieceOf (partOf (s .part)) (owned s) edge gap (tailsOf tail) c
 
-    part-states : (c : Command) → framePart s gap tail c ≡ map stateCode (pieceStates (piece c))
+    part-states : (c : Command) → framePart s edge gap tail c ≡ map stateCode (pieceStates (piece c))
     unfolding framePart pieceStates frameStates
     part-states c =
-        ap (λ (l : List ℕ). map stateCode (lows (gap c)) ++ l) (writtenFrame-states c)
-        ∙ ap (λ (bs : List Bool). map stateCode (lows (gap c)) ++ map stateCode (clocked (frame c 0 bs (tailsOf tail c)))) (fields-slices s writable-proper c)
-        ∙ sym (map-append stateCode (lows (gap c)) (frameStates c 0 (map (sliceOf (partOf (s .part)) c) (owned s)) (tailsOf tail c)))
+        ap (λ (l : List ℕ). map stateCode (lows (gap c)) ++ l) (writtenFrame-states (edge c) c)
+        ∙ ap (λ (bs : List Bool). map stateCode (lows (gap c)) ++ map stateCode (clockedAt (edge c) (frame c 0 bs (tailsOf tail c)))) (fields-slices s writable-proper c)
+        ∙ sym (map-append stateCode (lows (gap c)) (frameStates (edge c) c 0 (map (sliceOf (partOf (s .part)) c) (owned s)) (tailsOf tail c)))
 
-    parts-states : (cs : List Command) → flatten (map (framePart s gap tail) cs) ≡ map stateCode (flatten (map pieceStates (map piece cs)))
+    parts-states : (cs : List Command) → flatten (map (framePart s edge gap tail) cs) ≡ map stateCode (flatten (map pieceStates (map piece cs)))
     unfolding flatten
     parts-states [] = refl
     parts-states (c ∷ cs) =
         ap₂ (λ (a b : List ℕ). a ++ b) (part-states c) (parts-states cs)
         ∙ sym (map-append stateCode (pieceStates (piece c)) (flatten (map pieceStates (map piece cs))))
 
-    pub restore-states : restoreStates s gap tail ≡ map stateCode (piecesStates (partOf (s .part)) (owned s) gap (tailsOf tail))
+    pub restore-states : restoreStates s edge gap tail ≡ map stateCode (piecesStates (partOf (s .part)) (owned s) edge gap (tailsOf tail))
     unfolding piecesOf
     restore-states = parts-states restoreOrder
 
-    pub restore-part : (j : ℕ) → restorePart s gap tail j ≡ map stateCode (flatten (map pieceStates (take j (piecesOf (partOf (s .part)) (owned s) gap (tailsOf tail)))))
+    pub restore-part : (j : ℕ) → restorePart s edge gap tail j ≡ map stateCode (flatten (map pieceStates (take j (piecesOf (partOf (s .part)) (owned s) edge gap (tailsOf tail)))))
     unfolding piecesOf
     restore-part j =
-        ap (λ (l : List (List ℕ)). flatten l) (take-map (framePart s gap tail) j restoreOrder)
+        ap (λ (l : List (List ℕ)). flatten l) (take-map (framePart s edge gap tail) j restoreOrder)
         ∙ parts-states (take j restoreOrder)
         ∙ ap (λ (l : List Piece). map stateCode (flatten (map pieceStates l))) (sym (take-map piece j restoreOrder))

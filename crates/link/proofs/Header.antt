@@ -1,13 +1,13 @@
 -- The link while a header comes in: the record holds the command bits and the count bits as a number after a leading one, the model as a
 -- list. The list is full when the number has as many bits; then both name the same command, or begin the same slice. Assumes nothing.
 use mathlib.Core.Path.{_≡_, refl, sym, ap}
-use mathlib.Core.Bool.{Bool, true, false, cond}
+use mathlib.Core.Bool.{Bool, true, false, _&&_, not, cond}
 use mathlib.Core.List.{List, [], _∷_, _++_}
-use Prim.Native.Nat.{ℕ, zero, suc, pred, _+_, _-_, _*_, _%_, _^_, _≤_, _<_}
-use native.Mathlib.Nat.{pow-succ'}
+use Prim.Native.Nat.{ℕ, zero, suc, pred, _+_, _-_, _*_, _/_, _%_, _^_, _≤_, _<_}
+use native.Mathlib.Nat.{mod-lt, pow-succ'}
 use native.Mathlib.Numerals.{add-one}
 use native.Mathlib.Omega.{arith}
-use lib.Dec.{eqb, ltb}
+use lib.Dec.{eqb, ltb, lit<}
 use lib.ListN.{length, length-append}
 use borrow.Author.Tests.{ltb-true, ltb-false}
 use Rattle.bits.specs.Bits.{number}
@@ -90,13 +90,30 @@ module _ (r : Registers) where
 
   pub rising-same : (w bit : ℕ) → bit < 2 → Moves (Hunting w) (eqb bit 1) (rising w bit)
   unfolding stepDevice rest
-  rising-same w bit h = ap (λ (p : model.Phase). (model.at (registersOf r) p, [])) (go (eqb w 0xE8) bit h)
+  rising-same w bit h =
+      ap (λ (p : model.Phase). (model.at (registersOf r) p, [])) (go (eqb (w % 128) 0x74) (eqb (w % 256) 0xE8) (eqb (w / 2) 0xE8) (w % 2) bit (mod-lt w (lit< tt)) h)
     where
-      go : (t : Bool) (n : ℕ) → n < 2 → phaseIn r (cond t (Opening (2 + n)) Lost) ≡ cond t (taking command 4 (eqb n 1 ∷ [])) lost
-      go true zero l = refl
-      go true (suc zero) l = refl
-      go true (suc (suc n)) l = absurd (omega arith)
-      go false n l = refl
+      later : (y z : Bool) (c n : ℕ) → c < 2 → n < 2
+          → phaseIn r (cond y (Opening (2 + n)) (cond z (Opening (4 + c * 2 + n)) Lost)) ≡ cond y (model.begun (eqb n 1 ∷ [])) (cond z (model.begun (eqb c 1 ∷ eqb n 1 ∷ [])) lost)
+      later true z c zero k l = refl
+      later true z c (suc zero) k l = refl
+      later true z c (suc (suc n)) k l = absurd (omega arith)
+      later false true zero zero k l = refl
+      later false true zero (suc zero) k l = refl
+      later false true zero (suc (suc n)) k l = absurd (omega arith)
+      later false true (suc zero) zero k l = refl
+      later false true (suc zero) (suc zero) k l = refl
+      later false true (suc zero) (suc (suc n)) k l = absurd (omega arith)
+      later false true (suc (suc c)) n k l = absurd (omega arith)
+      later false false c n k l = refl
+
+      go : (x y z : Bool) (c n : ℕ) → c < 2 → n < 2
+          → phaseIn r (cond (x && eqb n 0) (Opening 1) (cond y (Opening (2 + n)) (cond z (Opening (4 + c * 2 + n)) Lost)))
+          ≡ cond (x && not (eqb n 1)) (model.begun []) (cond y (model.begun (eqb n 1 ∷ [])) (cond z (model.begun (eqb c 1 ∷ eqb n 1 ∷ [])) lost))
+      go true y z c zero k l = refl
+      go true y z c (suc zero) k l = later y z c 1 k l
+      go true y z c (suc (suc n)) k l = absurd (omega arith)
+      go false y z c n k l = later y z c n k l
 
   pub opening-same : (read bit : ℕ) → 1 ≤ read → read < 64 → bit < 2 → Moves (Opening read) (eqb bit 1) (opening read bit)
   opening-same read bit one top small = go (ltb (read * 2 + bit) 64) refl

@@ -1,5 +1,5 @@
--- A restore as a caller makes it: the four frames that the writer writes from a set, put onto the wire in restore order, each with any
--- tail and any clocks at low load before it. What then comes back, and when a slice has arrived, is said in model/specs/Restore.
+-- A restore as a caller makes it: the four frames that the writer writes from a set, put onto the wire in restore order, each with any edge,
+-- any tail and any clocks at low load before it. What then comes back, and when a slice has arrived, is said in model/specs/Restore.
 use Prim.Native.Nat.{ℕ, _+_, _<_}
 use mathlib.Core.Path.{_≡_}
 use mathlib.Core.Bool.{Bool, true}
@@ -7,7 +7,7 @@ use mathlib.Core.List.{List, [], _∷_, _++_, map, flatten}
 use lib.ListN.{take, getD}
 use Rattle.tables.specs.Lists.{allBelow}
 use Rattle.parts.specs.Parts.{partOf, restoreOrder}
-use Rattle.parts.specs.Wire.{stateCode, lows}
+use Rattle.parts.specs.Wire.{Edge, stateCode, lows}
 use Rattle.parts.specs.declared.command.Command.{Command}
 use Rattle.parts.specs.declared.command.Command.the-variants.{Individual, Calibration, Global, Configuration}
 use Rattle.serial.specs.States.{frameStates}
@@ -51,10 +51,10 @@ pub record Writable (s : Set) (tail : Command → Tail) : Type 0 where
 abbrev pub frameSize : Set → Command → Tail → ℕ
 frameSize s c tail = 24 + slicesBits (told s c) + tail .length
 
-module _ (s : Set) (gap : Command → List Bool) (tail : Command → Tail) where
-  -- clocks at low load with any data, and then the frame: SYNC at low load and the rest at high
+module _ (s : Set) (edge : Command → Edge) (gap : Command → List Bool) (tail : Command → Tail) where
+  -- clocks at low load with any data, and then the frame, sent with its edge
   unfoldable pub framePart : Command → List ℕ
-  framePart c = map stateCode (lows (gap c)) ++ frameStates (writtenFrame s c (tail c)) (frameSize s c (tail c))
+  framePart c = map stateCode (lows (gap c)) ++ frameStates (edge c) (writtenFrame s c (tail c)) (frameSize s c (tail c))
 
   -- the first j frames of a restore
   abbrev pub restorePart : ℕ → List ℕ
@@ -78,6 +78,6 @@ gapAfter gap last j = getD (map gap restoreOrder ++ last ∷ []) j []
 abbrev pub tailsOf : (Command → Tail) → Command → List Bool
 tailsOf tail c = tailBits (tail c)
 
--- how many states give a frame's header and the slices of the devices 1 to `device`
+-- how many states give a frame's header and the slices of the devices 1 to `device`, whichever edge it is sent with
 abbrev pub arrival : Set → (Command → List Bool) → (Command → Tail) → Command → ℕ → ℕ
 arrival s gap tail c device = statesUntil (partOf (s .part)) (owned s) gap (tailsOf tail) c device

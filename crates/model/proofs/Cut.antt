@@ -11,15 +11,15 @@ use lib.Dec.{leb, leb→le, nleb→lt}
 use lib.ListN.{length, take, drop, getD, length-append, length-map, length-take, take-append-drop}
 use lib.Seq.{take-append-add, take-take, take-nil}
 use borrow.Author.Tests.{le-leb, lt-leb}
-use Rattle.parts.specs.Wire.{State, low, high, lows, highs, frame}
+use Rattle.parts.specs.Wire.{State, low, high, lows, highs, Edge, exact, frame}
 use Rattle.parts.specs.declared.command.Command.{Command}
 use Rattle.machine.specs.Machine.{run}
 use Rattle.model.specs.Device.{Registers, Device, Phase, hunting, lost, taking, passing, Field, command, count, slice, at}
-use Rattle.model.specs.Device.{sliceLength, load, fault, counted, headerStates, frameStates, stepDevice, runDevice, runChain, registersIn}
+use Rattle.model.specs.Device.{sliceLength, load, fault, counted, frameStates, stepDevice, runDevice, runChain, registersIn}
 use Rattle.model.specs.Restore.{Piece, pieceStates}
 use Rattle.model.proofs.Lists.{take-append, take-map, append-nil-left, append-nil-right, leb-same}
 use Rattle.machine.proofs.Machine.{run-append, chain-cons, chain-empty, chain-nil, chain-append, chain-silent}
-use Rattle.model.proofs.Wire.{frame-states, length-headerStates}
+use Rattle.model.proofs.Wire.{frame-states, headerAt, length-headerAt, length-headerStates}
 use Rattle.model.proofs.Frame.{loadAll, Fits, headed, framed, quiet}
 
 -- a device that sends nothing stores nothing
@@ -53,34 +53,36 @@ silent d ls m e =
     append-nil-left _ _ (rw run-append at f)
 
 -- a part of a frame that holds its header
-take-frame : (c : Command) (n : ℕ) (ss : List (List Bool)) (tail : List Bool) (k : ℕ) → take (24 + k) (frameStates c n ss tail) ≡ frameStates c n [] (take k (flatten ss ++ tail))
+take-frame : (e : Edge) (c : Command) (n : ℕ) (ss : List (List Bool)) (tail : List Bool) (k : ℕ)
+    → take (24 + k) (frameStates e c n ss tail) ≡ frameStates e c n [] (take k (flatten ss ++ tail))
 unfolding flatten
-take-frame c n ss tail k = rw (frame-states c n ss tail, frame-states c n [] (take k (flatten ss ++ tail)), ← length-headerStates c n, take-append-add, take-map)
+take-frame e c n ss tail k = rw (frame-states e c n ss tail, frame-states e c n [] (take k (flatten ss ++ tail)), ← length-headerAt e c n, take-append-add, take-map)
 
-take-first : (c : Command) (n : ℕ) (s : List Bool) (ss : List (List Bool)) (tail : List Bool) (k : ℕ)
-    → take (24 + (length s + k)) (frameStates c n (s ∷ ss) tail) ≡ frameStates c n (s ∷ []) (take k (flatten ss ++ tail))
+take-first : (e : Edge) (c : Command) (n : ℕ) (s : List Bool) (ss : List (List Bool)) (tail : List Bool) (k : ℕ)
+    → take (24 + (length s + k)) (frameStates e c n (s ∷ ss) tail) ≡ frameStates e c n (s ∷ []) (take k (flatten ss ++ tail))
 unfolding frameStates frame flatten
-take-first c n s ss tail k = take-frame c n (s ∷ ss) tail (length s + k) ∙ rw (append-assoc s (flatten ss) tail, take-append-add, append-nil)
+take-first e c n s ss tail k = take-frame e c n (s ∷ ss) tail (length s + k) ∙ rw (append-assoc s (flatten ss) tail, take-append-add, append-nil)
 
-part-framed : (d : Device) (c : Command) (n : ℕ) (bs : List Bool) → n < 1024 → length bs ≤ pred (sliceLength (d .registers) c) → (runDevice d (frameStates c n [] bs)) .1 ≡ []
+part-framed : (e : Edge) (d : Device) (c : Command) (n : ℕ) (bs : List Bool) → n < 1024 → length bs ≤ pred (sliceLength (d .registers) c) → (runDevice d (frameStates e c n [] bs)) .1 ≡ []
 unfolding flatten
-part-framed d c n bs h b =
-    rw (frame-states c n [] bs, run-append stepDevice d (headerStates c n) (highs bs), headed d c n h)
+part-framed e d c n bs h b =
+    rw (frame-states e c n [] bs, run-append stepDevice d (headerAt e c n) (highs bs), headed e d c n h)
     (part-taken (d .registers) (slice c n) (pred (sliceLength (d .registers) c)) [] bs b)
 
-module _ (d : Device) (c : Command) (n : ℕ) (s : List Bool) (ss : List (List Bool)) (tail : List Bool) (h : n < 1024) (p : 0 < length s) (e : length s ≡ sliceLength (d .registers) c) where
-  cut-early : (m : ℕ) → m < 24 + length s → (runDevice d (take m (frameStates c n (s ∷ ss) tail))) .1 ≡ []
-  cut-early m l =
+module _ (e : Edge) (d : Device) (c : Command) (n : ℕ) (s : List Bool) (ss : List (List Bool)) (tail : List Bool)
+    (h : n < 1024) (p : 0 < length s) (q : length s ≡ sliceLength (d .registers) c) where
+  cut-before : (m : ℕ) → m < 24 + length s → (runDevice d (take m (frameStates e c n (s ∷ ss) tail))) .1 ≡ []
+  cut-before m l =
       let k : ℕ = pred (sliceLength (d .registers) c) in
-      let f : List State = frameStates c n (s ∷ ss) tail in
+      let f : List State = frameStates e c n (s ∷ ss) tail in
       let bs : List Bool = take k (flatten (s ∷ ss) ++ tail) in
       let t : take m (take (24 + k) f) ≡ take m f = take-take m (24 + k) f (omega arith) in
       let b : length bs ≤ k = rw length-take (omega arith) in
-      rw (← t, take-frame c n (s ∷ ss) tail k) (silent d (frameStates c n [] bs) m (part-framed d c n bs h b))
+      rw (← t, take-frame e c n (s ∷ ss) tail k) (silent d (frameStates e c n [] bs) m (part-framed e d c n bs h b))
 
-  cut-late : (k : ℕ) → runDevice d (take (24 + (length s + k)) (frameStates c n (s ∷ ss) tail))
-      ≡ (at (load c s (d .registers)) passing, take (24 + k) (frameStates c (counted n (fault c (d .registers))) ss tail))
-  cut-late k = rw (take-first, take-frame) (framed d c n s [] (take k (flatten ss ++ tail)) h p e)
+  cut-behind : (k : ℕ) → runDevice d (take (24 + (length s + k)) (frameStates e c n (s ∷ ss) tail))
+      ≡ (at (load c s (d .registers)) passing, take (24 + k) (frameStates exact c (counted n (fault c (d .registers))) ss tail))
+  cut-behind k = rw (take-first, take-frame) (framed e d c n s [] (take k (flatten ss ++ tail)) h p q)
 
 -- each device its slice, as far as m states of the frame reach
 unfoldable pub cutAll : Command → ℕ → List (List Bool) → List Registers → List Registers
@@ -88,29 +90,30 @@ cutAll c m [] rs = rs
 cutAll c m (s ∷ ss) [] = []
 cutAll c m (s ∷ ss) (r ∷ rs) = cond (leb (24 + length s) m) (load c s r ∷ cutAll c (m - length s) ss rs) (r ∷ rs)
 
-cut-frame : (c : Command) (m : ℕ) (ds : List Device) (n : ℕ) (ss : List (List Bool)) (tail : List Bool) → n < 1024 → Fits c ss (registersIn ds)
-    → registersIn ((runChain ds (take m (frameStates c n ss tail))) .0) ≡ cutAll c m ss (registersIn ds)
+cut-frame : (e : Edge) (c : Command) (m : ℕ) (ds : List Device) (n : ℕ) (ss : List (List Bool)) (tail : List Bool) → n < 1024 → Fits c ss (registersIn ds)
+    → registersIn ((runChain ds (take m (frameStates e c n ss tail))) .0) ≡ cutAll c m ss (registersIn ds)
 unfolding cutAll
-cut-frame c m [] n [] tail h f = rw (chain-empty stepDevice (take m (frameStates c n [] tail)))
-cut-frame c m [] n (s ∷ ss) tail h f = absurd f
-cut-frame c m (d ∷ ds) n [] tail h f = absurd f
-cut-frame c m (d ∷ ds) n (s ∷ ss) tail h f = go (leb (24 + length s) m) refl (cut-frame c (m - length s) ds (counted n (fault c (d .registers))) ss tail (omega arith) (f .1))
+cut-frame e c m [] n [] tail h f = rw (chain-empty stepDevice (take m (frameStates e c n [] tail)))
+cut-frame e c m [] n (s ∷ ss) tail h f = absurd f
+cut-frame e c m (d ∷ ds) n [] tail h f = absurd f
+cut-frame e c m (d ∷ ds) n (s ∷ ss) tail h f =
+    go (leb (24 + length s) m) refl (cut-frame exact c (m - length s) ds (counted n (fault c (d .registers))) ss tail (omega arith) (f .1))
   where
     go : (b : Bool) → leb (24 + length s) m ≡ b
-        → registersIn ((runChain ds (take (m - length s) (frameStates c (counted n (fault c (d .registers))) ss tail))) .0) ≡ cutAll c (m - length s) ss (registersIn ds)
-        → registersIn ((runChain (d ∷ ds) (take m (frameStates c n (s ∷ ss) tail))) .0)
+        → registersIn ((runChain ds (take (m - length s) (frameStates exact c (counted n (fault c (d .registers))) ss tail))) .0) ≡ cutAll c (m - length s) ss (registersIn ds)
+        → registersIn ((runChain (d ∷ ds) (take m (frameStates e c n (s ∷ ss) tail))) .0)
         ≡ cond b (load c s (d .registers) ∷ cutAll c (m - length s) ss (registersIn ds)) (d .registers ∷ registersIn ds)
-    go true e i =
-        let l : 24 + length s ≤ m = leb→le (24 + length s) m (rw e tt) in
+    go true t i =
+        let l : 24 + length s ≤ m = leb→le (24 + length s) m (rw t tt) in
         let k : ℕ = m - (24 + length s) in
         let u : 24 + (length s + k) ≡ m = omega arith in
         let v : 24 + k ≡ m - length s = omega arith in
-        let q = rw (u, v) at (cut-late d c n s ss tail h (f .0 .0) (f .0 .1) k) in
-        rw (chain-cons stepDevice d ds (take m (frameStates c n (s ∷ ss) tail)) q refl, i)
-    go false e i =
-        let l : m < 24 + length s = nleb→lt (24 + length s) m (rw e tt) in
-        let q = cut-early d c n s ss tail h (f .0 .0) (f .0 .1) m l in
-        rw (chain-silent stepDevice d ds (take m (frameStates c n (s ∷ ss) tail)) q, still d (take m (frameStates c n (s ∷ ss) tail)) q)
+        let q = rw (u, v) at (cut-behind e d c n s ss tail h (f .0 .0) (f .0 .1) k) in
+        rw (chain-cons stepDevice d ds (take m (frameStates e c n (s ∷ ss) tail)) q refl, i)
+    go false t i =
+        let l : m < 24 + length s = nleb→lt (24 + length s) m (rw t tt) in
+        let q = cut-before e d c n s ss tail h (f .0 .0) (f .0 .1) m l in
+        rw (chain-silent stepDevice d ds (take m (frameStates e c n (s ∷ ss) tail)) q, still d (take m (frameStates e c n (s ∷ ss) tail)) q)
 
 cut-full : (c : Command) (m : ℕ) (ss : List (List Bool)) (rs : List Registers) → 24 + length (flatten ss) ≤ m → cutAll c m ss rs ≡ loadAll c ss rs
 unfolding cutAll loadAll flatten
@@ -174,8 +177,8 @@ cut-piece : (k : ℕ) (p : Piece) (ds : List Device) → Fits (p .kind) (p .slic
 unfolding pieceStates
 cut-piece k p ds f =
     let q : registersIn ((runChain ds (lows (take k (p .gap)))) .0) ≡ registersIn ds = quiet (take k (p .gap)) ds in
-    let e = cut-frame (p .kind) (k - length (p .gap)) ((runChain ds (lows (take k (p .gap)))) .0) 0 (p .slices) (p .tail) (omega arith) (rw q f) in
-    rw (take-append k (lows (p .gap)) (frameStates (p .kind) 0 (p .slices) (p .tail)), take-map, length-map, chain-append) (e ∙ rw q)
+    let e = cut-frame (p .edge) (p .kind) (k - length (p .gap)) ((runChain ds (lows (take k (p .gap)))) .0) 0 (p .slices) (p .tail) (omega arith) (rw q f) in
+    rw (take-append k (lows (p .gap)) (frameStates (p .edge) (p .kind) 0 (p .slices) (p .tail)), take-map, length-map, chain-append) (e ∙ rw q)
 
 pieces-none : (ps : List Piece) (rs : List Registers) → cutPieces 0 ps rs ≡ rs
 unfolding cutPieces
@@ -184,7 +187,7 @@ pieces-none (p ∷ ps) rs = rw (zero-sub, zero-sub, cut-none) (pieces-none ps rs
 
 pub length-states : (p : Piece) → length (pieceStates p) ≡ length (p .gap) + (24 + (length (flatten (p .slices)) + length (p .tail)))
 unfolding pieceStates
-length-states p = rw (length-append, length-map, frame-states, length-append, length-headerStates, length-map, length-append)
+length-states p = rw (length-append, length-map, frame-states, length-append, length-headerAt, length-map, length-append)
 
 pub cut-pieces : (ps : List Piece) (k : ℕ) (ds : List Device) → FitsAll ps (registersIn ds)
     → registersIn ((runChain ds (take k (flatten (map pieceStates ps)))) .0) ≡ cutPieces k ps (registersIn ds)

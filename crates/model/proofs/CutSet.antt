@@ -8,13 +8,13 @@ use native.Mathlib.Omega.{arith}
 use lib.Dec.{T, leb, leb→le, le→leb}
 use lib.ListN.{length, take, getD, length-map}
 use Rattle.parts.specs.Parts.{Part}
-use Rattle.parts.specs.Wire.{low, lows}
+use Rattle.parts.specs.Wire.{low, Edge, lows}
 use Rattle.parts.specs.declared.command.Command.{Command}
 use Rattle.parts.specs.declared.command.Command.the-variants.{Individual, Calibration, Global, Configuration}
 use Rattle.model.specs.Lists.{Pairwise}
 use Rattle.model.specs.Device.{Values, Registers, Device, multiplexed, evens, odds, withIndividual, load, stepDevice, runChain, registersIn}
 use Rattle.model.specs.Set.{Own, OwnProper, sliceOf}
-use Rattle.model.specs.Restore.{pieceStates, piecesOf, pieceOf, piecesStates, statesUntil, CutFields}
+use Rattle.model.specs.Restore.{pieceStates, piecesOf, pieceOf, piecesStates, statesIn, statesUntil, CutFields}
 use Rattle.model.proofs.Lists.{true-of, leb-same, pairwise-at, pairwise-length, getD-map, length-flatten-take, take-append, take-map}
 use Rattle.machine.proofs.Machine.{chain-append}
 use Rattle.model.proofs.Frame.{quiet}
@@ -94,8 +94,8 @@ module _ (w : Part) (o : Own) (p : OwnProper w o) (r : Registers) (e : r .part �
   cut-fields : (b1 b2 b3 b4 : Bool) → (T b4 → T b1) → CutBy b1 b2 b3 b4 o r (cut Individual b4 (cut Global b3 (cut Calibration b2 (cut Configuration b1 r))))
   cut-fields b1 b2 b3 b4 i = cut4 b1 b2 b3 b4 _ i (cut3 b1 b2 b3 _ (cut2 b1 b2 _ (cut1 b1)))
 
-module _ (w : Part) (os : List Own) (gap tail : Command → List Bool) where
-  fits-four : (rs : List Registers) → Pairwise (Ready w) os rs → FitsAll (piecesOf w os gap tail) rs
+module _ (w : Part) (os : List Own) (edge : Command → Edge) (gap tail : Command → List Bool) where
+  fits-four : (rs : List Registers) → Pairwise (Ready w) os rs → FitsAll (piecesOf w os edge gap tail) rs
   unfolding piecesOf
   fits-four rs b = (
     pairwise-fits w Configuration (Ready w) (Ready w) (fit-configuration w) os rs b,
@@ -118,35 +118,41 @@ module _ (w : Part) (os : List Own) (gap tail : Command → List Bool) where
       let n : length ss ≡ length os = length-map os (sliceOf w c) in
       cut-at c m ss rs i z (omega arith) (l ∙ sym n) ∙ rw (leb-same (24 + length (flatten (take (suc i) ss))) m (statesUntil w os gap tail c (suc i)) k f g, getD-map (sliceOf w c) os i o [] h)
 
+  length-piece : (c : Command) → length (pieceStates (pieceOf w os edge gap tail c)) ≡ statesIn w os gap tail c
+  length-piece c = length-states (pieceOf w os edge gap tail c)
+
   -- Configuration arrives first
   order : (k i : ℕ) → T (leb (statesUntil w os gap tail Individual (suc i)) k) → T (leb (statesUntil w os gap tail Configuration (suc i)) k)
   order k i t =
       let l = leb→le (statesUntil w os gap tail Individual (suc i)) k t in
-      le→leb (statesUntil w os gap tail Configuration (suc i)) k (omega (arith, length-states (pieceOf w os gap tail Configuration), length-flatten-take (suc i) (map (sliceOf w Configuration) os)))
+      le→leb (statesUntil w os gap tail Configuration (suc i)) k (omega (arith, length-flatten-take (suc i) (map (sliceOf w Configuration) os)))
 
   -- Cut: after k states of the restore, in device i (from 0)
   cut-restore : (ds : List Device) → Pairwise (Ready w) os (registersIn ds) → (k i : ℕ) (o : Own) (z : Registers) → i < length os
       → CutFields (λ c. leb (statesUntil w os gap tail c (suc i)) k) (getD os i o) (getD (registersIn ds) i z)
-      (getD (registersIn ((runChain ds (take k (piecesStates w os gap tail))) .0)) i z)
+      (getD (registersIn ((runChain ds (take k (piecesStates w os edge gap tail))) .0)) i z)
   unfolding piecesOf cutPieces
   cut-restore ds b k i o z h =
       let rs : List Registers = registersIn ds in
       let r = pairwise-at (Ready w) os rs i o z h b in
       let n : length rs ≡ length os = pairwise-length (Ready w) os rs b in
-      let e = cut-pieces (piecesOf w os gap tail) k ds (fits-four rs b) in
-      let j1 : ℕ = k - length (pieceStates (pieceOf w os gap tail Configuration)) in
-      let j2 : ℕ = j1 - length (pieceStates (pieceOf w os gap tail Calibration)) in
-      let j3 : ℕ = j2 - length (pieceStates (pieceOf w os gap tail Global)) in
+      let n1 = length-piece Configuration in
+      let n2 = length-piece Calibration in
+      let n3 = length-piece Global in
+      let e = rw (n1, n2, n3) at (cut-pieces (piecesOf w os edge gap tail) k ds (fits-four rs b)) in
+      let j1 : ℕ = k - statesIn w os gap tail Configuration in
+      let j2 : ℕ = j1 - statesIn w os gap tail Calibration in
+      let j3 : ℕ = j2 - statesIn w os gap tail Global in
       let c1 : List Registers = cutAll Configuration (k - length (gap Configuration)) (map (sliceOf w Configuration) os) rs in
       let c2 : List Registers = cutAll Calibration (j1 - length (gap Calibration)) (map (sliceOf w Calibration) os) c1 in
       let c3 : List Registers = cutAll Global (j2 - length (gap Global)) (map (sliceOf w Global) os) c2 in
-      let n1 : length c1 ≡ length os = rw length-cut n in
-      let n2 : length c2 ≡ length os = rw length-cut n1 in
-      let n3 : length c3 ≡ length os = rw length-cut n2 in
+      let l1 : length c1 ≡ length os = rw length-cut n in
+      let l2 : length c2 ≡ length os = rw length-cut l1 in
+      let l3 : length c3 ≡ length os = rw length-cut l2 in
       let f1 = cut-step Configuration (k - length (gap Configuration)) k i rs o z h n (omega arith) (omega arith) in
-      let f2 = cut-step Calibration (j1 - length (gap Calibration)) k i c1 o z h n1 (omega arith) (omega arith) in
-      let f3 = cut-step Global (j2 - length (gap Global)) k i c2 o z h n2 (omega arith) (omega arith) in
-      let f4 = cut-step Individual (j3 - length (gap Individual)) k i c3 o z h n3 (omega arith) (omega arith) in
+      let f2 = cut-step Calibration (j1 - length (gap Calibration)) k i c1 o z h l1 (omega arith) (omega arith) in
+      let f3 = cut-step Global (j2 - length (gap Global)) k i c2 o z h l2 (omega arith) (omega arith) in
+      let f4 = cut-step Individual (j3 - length (gap Individual)) k i c3 o z h l3 (omega arith) (omega arith) in
       let arrived : Command → Bool = λ c. leb (statesUntil w os gap tail c (suc i)) k in
       let g = cut-fields w (getD os i o) (r .0) (getD rs i z) (r .1) (arrived Configuration) (arrived Calibration) (arrived Global) (arrived Individual) (order k i) in
       by-tests arrived (getD os i o) (getD rs i z) _ (rw (e, f4, f3, f2, f1) g)
@@ -154,12 +160,12 @@ module _ (w : Part) (os : List Own) (gap tail : Command → List Bool) where
   -- with low clocks after the last frame, which change no register
   pub cut-sent : (ds : List Device) → Pairwise (Ready w) os (registersIn ds) → (last : List Bool) (k i : ℕ) (o : Own) (z : Registers) → i < length os
       → CutFields (λ c. leb (statesUntil w os gap tail c (suc i)) k) (getD os i o) (getD (registersIn ds) i z)
-      (getD (registersIn ((runChain ds (take k (piecesStates w os gap tail ++ lows last))) .0)) i z)
+      (getD (registersIn ((runChain ds (take k (piecesStates w os edge gap tail ++ lows last))) .0)) i z)
   cut-sent ds b last k i o z h =
       rw (
-        take-append k (piecesStates w os gap tail) (lows last),
-        take-map low (k - length (piecesStates w os gap tail)) last,
-        chain-append stepDevice ds (take k (piecesStates w os gap tail)) (lows (take (k - length (piecesStates w os gap tail)) last)),
-        quiet (take (k - length (piecesStates w os gap tail)) last) ((runChain ds (take k (piecesStates w os gap tail))) .0),
+        take-append k (piecesStates w os edge gap tail) (lows last),
+        take-map low (k - length (piecesStates w os edge gap tail)) last,
+        chain-append stepDevice ds (take k (piecesStates w os edge gap tail)) (lows (take (k - length (piecesStates w os edge gap tail)) last)),
+        quiet (take (k - length (piecesStates w os edge gap tail)) last) ((runChain ds (take k (piecesStates w os edge gap tail))) .0),
       )
       (cut-restore ds b k i o z h)

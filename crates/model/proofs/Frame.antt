@@ -1,32 +1,25 @@
--- One frame through a device from any phase, and through a chain. SYNC is found whatever came before; a device takes the first slice and
--- sends on the frame of the others; a chain goes by induction on its devices. Assumes nothing.
-use mathlib.Core.Path.{_≡_, refl, ap, _∙_}
-use mathlib.Core.Bool.{Bool}
+-- One frame, sent with any edge, through a device from any phase, and through a chain. SYNC is found whatever came before; a device takes
+-- the first slice and sends on the frame of the others, with the exact edge; a chain goes by induction on its devices. Assumes nothing.
+use mathlib.Core.Path.{_≡_, refl, _∙_}
+use mathlib.Core.Bool.{Bool, false}
 use mathlib.Core.List.{List, [], _∷_, _++_, map, flatten, append-assoc, append-nil, map-append}
 use Prim.Native.Nat.{ℕ, zero, suc, pred, _+_, _*_, _%_, _^_, _<_}
 use native.Mathlib.Nat.{mod-eq-of-lt}
 use native.Mathlib.Omega.{arith}
-use lib.ListN.{length}
+use lib.ListN.{length, take, drop, getD}
 use Rattle.bits.specs.Bits.{digit, bits, number}
 use Rattle.bits.proofs.Laws.{length-bits, number-bits}
-use Rattle.parts.specs.Wire.{State, low, high, lows, highs, sync}
+use Rattle.parts.specs.Wire.{State, low, high, lows, highs, Edge, early, exact, late, clockedAt, sync}
 use Rattle.parts.specs.declared.command.Command.{Command}
 use Rattle.parts.specs.declared.command.Command.the-variants.{Individual, Calibration, Global, Configuration}
 use Rattle.model.specs.Lists.{Pairwise, howMany}
 use Rattle.machine.specs.Machine.{run, chain}
 use Rattle.model.specs.Device.{Registers, Device, Phase, hunting, taking, passing, Field, command, count, slice, at}
-use Rattle.model.specs.Device.{sliceLength, load, fault, faults, counted, finish, headerStates, frameStates, stepDevice, runDevice, runChain, registersIn, window}
+use Rattle.model.specs.Device.{sliceLength, load, fault, faults, counted, finish, named, headerStates, frameStates, stepDevice, runDevice, runChain, registersIn, window}
 use Rattle.model.proofs.Lists.{howMany-cons}
 use Rattle.machine.proofs.Machine.{run-then, chain-cons, chain-nil}
-use Rattle.model.proofs.Wire.{pairs, header-states, frame-states}
-
--- SYNC is recognised whatever came before
-eight : (w : ℕ) → ((((((((w * 2 + 1) % 256 * 2 + 1) % 256 * 2 + 1) % 256 * 2 + 0) % 256 * 2 + 1) % 256 * 2 + 0) % 256 * 2 + 0) % 256 * 2 + 0) % 256 ≡ 232
-eight w = omega arith
-
-sync-any : (r : Registers) (p : Phase) → runDevice (at r p) (lows sync) ≡ (at r (hunting 0xE8), [])
-unfolding run stepDevice bits
-sync-any r p = ap (λ (n : ℕ). (at r (hunting n), [])) (eight (window p))
+use Rattle.model.proofs.Wire.{pairs, opening, headerAt, header-states, frame-states}
+use Rattle.model.proofs.Edge.{opened}
 
 -- a field is collected at high load, whatever follows
 taking-run : (r : Registers) (f : Field) (n : ℕ) (got bs : List Bool) → length bs ≡ suc n
@@ -43,33 +36,53 @@ passed r [] = refl
 passed r (b ∷ bs) = rw (passed r bs)
 
 -- the six command bits
-commanded : (r : Registers) (c : Command) → runDevice (at r (hunting 0xE8)) (highs (pairs c)) ≡ (at r (taking (count c) 9 []), [])
-unfolding run stepDevice bits number
-commanded r Individual = refl
-commanded r Calibration = refl
-commanded r Global = refl
-commanded r Configuration = refl
+named-pairs : (c : Command) → named (number (pairs c)) ≡ taking (count c) 9 []
+unfolding bits number
+named-pairs Individual = refl
+named-pairs Calibration = refl
+named-pairs Global = refl
+named-pairs Configuration = refl
+
+-- after the edge, the command bits that are still to come
+begun-then : (d : Device) (c : Command) (ls : List State) (n : ℕ) (got bs : List Bool) → runDevice d ls ≡ (at (d .registers) (taking command n got), [])
+    → length bs ≡ suc n → got ++ bs ≡ pairs c
+    → runDevice d (ls ++ highs bs) ≡ (at (d .registers) (taking (count c) 9 []), [])
+begun-then d c ls n got bs e l p = run-then stepDevice d ls (highs bs) e (taking-run (d .registers) command n got bs l ∙ rw (p, named-pairs c))
+
+-- SYNC and the command, with any edge and from any phase
+commanded : (e : Edge) (d : Device) (c : Command) → runDevice d (clockedAt e (opening c)) ≡ (at (d .registers) (taking (count c) 9 []), [])
+unfolding clockedAt bits
+commanded early d c =
+    begun-then d c (lows (take 7 sync) ++ high false ∷ []) 5 [] (pairs c)
+    (opened early (d .registers) (d .phase) (take 7 sync) false [] (([], refl), refl, refl)) refl refl
+commanded exact d c =
+    let b : Bool = getD (pairs c) 0 false in
+    begun-then d c (lows sync ++ high b ∷ []) 4 (b ∷ []) (drop 1 (pairs c))
+    (opened exact (d .registers) (d .phase) sync b (b ∷ []) (([], refl), refl)) refl refl
+commanded late d c =
+    let b : Bool = getD (pairs c) 0 false in
+    let next : Bool = getD (pairs c) 1 false in
+    begun-then d c (lows (sync ++ b ∷ []) ++ high next ∷ []) 3 (b ∷ next ∷ []) (drop 2 (pairs c))
+    (opened late (d .registers) (d .phase) (sync ++ b ∷ []) next (b ∷ next ∷ []) (b, ([], refl), refl)) refl refl
 
 highs-then : (d : Device) (a b : List Bool) {t u : Device} {o q : List State} → runDevice d (highs a) ≡ (t, o) → runDevice t (highs b) ≡ (u, q) → runDevice d (highs (a ++ b)) ≡ (u, o ++ q)
 highs-then d a b e f = rw (map-append high a b) (run-then stepDevice d (highs a) (highs b) e f)
 
--- a header, from any phase
-pub headed : (d : Device) (c : Command) (n : ℕ) → n < 1024
-    → runDevice d (headerStates c n) ≡ (at (d .registers) (taking (slice c n) (pred (sliceLength (d .registers) c)) []), [])
-headed d c n h =
+-- a header, with any edge and from any phase: the start of the slice
+pub headed : (e : Edge) (d : Device) (c : Command) (n : ℕ) → n < 1024
+    → runDevice d (headerAt e c n) ≡ (at (d .registers) (taking (slice c n) (pred (sliceLength (d .registers) c)) []), [])
+headed e d c n h =
     let m : n % 2 ^ 10 ≡ n = mod-eq-of-lt h in
-    let e = taking-run (d .registers) (count c) 9 [] (bits 10 n) (length-bits 10 n) in
-    rw (header-states c n)
-    (run-then stepDevice d (lows sync) (highs (pairs c ++ bits 10 n)) (sync-any (d .registers) (d .phase))
-    (highs-then _ (pairs c) (bits 10 n) (commanded (d .registers) c) (rw (number-bits 10 n, m) at e)))
+    let t = taking-run (d .registers) (count c) 9 [] (bits 10 n) (length-bits 10 n) in
+    rw (header-states e c n) (run-then stepDevice d (clockedAt e (opening c)) (highs (bits 10 n)) (commanded e d c) (rw (number-bits 10 n, m) at t))
 
--- A device takes the first slice of a frame and sends on the frame of the others
-pub framed : (d : Device) (c : Command) (n : ℕ) (s : List Bool) (ss : List (List Bool)) (tail : List Bool) → n < 1024 → 0 < length s → length s ≡ sliceLength (d .registers) c
-    → runDevice d (frameStates c n (s ∷ ss) tail) ≡ (at (load c s (d .registers)) passing, frameStates c (counted n (fault c (d .registers))) ss tail)
-unfolding flatten
-framed d c n s ss tail h p e =
-    rw (frame-states c n (s ∷ ss) tail, frame-states c (counted n (fault c (d .registers))) ss tail, append-assoc s (flatten ss) tail)
-    (run-then stepDevice d (headerStates c n) _ (headed d c n h)
+-- A device takes the first slice of a frame and sends on the frame of the others, with the exact edge
+pub framed : (e : Edge) (d : Device) (c : Command) (n : ℕ) (s : List Bool) (ss : List (List Bool)) (tail : List Bool) → n < 1024 → 0 < length s → length s ≡ sliceLength (d .registers) c
+    → runDevice d (frameStates e c n (s ∷ ss) tail) ≡ (at (load c s (d .registers)) passing, frameStates exact c (counted n (fault c (d .registers))) ss tail)
+unfolding flatten headerStates
+framed e d c n s ss tail h p l =
+    rw (frame-states e c n (s ∷ ss) tail, frame-states exact c (counted n (fault c (d .registers))) ss tail, append-assoc s (flatten ss) tail)
+    (run-then stepDevice d (headerAt e c n) _ (headed e d c n h)
     (highs-then _ s (flatten ss ++ tail) (taking-run (d .registers) (slice c n) (pred (sliceLength (d .registers) c)) [] s (omega arith)) (passed _ (flatten ss ++ tail))))
 
 -- every device its slice
@@ -84,23 +97,39 @@ Fits c ss rs = Pairwise (λ s r. (0 < length s) × (length s ≡ sliceLength r c
 abbrev pub passings : List Registers → List Device
 passings rs = map (λ r. at r passing) rs
 
--- A frame through a chain, from any phases
-pub framed-all : (c : Command) (ds : List Device) (n : ℕ) (ss : List (List Bool)) (tail : List Bool) → n < 1024 → Fits c ss (registersIn ds)
-    → runChain ds (frameStates c n ss tail) ≡ (passings (loadAll c ss (registersIn ds)), frameStates c ((n + faults c (registersIn ds)) % 1024) [] tail)
+-- the edge of what leaves a chain: every device sends the exact one
+abbrev leaving : Edge → List Device → Edge
+leaving e [] = e
+leaving e (d ∷ ds) = exact
+
+leaving-exact : (ds : List Device) → leaving exact ds ≡ exact
+leaving-exact [] = refl
+leaving-exact (d ∷ ds) = refl
+
+-- A frame through a chain, with any edge and from any phases
+framed-any : (e : Edge) (c : Command) (ds : List Device) (n : ℕ) (ss : List (List Bool)) (tail : List Bool) → n < 1024 → Fits c ss (registersIn ds)
+    → runChain ds (frameStates e c n ss tail) ≡ (passings (loadAll c ss (registersIn ds)), frameStates (leaving e ds) c ((n + faults c (registersIn ds)) % 1024) [] tail)
 unfolding loadAll howMany chain
-framed-all c [] n [] tail h f = let e : (n + 0) % 1024 ≡ n = omega arith in rw e
-framed-all c [] n (s ∷ ss) tail h f = absurd f
-framed-all c (d ∷ ds) n [] tail h f = absurd f
-framed-all c (d ∷ ds) n (s ∷ ss) tail h f =
-    let e : ((counted n (fault c (d .registers))) + faults c (registersIn ds)) % 1024 ≡ (n + (digit (fault c (d .registers)) + faults c (registersIn ds))) % 1024 = omega arith in
+framed-any e c [] n [] tail h f = let z : (n + 0) % 1024 ≡ n = omega arith in rw z
+framed-any e c [] n (s ∷ ss) tail h f = absurd f
+framed-any e c (d ∷ ds) n [] tail h f = absurd f
+framed-any e c (d ∷ ds) n (s ∷ ss) tail h f =
+    let z : ((counted n (fault c (d .registers))) + faults c (registersIn ds)) % 1024 ≡ (n + (digit (fault c (d .registers)) + faults c (registersIn ds))) % 1024 = omega arith in
     let t = howMany-cons (fault c) (d .registers) (registersIn ds) in
-    rw t (chain-cons stepDevice d ds _ (framed d c n s ss tail h (f .0 .0) (f .0 .1)) (rw e at (framed-all c ds (counted n (fault c (d .registers))) ss tail (omega arith) (f .1))))
+    rw t (chain-cons stepDevice d ds _ (framed e d c n s ss tail h (f .0 .0) (f .0 .1))
+    (rw (z, leaving-exact ds) at (framed-any exact c ds (counted n (fault c (d .registers))) ss tail (omega arith) (f .1))))
+
+-- of one device or more: what leaves has the exact edge
+pub framed-all : (e : Edge) (c : Command) (ds : List Device) (n : ℕ) (ss : List (List Bool)) (tail : List Bool) → 0 < length ds → n < 1024 → Fits c ss (registersIn ds)
+    → runChain ds (frameStates e c n ss tail) ≡ (passings (loadAll c ss (registersIn ds)), frameStates exact c ((n + faults c (registersIn ds)) % 1024) [] tail)
+framed-all e c [] n ss tail l h f = absurd (omega arith)
+framed-all e c (d ∷ ds) n ss tail l h f = framed-any e c (d ∷ ds) n ss tail h f
 
 -- clocks at low load change nothing but phases
 quiet-one : (g : List Bool) (d : Device) → (p : Phase) × (runDevice d (lows g) ≡ (at (d .registers) p, []))
 unfolding run stepDevice
 quiet-one [] d = (d .phase, refl)
-quiet-one (b ∷ g) d = quiet-one g (at (d .registers) (hunting ((window (d .phase) * 2 + digit b) % 256)))
+quiet-one (b ∷ g) d = quiet-one g (at (d .registers) (hunting ((window (d .phase) * 2 + digit b) % 512)))
 
 pub quiet : (g : List Bool) (ds : List Device) → registersIn ((runChain ds (lows g)) .0) ≡ registersIn ds
 unfolding chain

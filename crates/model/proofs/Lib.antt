@@ -1,6 +1,7 @@
 -- Laws of lists, of frames and sets, and what a restore, whole or cut, does to a chain.
 pub mod Lists
 pub mod Wire
+pub mod Edge
 pub mod Frame
 pub mod Set
 pub mod Devices

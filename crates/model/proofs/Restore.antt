@@ -2,14 +2,14 @@
 -- between what is a device's own and its registers grows by one register with each frame. Assumes nothing.
 use mathlib.Core.Path.{_≡_, refl, ap, _∙_}
 use mathlib.Core.Bool.{Bool, true, false}
-use mathlib.Core.List.{List, [], _∷_, _++_, map, flatten, map-append}
+use mathlib.Core.List.{List, [], _∷_, _++_, map, flatten}
 use Prim.Native.Nat.{ℕ, suc, _+_, _*_, _%_, _<_}
 use native.Mathlib.Omega.{arith}
 use native.Mathlib.Nat.{mul-pos}
-use lib.ListN.{length, length-replicate}
+use lib.ListN.{length, length-map, length-replicate}
 use Rattle.bits.proofs.Laws.{length-fields}
 use Rattle.parts.specs.Parts.{Part, multiplex}
-use Rattle.parts.specs.Wire.{State, lows, dataBit, returnOf}
+use Rattle.parts.specs.Wire.{State, Edge, lows, clocked, returnOf}
 use Rattle.parts.specs.declared.command.Command.{Command}
 use Rattle.parts.specs.declared.command.Command.the-variants.{Individual, Calibration, Global, Configuration}
 use Rattle.model.specs.Lists.{Pairwise, howMany}
@@ -20,7 +20,7 @@ use Rattle.model.specs.Set.{Own, OwnProper, sliceOf}
 use Rattle.model.specs.Restore.{Piece, pieceStates, pieceOf, piecesOf, returnsOf, InUse, RegistersHold}
 use Rattle.model.proofs.Lists.{pairwise-map, howMany-le}
 use Rattle.machine.proofs.Machine.{chain-append, chain-nil, length-chain}
-use Rattle.model.proofs.Wire.{bits-return}
+use Rattle.model.proofs.Wire.{return-states}
 use Rattle.model.proofs.Frame.{loadAll, Fits, passings, framed-all, quiet, quiet-sends}
 use Rattle.model.proofs.Set.{load-configuration, load-calibration, load-global, load-individual}
 
@@ -30,13 +30,13 @@ afterGap ds p = (runChain ds (lows (p .gap))) .0
 
 -- that frame
 abbrev pieceFrame : Piece → List State
-pieceFrame p = frameStates (p .kind) 0 (p .slices) (p .tail)
+pieceFrame p = frameStates (p .edge) (p .kind) 0 (p .slices) (p .tail)
 
 -- the chain afterwards, and what the last device sends while the frame comes in
-unfoldable pub sendPiece : List Device → Piece → List Device × List (List Bool)
-sendPiece ds p = ((runChain (afterGap ds p) (pieceFrame p)) .0, map dataBit ((runChain (afterGap ds p) (pieceFrame p)) .1) ∷ [])
+unfoldable pub sendPiece : List Device → Piece → List Device × List (List State)
+sendPiece ds p = ((runChain (afterGap ds p) (pieceFrame p)) .0, (runChain (afterGap ds p) (pieceFrame p)) .1 ∷ [])
 
-unfoldable pub sendPieces : List Device → List Piece → List Device × List (List Bool)
+unfoldable pub sendPieces : List Device → List Piece → List Device × List (List State)
 sendPieces ds [] = (ds, [])
 sendPieces ds (p ∷ ps) = andThen (sendPiece ds p) (λ t. sendPieces t ps)
 
@@ -49,7 +49,7 @@ pieces-run ds (p ∷ ps) =
     ∙ rw (chain-append stepDevice ds (lows (p .gap) ++ pieceFrame p) (flatten (map pieceStates ps)), chain-append stepDevice ds (lows (p .gap)) (pieceFrame p))
 
 -- a chain of one or more devices sends, over all the states, the returns and nothing else
-pub pieces-sent : (ds : List Device) (ps : List Piece) → 0 < length ds → map dataBit ((runChain ds (flatten (map pieceStates ps))) .1) ≡ flatten ((sendPieces ds ps) .1)
+pub pieces-sent : (ds : List Device) (ps : List Piece) → 0 < length ds → (runChain ds (flatten (map pieceStates ps))) .1 ≡ flatten ((sendPieces ds ps) .1)
 unfolding sendPieces sendPiece pieceStates flatten
 pieces-sent ds [] h = rw (chain-nil stepDevice ds)
 pieces-sent ds (p ∷ ps) h =
@@ -58,22 +58,24 @@ pieces-sent ds (p ∷ ps) h =
       chain-append stepDevice ds (lows (p .gap) ++ pieceFrame p) (flatten (map pieceStates ps)),
       chain-append stepDevice ds (lows (p .gap)) (pieceFrame p),
       quiet-sends (p .gap) ds h,
-      map-append,
       i,
     )
 
-piece-law : (ds : List Device) (rs : List Registers) (p : Piece) → registersIn ds ≡ rs → length rs < 1024 → Fits (p .kind) (p .slices) rs
-    → sendPiece ds p ≡ (passings (loadAll (p .kind) (p .slices) rs), returnOf (p .kind) (faults (p .kind) rs) (p .tail) ∷ [])
+piece-law : (ds : List Device) (rs : List Registers) (p : Piece) → 0 < length ds → registersIn ds ≡ rs → length rs < 1024 → Fits (p .kind) (p .slices) rs
+    → sendPiece ds p ≡ (passings (loadAll (p .kind) (p .slices) rs), clocked (returnOf (p .kind) (faults (p .kind) rs) (p .tail)) ∷ [])
 unfolding sendPiece
-piece-law ds rs p e h f =
+piece-law ds rs p l e h f =
     let a : List Device = afterGap ds p in
     let q : registersIn a ≡ rs = quiet (p .gap) ds ∙ e in
     let m : (0 + faults (p .kind) rs) % 1024 ≡ faults (p .kind) rs = omega (arith, howMany-le (fault (p .kind)) rs) in
-    rw (rw (q, m) at (framed-all (p .kind) a 0 (p .slices) (p .tail) (omega arith) (rw q f)), bits-return)
+    rw (rw (q, m) at (framed-all (p .edge) (p .kind) a 0 (p .slices) (p .tail) (rw length-chain l) (omega arith) (rw q f)), return-states)
 
 registers-passings : (rs : List Registers) → registersIn (passings rs) ≡ rs
 registers-passings [] = refl
 registers-passings (r ∷ rs) = rw (registers-passings rs)
+
+some : (rs : List Registers) → 0 < length rs → 0 < length (passings rs)
+some rs h = rw length-map h
 
 length-load : (c : Command) (ss : List (List Bool)) (rs : List Registers) → length (loadAll c ss rs) ≡ length rs
 unfolding loadAll
@@ -201,7 +203,7 @@ unfolding boundary
 registers-boundary [] = refl
 registers-boundary (d ∷ ds) = rw (registers-boundary ds)
 
-pieces-then : (ds : List Device) (p : Piece) (ps : List Piece) {t u : List Device} {o q : List (List Bool)}
+pieces-then : (ds : List Device) (p : Piece) (ps : List Piece) {t u : List Device} {o q : List (List State)}
     → sendPiece ds p ≡ (t, o) → sendPieces t ps ≡ (u, q) → sendPieces ds (p ∷ ps) ≡ (u, o ++ q)
 unfolding sendPieces
 pieces-then ds p ps e f = rw (e, f)
@@ -230,33 +232,35 @@ module _ (w : Part) (os : List Own) (rs : List Registers) (b : Pairwise (Ready w
   stage4 : Pairwise (AllWaiting w) os (afterFour w os rs)
   stage4 = pairwise-load w Individual (GlobalWaiting w) (AllWaiting w) (to-all w) os _ stage3
 
-module _ (w : Part) (os : List Own) (gap tail : Command → List Bool) where
-  sent-one : (c : Command) (R : Own → Registers → Type 0) (ds : List Device) (rs : List Registers) → registersIn ds ≡ rs → length rs < 1024
+module _ (w : Part) (os : List Own) (edge : Command → Edge) (gap tail : Command → List Bool) where
+  sent-one : (c : Command) (R : Own → Registers → Type 0) (ds : List Device) (rs : List Registers) → 0 < length ds → registersIn ds ≡ rs → length rs < 1024
       → ((o : Own) (r : Registers) → R o r → FitsOne w c o r) → Pairwise R os rs
-      → sendPiece ds (pieceOf w os gap tail c) ≡ (passings (afterFrame w os c rs), returnOf c (faults c rs) (tail c) ∷ [])
-  sent-one c R ds rs e h k b = piece-law ds rs (pieceOf w os gap tail c) e h (pairwise-fits w c R R k os rs b)
+      → sendPiece ds (pieceOf w os edge gap tail c) ≡ (passings (afterFrame w os c rs), clocked (returnOf c (faults c rs) (tail c)) ∷ [])
+  sent-one c R ds rs l e h k b = piece-law ds rs (pieceOf w os edge gap tail c) l e h (pairwise-fits w c R R k os rs b)
 
-  pub sent-four : (ds : List Device) → length (registersIn ds) < 1024 → Pairwise (Ready w) os (registersIn ds)
-      → sendPieces ds (piecesOf w os gap tail) ≡ (passings (afterFour w os (registersIn ds)), returnsOf tail (registersIn ds))
+  pub sent-four : (ds : List Device) → 0 < length ds → length (registersIn ds) < 1024 → Pairwise (Ready w) os (registersIn ds)
+      → sendPieces ds (piecesOf w os edge gap tail) ≡ (passings (afterFour w os (registersIn ds)), map clocked (returnsOf tail (registersIn ds)))
   unfolding piecesOf sendPieces
-  sent-four ds h b =
+  sent-four ds l h b =
+      let n : length (registersIn ds) ≡ length ds = length-map ds (λ (d : Device). d .registers) in
       let rs : List Registers = registersIn ds in
       let r1 : List Registers = afterFrame w os Configuration rs in
       let r2 : List Registers = afterFrame w os Calibration r1 in
       let r3 : List Registers = afterFrame w os Global r2 in
-      let e1 = sent-one Configuration (Ready w) ds rs refl h (fit-configuration w) b in
-      let e2 = sent-one Calibration (Configured w) (passings r1) r1 (registers-passings r1) (simp length-load h) (fit-calibration w) (stage1 w os rs b) in
-      let e3 = sent-one Global (Calibrated w) (passings r2) r2 (registers-passings r2) (simp length-load h) (fit-global w) (stage2 w os rs b) in
-      let e4 = sent-one Individual (GlobalWaiting w) (passings r3) r3 (registers-passings r3) (simp length-load h) (fit-individual w) (stage3 w os rs b) in
-      let f3 = pieces-then (passings r3) (pieceOf w os gap tail Individual) [] e4 refl in
-      let f2 = pieces-then (passings r2) (pieceOf w os gap tail Global) (pieceOf w os gap tail Individual ∷ []) e3 f3 in
-      let f1 = pieces-then (passings r1) (pieceOf w os gap tail Calibration) (pieceOf w os gap tail Global ∷ pieceOf w os gap tail Individual ∷ []) e2 f2 in
-      let e = pieces-then ds (pieceOf w os gap tail Configuration) (pieceOf w os gap tail Calibration ∷ pieceOf w os gap tail Global ∷ pieceOf w os gap tail Individual ∷ []) e1 f1 in
+      let e1 = sent-one Configuration (Ready w) ds rs l refl h (fit-configuration w) b in
+      let e2 = sent-one Calibration (Configured w) (passings r1) r1 (some r1 (simp length-load (omega arith))) (registers-passings r1) (simp length-load h) (fit-calibration w) (stage1 w os rs b) in
+      let e3 = sent-one Global (Calibrated w) (passings r2) r2 (some r2 (simp length-load (omega arith))) (registers-passings r2) (simp length-load h) (fit-global w) (stage2 w os rs b) in
+      let e4 = sent-one Individual (GlobalWaiting w) (passings r3) r3 (some r3 (simp length-load (omega arith))) (registers-passings r3) (simp length-load h) (fit-individual w) (stage3 w os rs b) in
+      let piece : Command → Piece = pieceOf w os edge gap tail in
+      let f3 = pieces-then (passings r3) (piece Individual) [] e4 refl in
+      let f2 = pieces-then (passings r2) (piece Global) (piece Individual ∷ []) e3 f3 in
+      let f1 = pieces-then (passings r1) (piece Calibration) (piece Global ∷ piece Individual ∷ []) e2 f2 in
+      let e = pieces-then ds (piece Configuration) (piece Calibration ∷ piece Global ∷ piece Individual ∷ []) e1 f1 in
       simp faults-kept at e
 
   -- Restored: after the four frames, any low clocks and a boundary, for a chain in any phases whose devices have the set's part
-  pub restored : (ds : List Device) (last : List Bool) → length (registersIn ds) < 1024 → Pairwise (Ready w) os (registersIn ds)
-      → Pairwise RegistersHold os (registersIn (boundary ((runChain ((sendPieces ds (piecesOf w os gap tail)) .0) (lows last)) .0)))
-  restored ds last h b =
-      rw (registers-boundary, quiet, sent-four ds h b, registers-passings)
+  pub restored : (ds : List Device) (last : List Bool) → 0 < length ds → length (registersIn ds) < 1024 → Pairwise (Ready w) os (registersIn ds)
+      → Pairwise RegistersHold os (registersIn (boundary ((runChain ((sendPieces ds (piecesOf w os edge gap tail)) .0) (lows last)) .0)))
+  restored ds last l h b =
+      rw (registers-boundary, quiet, sent-four ds l h b, registers-passings)
       (pairwise-map (AllWaiting w) RegistersHold activated (to-holds w) os (afterFour w os (registersIn ds)) (stage4 w os (registersIn ds) b))

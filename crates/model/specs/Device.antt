@@ -1,13 +1,13 @@
 -- One device, clock by clock, and a chain of them. docs/RULES.md, "One device, clock by clock": registers and a phase, for any part's row.
-use Prim.Native.Nat.{ℕ, zero, suc, pred, _+_, _*_, _%_}
-use mathlib.Core.Bool.{Bool, true, false, cond}
+use Prim.Native.Nat.{ℕ, zero, suc, pred, _+_, _-_, _*_, _/_, _%_}
+use mathlib.Core.Bool.{Bool, true, false, _&&_, not, cond}
 use mathlib.Core.List.{List, [], _∷_, _++_, map, flatten}
 use lib.Dec.{eqb}
-use lib.ListN.{replicate}
+use lib.ListN.{length, replicate}
 use Rattle.tables.specs.Lists.{allSame}
 use Rattle.bits.specs.Bits.{digit, number, split}
 use Rattle.parts.specs.Parts.{Part, outputs, multiplex, sliceFields, sliceBits}
-use Rattle.parts.specs.Wire.{State, low, high, header, frame, clocked}
+use Rattle.parts.specs.Wire.{State, low, high, Edge, header, frame, clocked, clockedAt}
 use Rattle.parts.specs.declared.command.Command.{Command}
 use Rattle.parts.specs.declared.command.Command.the-variants.{Individual, Calibration, Global, Configuration}
 use Rattle.model.specs.Lists.{howMany}
@@ -35,7 +35,7 @@ pub data Field : Type 0 where
   count : Command → Field
   slice : Command → ℕ → Field
 
--- hunting: the last eight bits seen at low load since the last high clock, as a number
+-- hunting: the last nine bits seen at low load since the last high clock, as a number
 -- taking f n got: the bits got so far, and n more after the next
 pub data Phase : Type 0 where
   hunting : ℕ → Phase
@@ -199,6 +199,18 @@ window lost = 0
 window (taking f n got) = 0
 window passing = 0
 
+-- in the header, with these command bits so far: none, one or two at the edge
+abbrev pub begun : List Bool → Phase
+begun got = taking command (5 - length got) got
+
+-- load rises, by the window and the first high bit: that is SYNC's last bit, a 0, after the seven others (early); the first command bit
+-- after all eight (exact); or the second, after SYNC and the first (late). SYNC begins with a one, so no shorter run of low clocks fits
+abbrev pub rising : ℕ → Bool → Phase
+rising w first =
+    cond (eqb (w % 128) 0x74 && not first) (begun [])
+    (cond (eqb (w % 256) 0xE8) (begun (first ∷ []))
+    (cond (eqb (w / 2) 0xE8) (begun (eqb (w % 2) 1 ∷ first ∷ [])) lost))
+
 -- after the sixth command bit: three equal pairs name the command, and the device is lost otherwise
 abbrev pub named : ℕ → Phase
 named n =
@@ -207,13 +219,13 @@ named n =
     (cond (eqb n 42) (taking (count Global) 9 [])
     (cond (eqb n 63) (taking (count Configuration) 9 []) lost)))
 
--- the states of a header, and of a frame with these slices: SYNC at low load and the rest at high
+-- the states of a header that a device sends: always with the exact edge
 unfoldable pub headerStates : Command → ℕ → List State
 headerStates c n = clocked (header c n)
 
--- the line states of a frame with these slices
-unfoldable pub frameStates : Command → ℕ → List (List Bool) → List Bool → List State
-frameStates c n slices tail = clocked (frame c n (flatten slices) tail)
+-- the line states of a frame with these slices, sent with an edge
+unfoldable pub frameStates : Edge → Command → ℕ → List (List Bool) → List Bool → List State
+frameStates e c n slices tail = clockedAt e (frame c n (flatten slices) tail)
 
 -- the last bit of a field has come
 abbrev pub finish : Registers → Field → List Bool → Device × List State
@@ -223,8 +235,8 @@ finish r (slice c n) bs = (at (load c bs r) passing, headerStates c (counted n (
 
 -- one line state
 abbrev pub stepFrom : Registers → Phase → State → Device × List State
-stepFrom r p (low b) = (at r (hunting ((window p * 2 + digit b) % 256)), [])
-stepFrom r (hunting w) (high b) = (at r (cond (eqb w 0xE8) (taking command 4 (b ∷ [])) lost), [])
+stepFrom r p (low b) = (at r (hunting ((window p * 2 + digit b) % 512)), [])
+stepFrom r (hunting w) (high b) = (at r (rising w b), [])
 stepFrom r lost (high b) = (at r lost, [])
 stepFrom r (taking f zero got) (high b) = finish r f (got ++ b ∷ [])
 stepFrom r (taking f (suc n) got) (high b) = (at r (taking f n (got ++ b ∷ [])), [])

@@ -1,32 +1,33 @@
--- A restore: the four frames of a set, each with any tail and any clocks at low load before it; what a device then holds and the chain
--- returns; and when a slice has fully arrived. Said over any list of what is each device's own.
+-- A restore: the four frames of a set, each with any edge, any tail and any clocks at low load before it; what a device then holds and the
+-- chain returns; and when a slice has fully arrived. Said over any list of what is each device's own.
 use Prim.Native.Nat.{ℕ, _+_}
 use mathlib.Core.Path.{_≡_}
 use mathlib.Core.Bool.{Bool, true, false, _&&_, cond}
 use mathlib.Core.List.{List, _++_, map, flatten}
 use lib.ListN.{length, take}
 use Rattle.parts.specs.Parts.{Part, restoreOrder}
-use Rattle.parts.specs.Wire.{State, lows, returnOf}
+use Rattle.parts.specs.Wire.{State, Edge, lows, returnOf}
 use Rattle.parts.specs.declared.command.Command.{Command}
 use Rattle.parts.specs.declared.command.Command.the-variants.{Individual, Calibration, Global, Configuration}
 use Rattle.model.specs.Device.{Registers, multiplexed, evens, odds, frameStates, faults}
 use Rattle.model.specs.Set.{Own, sliceOf}
 
--- a frame from the host, and the clocks at low load before it
+-- a frame from the host, the clocks at low load before it, and the edge that it is sent with
 pub record Piece : Type 0 where
   pub gap : List Bool
+  pub edge : Edge
   pub kind : Command
   pub slices : List (List Bool)
   pub tail : List Bool
 
 -- its line states
 unfoldable pub pieceStates : Piece → List State
-pieceStates p = lows (p .gap) ++ frameStates (p .kind) 0 (p .slices) (p .tail)
+pieceStates p = lows (p .gap) ++ frameStates (p .edge) (p .kind) 0 (p .slices) (p .tail)
 
-module _ (w : Part) (os : List Own) (gap tail : Command → List Bool) where
+module _ (w : Part) (os : List Own) (edge : Command → Edge) (gap tail : Command → List Bool) where
   -- the frame of a command
   abbrev pub pieceOf : Command → Piece
-  pieceOf c = record { gap = gap c; kind = c; slices = map (sliceOf w c) os; tail = tail c }
+  pieceOf c = record { gap = gap c; edge = edge c; kind = c; slices = map (sliceOf w c) os; tail = tail c }
 
   -- the four frames in restore order
   unfoldable pub piecesOf : List Piece
@@ -36,13 +37,18 @@ module _ (w : Part) (os : List Own) (gap tail : Command → List Bool) where
   abbrev pub piecesStates : List State
   piecesStates = flatten (map pieceStates piecesOf)
 
+-- when a slice has arrived; no edge is asked for, since it moves a load bit and no state
+module _ (w : Part) (os : List Own) (gap tail : Command → List Bool) where
+  -- how many states a frame has, with the clocks before it
+  abbrev pub statesIn : Command → ℕ
+  statesIn c = length (gap c) + (24 + (length (flatten (map (sliceOf w c) os)) + length (tail c)))
+
   -- how many states come before a frame's own
   abbrev pub statesBefore : Command → ℕ
   statesBefore Configuration = 0
-  statesBefore Calibration = length (pieceStates (pieceOf Configuration))
-  statesBefore Global = length (pieceStates (pieceOf Configuration)) + length (pieceStates (pieceOf Calibration))
-  statesBefore Individual =
-      length (pieceStates (pieceOf Configuration)) + length (pieceStates (pieceOf Calibration)) + length (pieceStates (pieceOf Global))
+  statesBefore Calibration = statesIn Configuration
+  statesBefore Global = statesIn Configuration + statesIn Calibration
+  statesBefore Individual = statesIn Configuration + statesIn Calibration + statesIn Global
 
   -- how many states give the frame's header and the slices of the devices 1 to `device`: its slice has then fully arrived
   abbrev pub statesUntil : Command → ℕ → ℕ

@@ -8,7 +8,7 @@ use lib.Dec.{leb, lit<}
 use lib.ListN.{length, length-map, length-replicate, take, getD}
 use lib.Pow.{pow-mono}
 use Rattle.parts.specs.Parts.{Part, outputs}
-use Rattle.parts.specs.Wire.{lows, dataBit}
+use Rattle.parts.specs.Wire.{Edge, lows, clocked}
 use Rattle.parts.specs.declared.command.Command.{Command}
 use Rattle.parts.proofs.Laws.{usable, usable-row}
 use Rattle.subframes.proofs.Claims.{frame-on, window-lead}
@@ -23,37 +23,37 @@ use Rattle.model.proofs.Restore.{Ready, pieces-run, pieces-sent, sent-four, res
 use Rattle.model.proofs.CutSet.{cut-sent}
 use Rattle.claims.specs.Claims.{RowRestores, AnyRow, fourBanks, oneBank, ones}
 
-module _ (p : Part) (os : List Own) (ds : List Device) (gap tail : Command → List Bool) (last : List Bool)
+module _ (p : Part) (os : List Own) (ds : List Device) (edge : Command → Edge) (gap tail : Command → List Bool) (last : List Bool)
     (some : 1 ≤ length ds) (few : length ds ≤ 1023) (ready : Pairwise (Ready p) os (registersIn ds)) where
   short : length (registersIn ds) < 1024
   short = omega (arith, length-map ds (λ (d : Device). d .registers))
 
-  all-restored : Pairwise RegistersHold os (registersIn (boundary ((runChain ds (piecesStates p os gap tail ++ lows last)) .0)))
+  all-restored : Pairwise RegistersHold os (registersIn (boundary ((runChain ds (piecesStates p os edge gap tail ++ lows last)) .0)))
   all-restored =
-      rw (chain-append stepDevice ds (piecesStates p os gap tail) (lows last), ← pieces-run ds (piecesOf p os gap tail))
-      (restored p os gap tail ds last short ready)
+      rw (chain-append stepDevice ds (piecesStates p os edge gap tail) (lows last), ← pieces-run ds (piecesOf p os edge gap tail))
+      (restored p os edge gap tail ds last some short ready)
 
-  all-returned : map dataBit ((runChain ds (piecesStates p os gap tail ++ lows last)) .1) ≡ flatten (returnsOf tail (registersIn ds))
+  all-returned : (runChain ds (piecesStates p os edge gap tail ++ lows last)) .1 ≡ flatten (map clocked (returnsOf tail (registersIn ds)))
   all-returned =
-      let then : List Device = (runChain ds (piecesStates p os gap tail)) .0 in
+      let then : List Device = (runChain ds (piecesStates p os edge gap tail)) .0 in
       rw (
-        chain-append stepDevice ds (piecesStates p os gap tail) (lows last),
-        quiet-sends last then (rw (length-chain stepDevice ds (piecesStates p os gap tail)) some),
+        chain-append stepDevice ds (piecesStates p os edge gap tail) (lows last),
+        quiet-sends last then (rw (length-chain stepDevice ds (piecesStates p os edge gap tail)) some),
         append-nil,
-        pieces-sent ds (piecesOf p os gap tail) some,
-        sent-four p os gap tail ds short ready,
+        pieces-sent ds (piecesOf p os edge gap tail) some,
+        sent-four p os edge gap tail ds some short ready,
       )
 
   all-cut : (k device : ℕ) (o : Own) (r : Registers) → 1 ≤ device → device ≤ length os
       → CutFields (λ c. leb (statesUntil p os gap tail c device) k) (getD os (device - 1) o) (getD (registersIn ds) (device - 1) r)
-      (getD (registersIn ((runChain ds (take k (piecesStates p os gap tail ++ lows last))) .0)) (device - 1) r)
+      (getD (registersIn ((runChain ds (take k (piecesStates p os edge gap tail ++ lows last))) .0)) (device - 1) r)
   all-cut k device o r one within =
       let e : suc (device - 1) ≡ device = omega arith in
       subst (λ (n : ℕ). CutFields (λ c. leb (statesUntil p os gap tail c n) k) (getD os (device - 1) o) (getD (registersIn ds) (device - 1) r)
-      (getD (registersIn ((runChain ds (take k (piecesStates p os gap tail ++ lows last))) .0)) (device - 1) r)) e
-      (cut-sent p os gap tail ds ready last k (device - 1) o r (omega arith))
+      (getD (registersIn ((runChain ds (take k (piecesStates p os edge gap tail ++ lows last))) .0)) (device - 1) r)) e
+      (cut-sent p os edge gap tail ds ready last k (device - 1) o r (omega arith))
 
-  row-restores : RowRestores p os ds gap tail last
+  row-restores : RowRestores p os ds edge gap tail last
   row-restores = record { restored = all-restored; returned = all-returned; cut = all-cut }
 
 ones-proper : (p : Part) → Wide p → OwnProper p (ones p)

@@ -10,6 +10,7 @@ use Rattle.current.proofs.Closed.{closed-form}
 use Rattle.claims.specs.Claims as claim
 use Rattle.claims.proofs.Tables.{accepted-exactly}
 use Rattle.claims.proofs.Chains as chains
+use Rattle.claims.proofs.Edges as edges
 use Rattle.claims.proofs.Demand as demand
 use Rattle.claims.proofs.Compared as compared
 use Rattle.claims.proofs.RestoredSame.{restored-same}
@@ -17,6 +18,7 @@ use Rattle.claims.proofs.Scheduled.{sum-over-schedule}
 use Rattle.claims.proofs.Largest.{largest-totals}
 use Rattle.claims.proofs.AnyRow.{any-row}
 use Rattle.claims.proofs.Examples.{examples-hold}
+use Rattle.claims.proofs.EdgeExamples.{edge-examples-hold}
 
 pub acceptedExactly : claim.AcceptedExactly
 acceptedExactly = accepted-exactly
@@ -32,6 +34,12 @@ stepModelled = chains.step-modelled
 
 pub callModelled : claim.CallModelled
 callModelled = chains.call-modelled
+
+pub risingEdge : claim.RisingEdge
+risingEdge = edges.rising-edge
+
+pub sentOn : claim.SentOn
+sentOn = edges.sent-on
 
 pub demandThree : claim.DemandThree
 demandThree = demand.demand-three
@@ -97,3 +105,6 @@ anyRow = any-row
 
 pub examplesHold : claim.ExamplesHold
 examplesHold = examples-hold
+
+pub edgeExamplesHold : claim.EdgeExamplesHold
+edgeExamplesHold = edge-examples-hold

@@ -1,7 +1,7 @@
 -- Demand 3. The calls of a restore are one run of the records; by the link that is a run of the model's chain, and the model's theorems speak of
 -- its devices. What settles between the last frame and the boundary leaves what waits. Assumes nothing.
 use mathlib.Core.Path.{_≡_, refl, sym, ap, _∙_}
-use mathlib.Core.Bool.{Bool, true, false}
+use mathlib.Core.Bool.{Bool, true}
 use mathlib.Core.List.{List, [], _∷_, _++_, map, flatten, append-nil, append-assoc, map-append}
 use Prim.Native.Nat.{ℕ, zero, suc, _+_, _-_, _≤_, _<_}
 use native.Mathlib.Omega.{arith}
@@ -13,7 +13,7 @@ use Rattle.bits.specs.Bits.{bytesOf}
 use Rattle.tables.specs.Lists.{allBelow}
 use Rattle.parts.specs.Parts.{partOf, restoreOrder}
 use Rattle.tables.specs.Refusals.{first}
-use Rattle.parts.specs.Wire.{State, low, high, lows, stateAt, stateCode, dataBit, returnOf}
+use Rattle.parts.specs.Wire.{State, Edge, lows, stateAt, stateCode, statesOf, clocked, dataBit, returnOf}
 use Rattle.tables.proofs.Rows.{clear, none}
 use Rattle.parts.specs.declared.command.Command.{Command}
 use Rattle.parts.specs.declared.command.Command.the-variants.{Individual}
@@ -35,8 +35,10 @@ use Rattle.model.specs.Device as model
 use Rattle.model.specs.Set.{Set, Own, Proper, owned}
 use Rattle.model.specs.Restore.{Piece, pieceStates, piecesOf, piecesStates, returnsOf, CutFields}
 use Rattle.model.proofs.Lists.{take-map, getD-map, flatten-take-suc, howMany-le}
+use Rattle.device.specs.Run.{stepRecord}
+use Rattle.machine.specs.Machine.{chain}
 use Rattle.machine.proofs.Machine.{chain-append, length-chain}
-use Rattle.model.proofs.Wire.{map-stateAt-stateCode}
+use Rattle.model.proofs.Wire.{codes-below, map-stateAt-stateCode, bits-clocked}
 use Rattle.model.proofs.Frame.{quiet-sends}
 use Rattle.model.proofs.Set.{owned-proper, length-owned}
 use Rattle.model.proofs.Restore.{sendPieces, pieces-run, pieces-sent, sent-four, registers-boundary, Ready}
@@ -44,13 +46,26 @@ use Rattle.model.proofs.Restore as model-restore
 use Rattle.model.proofs.CutSet.{cut-sent}
 use Rattle.link.specs.View.{registersOf, deviceOf, registersAt, registersAll, Holds}
 use Rattle.link.specs.Restore.{told, setByte, writtenFrame, frameSize, framePart, restorePart, restoreStates, restoreThen, gapAfter, tailsOf, arrival}
-use Rattle.link.proofs.Device.{chain-agree}
+use Rattle.link.proofs.Device.{chain-agree, chain-sent}
 use Rattle.link.proofs.Calls.{Whole, own-refusal, whole-runs, whole-settles, ran, calls-append}
 use Rattle.link.proofs.Frames.{accepted-writable, writable-proper, restore-states, restore-part}
 use Rattle.link.proofs.Records.{registers-all, registers-at, ready-of, Waits, boundary-holds, boundary-after, settles-waits, take-sent, dataBits-stateAt}
 use Rattle.claims.specs.Claims.{start, RestorePremises, DemandThree, Counted, Restorable}
 use Rattle.claims.proofs.Sent.{quietStates, take-then, take-gap}
 use Rattle.claims.proofs.Chains.{whole-premises, length-start}
+
+-- returns as states, one after the other, and as their data bits
+codes-flatten : (rs : List (List Bool)) → map stateCode (flatten (map clocked rs)) ≡ flatten (map statesOf rs)
+unfolding flatten
+codes-flatten [] = refl
+codes-flatten (r ∷ rs) = rw (map-append stateCode (clocked r) (flatten (map clocked rs)), codes-flatten rs)
+
+bits-flatten : (rs : List (List Bool)) → dataBits (flatten (map statesOf rs)) ≡ flatten rs
+unfolding flatten
+bits-flatten [] = refl
+bits-flatten (r ∷ rs) =
+    map-append (λ s. dataBit (stateAt s)) (statesOf r) (flatten (map statesOf rs))
+    ∙ rw (dataBits-stateAt (statesOf r), map-stateAt-stateCode, bits-clocked, bits-flatten rs)
 
 module _ {p : ℕ} {records : List Device} {earlier during : List Call} {s : Set} {tail : Command → Tail} (b : RestorePremises p records earlier during s tail) where
   abbrev now : List Device
@@ -68,6 +83,9 @@ module _ {p : ℕ} {records : List Device} {earlier during : List Call} {s : Set
   ready : Pairwise (Ready (partOf (s .part))) (owned s) (registersIn (map deviceOf now))
   ready = ready-of (s .part) (owned s) now (owned-proper s proper) (length-owned s ∙ devices) (whole .onePart)
 
+  some : 0 < length (map deviceOf now)
+  some = rw length-map (whole .someDevice)
+
   few : length (registersIn (map deviceOf now)) < 1024
   few = rw (length-map, length-map) (let h = whole .fewDevices in omega arith)
 
@@ -76,28 +94,34 @@ module _ {p : ℕ} {records : List Device} {earlier during : List Call} {s : Set
       → _≡_ {A = List model.Device × List State} (map deviceOf (afterCalls now during), map stateAt (answers now during)) (runChain (map deviceOf now) ls)
   seen ls e = rw (← ran now during (b .runs), e, map-stateAt-stateCode) at (chain-agree now (statesGiven now during) (whole .sound))
 
+  sent : (ls : List State) → statesGiven now during ≡ map stateCode ls → answers now during ≡ map stateCode ((runChain (map deviceOf now) ls) .1)
+  sent ls e =
+      ap (λ (x : List Device × List ℕ). x .1) (ran now during (b .runs))
+      ∙ ap (λ (ss : List ℕ). (chain stepRecord now ss) .1) e
+      ∙ chain-sent now ls (whole .sound)
+
   -- frames and then low clocks, as states
   then-lows : (ls : List State) (last : List Bool) (ss : List ℕ) → ss ≡ map stateCode ls → ss ++ quietStates last ≡ map stateCode (ls ++ lows last)
   then-lows ls last ss e = rw e (sym (map-append stateCode ls (lows last)))
 
-  module _ (gap : Command → List Bool) where
+  module _ (edge : Command → Edge) (gap : Command → List Bool) where
     abbrev pieces : List Piece
-    pieces = piecesOf (partOf (s .part)) (owned s) gap (tailsOf tail)
+    pieces = piecesOf (partOf (s .part)) (owned s) edge gap (tailsOf tail)
 
     abbrev modelStates : List State
-    modelStates = piecesStates (partOf (s .part)) (owned s) gap (tailsOf tail)
+    modelStates = piecesStates (partOf (s .part)) (owned s) edge gap (tailsOf tail)
 
-    waits : (last : List Bool) → statesGiven now during ≡ restoreStates s gap tail ++ quietStates last → Waits (owned s) (afterCalls now during)
+    waits : (last : List Bool) → statesGiven now during ≡ restoreStates s edge gap tail ++ quietStates last → Waits (owned s) (afterCalls now during)
     waits last e =
         let ds : List model.Device = map deviceOf now in
-        let f = e ∙ then-lows modelStates last (restoreStates s gap tail) (restore-states (b .writable) gap) in
+        let f = e ∙ then-lows modelStates last (restoreStates s edge gap tail) (restore-states (b .writable) edge gap) in
         let k : map deviceOf (afterCalls now during) ≡ (runChain ((sendPieces ds pieces) .0) (lows last)) .0 =
         ap (λ (x : List model.Device × List State). x .0) (seen (modelStates ++ lows last) f) ∙ rw (chain-append stepDevice ds modelStates (lows last), pieces-run ds pieces) in
-        let h = model-restore.restored (partOf (s .part)) (owned s) gap (tailsOf tail) ds last few ready in
+        let h = model-restore.restored (partOf (s .part)) (owned s) edge gap (tailsOf tail) ds last some few ready in
         rw (← k, registers-boundary (map deviceOf (afterCalls now during)), registers-all (afterCalls now during)) at h
 
     -- Restored
-    pub held : (last : List Bool) → statesGiven now during ≡ restoreStates s gap tail ++ quietStates last → (later : List Call) → Settles (afterCalls now during) later
+    pub held : (last : List Bool) → statesGiven now during ≡ restoreStates s edge gap tail ++ quietStates last → (later : List Call) → Settles (afterCalls now during) later
         → Pairwise Holds (owned s) (afterCalls now (during ++ (later ++ boundary ∷ [])))
     held last e later r =
         let after : List Device = afterCalls now during in
@@ -106,50 +130,51 @@ module _ {p : ℕ} {records : List Device} {earlier during : List Call} {s : Set
         rw (calls-append now during (later ++ boundary ∷ []), calls-append after later (boundary ∷ []), boundary-after (s .part) (afterCalls after later) v)
         (boundary-holds (owned s) (afterCalls after later) (settles-waits (s .part) (owned s) after later w r (waits last e)))
 
-    -- Returned
-    returned-all : (last : List Bool) (j : ℕ) → statesGiven now during ≡ restorePart s gap tail j ++ quietStates last
-        → dataBits (answers now during) ≡ flatten (take j (returnsOf (tailsOf tail) (registersAll now)))
+    -- Returned: the states of the first j returns
+    returned-all : (last : List Bool) (j : ℕ) → statesGiven now during ≡ restorePart s edge gap tail j ++ quietStates last
+        → answers now during ≡ flatten (map statesOf (take j (returnsOf (tailsOf tail) (registersAll now))))
     returned-all last j e =
         let ds : List model.Device = map deviceOf now in
-        let h : 0 < length ds = rw length-map (whole .someDevice) in
+        let rs : List (List Bool) = returnsOf (tailsOf tail) (registersIn ds) in
         let ls : List State = flatten (map pieceStates (take j pieces)) in
-        let f = e ∙ then-lows ls last (restorePart s gap tail j) (restore-part (b .writable) gap j) in
-        let x : map stateAt (answers now during) ≡ (runChain ds (ls ++ lows last)) .1 = ap (λ (x : List model.Device × List State). x .1) (seen (ls ++ lows last) f) in
+        let f = e ∙ then-lows ls last (restorePart s edge gap tail j) (restore-part (b .writable) edge gap j) in
         let q : (runChain ds (ls ++ lows last)) .1 ≡ (runChain ds ls) .1 =
-        rw (chain-append stepDevice ds ls (lows last), quiet-sends last ((runChain ds ls) .0) (rw length-chain h), append-nil) in
-        dataBits-stateAt (answers now during)
-        ∙ ap (λ (l : List State). map dataBit l) (x ∙ q)
-        ∙ pieces-sent ds (take j pieces) h
-        ∙ ap (λ (l : List (List Bool)). flatten l) (take-sent ds pieces j
-        ∙ ap (λ (x : List model.Device × List (List Bool)). take j (x .1)) (sent-four (partOf (s .part)) (owned s) gap (tailsOf tail) ds few ready))
-        ∙ ap (λ (rs : List Registers). flatten (take j (returnsOf (tailsOf tail) rs))) (registers-all now)
+        rw (chain-append stepDevice ds ls (lows last), quiet-sends last ((runChain ds ls) .0) (rw length-chain some), append-nil) in
+        let t : (sendPieces ds (take j pieces)) .1 ≡ map clocked (take j rs) =
+        take-sent ds pieces j
+        ∙ ap (λ (x : List model.Device × List (List State)). take j (x .1)) (sent-four (partOf (s .part)) (owned s) edge gap (tailsOf tail) ds some few ready)
+        ∙ take-map clocked j rs in
+        sent (ls ++ lows last) f
+        ∙ ap (λ (l : List State). map stateCode l) (q ∙ pieces-sent ds (take j pieces) some ∙ ap (λ (l : List (List State)). flatten l) t)
+        ∙ codes-flatten (take j rs)
+        ∙ ap (λ (r : List Registers). flatten (map statesOf (take j (returnsOf (tailsOf tail) r)))) (registers-all now)
 
     -- Cut, in the device at place i, from 0
-    cut-at : (last : List Bool) (k i : ℕ) (o : Own) → statesGiven now during ≡ take k (restoreThen s gap tail last) → i < s .devices
+    cut-at : (last : List Bool) (k i : ℕ) (o : Own) → statesGiven now during ≡ take k (restoreThen s edge gap tail last) → i < s .devices
         → CutFields (λ c. leb (arrival s gap tail c (suc i)) k) (getD (owned s) i o) (registersOf (getD now i blank .registers))
         (registersOf (getD (afterCalls now during) i blank .registers))
     cut-at last k i o e h =
         let ds : List model.Device = map deviceOf now in
         let f : statesGiven now during ≡ map stateCode (take k (modelStates ++ lows last)) =
-        e ∙ ap (λ (l : List ℕ). take k l) (then-lows modelStates last (restoreStates s gap tail) (restore-states (b .writable) gap)) ∙ take-map stateCode k (modelStates ++ lows last) in
+        e ∙ ap (λ (l : List ℕ). take k l) (then-lows modelStates last (restoreStates s edge gap tail) (restore-states (b .writable) edge gap)) ∙ take-map stateCode k (modelStates ++ lows last) in
         let x : map deviceOf (afterCalls now during) ≡ (runChain ds (take k (modelStates ++ lows last))) .0 =
         ap (λ (x : List model.Device × List State). x .0) (seen (take k (modelStates ++ lows last)) f) in
-        let g = cut-sent (partOf (s .part)) (owned s) gap (tailsOf tail) ds ready last k i o (registersOf (blank .registers)) (rw (length-owned s) h) in
+        let g = cut-sent (partOf (s .part)) (owned s) edge gap (tailsOf tail) ds ready last k i o (registersOf (blank .registers)) (rw (length-owned s) h) in
         rw (← x, registers-at (afterCalls now during) i, registers-at now i) at g
 
 -- ---- the claim
 
 -- a place among frames and the clocks between them, in the claim's terms
-in-gap : (s : Set) (gap : Command → List Bool) (tail : Command → Tail) (last : List Bool) (j k : ℕ) → length (restorePart s gap tail j) ≤ k
-    → k ≤ length (restorePart s gap tail j) + length (gapAfter gap last j)
-    → take k (restoreThen s gap tail last) ≡ restorePart s gap tail j ++ quietStates (take (k - length (restorePart s gap tail j)) (gapAfter gap last j))
+in-gap : (s : Set) (edge : Command → Edge) (gap : Command → List Bool) (tail : Command → Tail) (last : List Bool) (j k : ℕ) → length (restorePart s edge gap tail j) ≤ k
+    → k ≤ length (restorePart s edge gap tail j) + length (gapAfter gap last j)
+    → take k (restoreThen s edge gap tail last) ≡ restorePart s edge gap tail j ++ quietStates (take (k - length (restorePart s edge gap tail j)) (gapAfter gap last j))
 unfolding framePart
-in-gap s gap tail last j k h l = take-gap gap (λ c. serial.frameStates (writtenFrame s c (tail c)) (frameSize s c (tail c))) restoreOrder last j k h l
+in-gap s edge gap tail last j k h l = take-gap gap (λ c. serial.frameStates (edge c) (writtenFrame s c (tail c)) (frameSize s c (tail c))) restoreOrder last j k h l
 
 pub demand-three : DemandThree
-demand-three p records earlier during s gap tail last k b e = record {
-  restored = λ h later r. held b gap (take (k - length (restoreStates s gap tail)) last) (e ∙ take-then k (restoreStates s gap tail) last h) later r;
-  returned = λ j h l. returned-all b gap (take (k - length (restorePart s gap tail j)) (gapAfter gap last j)) j (e ∙ in-gap s gap tail last j k h l);
+demand-three p records earlier during s edge gap tail last k b e = record {
+  restored = λ h later r. held b edge gap (take (k - length (restoreStates s edge gap tail)) last) (e ∙ take-then k (restoreStates s edge gap tail) last h) later r;
+  returned = λ j h l. returned-all b edge gap (take (k - length (restorePart s edge gap tail j)) (gapAfter gap last j)) j (e ∙ in-gap s edge gap tail last j k h l);
   cut = cut;
 }
   where
@@ -159,7 +184,7 @@ demand-three p records earlier during s gap tail last k b e = record {
     cut zero o h l = absurd (omega arith)
     cut (suc i) o h l =
         let j : suc i - 1 ≡ i = omega arith in
-        rw j (cut-at b gap last k i o e l)
+        rw j (cut-at b edge gap last k i o e l)
 
 -- ---- each frame's own return
 
@@ -185,7 +210,7 @@ told-zero t tail byte bytes values room e =
     none (toldRows (t .part) (t .devices) tail) (c .0, (c .1 .0, (c .1 .1 .0, tt)))
 
 pub counted : Counted
-counted p records earlier former during s gap tail last j b l e f =
+counted p records earlier former during s edge gap tail last j b l e f =
     let ds : List Device = start p records earlier in
     let now : List Device = afterCalls ds former in
     let c : Command = getD restoreOrder j Individual in
@@ -193,11 +218,11 @@ counted p records earlier former during s gap tail last j b l e f =
     let flags : Command → ℕ = λ k. faults k (registersAll ds) in
     let b′ : RestorePremises p records earlier former s tail =
     record { accepted = b .accepted; writable = b .writable; devices = b .devices; part = b .part; runs = runs-front ds former during (b .runs) } in
-    let x = returned-all b′ gap [] j (e ∙ sym (append-nil (restorePart s gap tail j))) in
-    let n : flatten (take (suc j) (map (framePart s gap tail) restoreOrder)) ≡ restorePart s gap tail j ++ framePart s gap tail c =
-    flatten-take-suc (map (framePart s gap tail) restoreOrder) j (rw length-map l) ∙ rw (getD-map (framePart s gap tail) restoreOrder j Individual [] l) in
-    let g : statesGiven ds (former ++ during) ≡ restorePart s gap tail (suc j) ++ quietStates last = rw (statesGiven-append ds former during, e, f, n, append-assoc) in
-    let y = returned-all b gap last (suc j) g in
+    let x = ap (λ (a : List ℕ). dataBits a) (returned-all b′ edge gap [] j (e ∙ sym (append-nil (restorePart s edge gap tail j)))) ∙ bits-flatten (take j rs) in
+    let n : flatten (take (suc j) (map (framePart s edge gap tail) restoreOrder)) ≡ restorePart s edge gap tail j ++ framePart s edge gap tail c =
+    flatten-take-suc (map (framePart s edge gap tail) restoreOrder) j (rw length-map l) ∙ rw (getD-map (framePart s edge gap tail) restoreOrder j Individual [] l) in
+    let g : statesGiven ds (former ++ during) ≡ restorePart s edge gap tail (suc j) ++ quietStates last = rw (statesGiven-append ds former during, e, f, n, append-assoc) in
+    let y = ap (λ (a : List ℕ). dataBits a) (returned-all b edge gap last (suc j) g) ∙ bits-flatten (take (suc j) rs) in
     let r : flatten (take (suc j) rs) ≡ flatten (take j rs) ++ returnOf c (flags c) (tailBits (tail c)) =
     flatten-take-suc rs j (rw length-map l) ∙ rw (getD-map (λ (k : Command). returnOf k (flags k) (tailBits (tail k))) restoreOrder j Individual [] l) in
     let k : dataBits (answers ds former) ++ dataBits (answers now during) ≡ flatten (take j rs) ++ returnOf c (flags c) (tailBits (tail c)) =
@@ -214,13 +239,6 @@ counted p records earlier former during s gap tail last j b l e f =
 -- ---- the claims can be met
 
 -- any states can be given: one run of them, with the room that it needs
-states-below : (ls : List State) → allBelow (map stateCode ls) 4 ≡ true
-states-below [] = refl
-states-below (low false ∷ ls) = states-below ls
-states-below (low true ∷ ls) = states-below ls
-states-below (high false ∷ ls) = states-below ls
-states-below (high true ∷ ls) = states-below ls
-
 run-accepted : (p : ℕ) (ds : List Device) (ss out : List ℕ) → Whole p ds → allBelow ss 4 ≡ true → roomFor (length ss) ≤ length out → refusalOf ds (run ss out) ≡ 0
 run-accepted p ds ss out w a l = own-refusal p ds (run ss out) w ∙ rw (le-ltb (length out) (roomFor (length ss)) l, a)
 
@@ -229,12 +247,12 @@ unfolding statesGiven refusalOf
 statesGiven-one ds ss out e = rw e
 
 pub restorable : Restorable
-restorable p records earlier s gap tail out fresh writable devices part l =
-    let ss : List ℕ = restoreStates s gap tail in
+restorable p records earlier s edge gap tail out fresh writable devices part l =
+    let ss : List ℕ = restoreStates s edge gap tail in
     let now : List Device = start p records earlier in
     let during : List Call = run ss out ∷ [] in
     let b : RestorePremises p records earlier during s tail = record { accepted = fresh; writable = writable; devices = devices; part = part; runs = (tt, tt) } in
-    let a : allBelow ss 4 ≡ true = rw (restore-states writable gap) (states-below (piecesStates (partOf (s .part)) (owned s) gap (tailsOf tail))) in
+    let a : allBelow ss 4 ≡ true = rw (restore-states writable edge gap) (codes-below (piecesStates (partOf (s .part)) (owned s) edge gap (tailsOf tail))) in
     let r = run-accepted _ now ss out (whole b) a l in
     let e = statesGiven-one now ss out r in
-    (r, b, e, held b gap [] e [] tt)
+    (r, b, e, held b edge gap [] e [] tt)

@@ -12,7 +12,7 @@ use borrow.Author.Tests.{ltb-true, ltb-false, le-leb, lt-leb}
 use Rattle.tables.specs.Refusals.{first, answer, content}
 use Rattle.bits.specs.Bits.{bits, number, fields, split, padded, bytesOf, over}
 use Rattle.parts.specs.Parts.{partOf, period}
-use Rattle.parts.specs.Wire.{commandCount, header, frame, clocked}
+use Rattle.parts.specs.Wire.{commandCount, header, frame, clockedAt}
 use Rattle.frames.specs.Frames.{frameBits, frameOf}
 use Rattle.frame_writer.specs.Writing.{writeRefusal, written, writtenOut}
 use Rattle.frame_reader.specs.Reading.{heldFields, readRefusal}
@@ -89,7 +89,7 @@ currents = (
 
 -- of the 16-output parts, l to s, and what follows
 sixteen : Each (drop 11 examples)
-unfolding bits number fields split padded bytesOf over commandCount header frame clocked frameBits frameOf writeRefusal written writtenOut heldFields readRefusal threeStates chain run stepRecord howManyFrom onAnswer leadAnswer positionOver
+unfolding bits number fields split padded bytesOf over commandCount header frame clockedAt frameBits frameOf writeRefusal written writtenOut heldFields readRefusal threeStates chain run stepRecord howManyFrom onAnswer leadAnswer positionOver
 sixteen = (
   ((refl, refl, refl), tt),
   (
@@ -120,7 +120,7 @@ sixteen = (
 )
 
 pub examples-hold : Each examples
-unfolding bits number fields split padded bytesOf over commandCount header frame clocked frameBits frameOf writeRefusal written writtenOut heldFields readRefusal threeStates chain run stepRecord howManyFrom onAnswer leadAnswer
+unfolding bits number fields split padded bytesOf over commandCount header frame clockedAt frameBits frameOf writeRefusal written writtenOut heldFields readRefusal threeStates chain run stepRecord howManyFrom onAnswer leadAnswer
 examples-hold = (
   ((refl, refl, refl), tt),
   (

@@ -2,6 +2,7 @@
 pub mod Tables
 pub mod Sent
 pub mod Chains
+pub mod Edges
 pub mod Demand
 pub mod Compared
 pub mod RestoredSame
@@ -9,4 +10,5 @@ pub mod Scheduled
 pub mod Largest
 pub mod AnyRow
 pub mod Examples
+pub mod EdgeExamples
 pub mod Claims

@@ -57,7 +57,7 @@ accepts s tail ds w h l =
     )
 
 pub restored-same : RestoredSame
-restored-same p records earlier during later s gap tail last b e r =
+restored-same p records earlier during later s edge gap tail last b e r =
     let ds : List Device = start p records earlier in
     let calls : List Call = during ++ (later ++ boundary ∷ []) in
     let now : List Device = afterCalls ds calls in
@@ -66,4 +66,4 @@ restored-same p records earlier during later s gap tail last b e r =
     let same : afterCalls (afterCalls (afterCalls ds during) later) (boundary ∷ []) ≡ now =
     sym (calls-append ds during (later ++ boundary ∷ []) ∙ calls-append (afterCalls ds during) later (boundary ∷ [])) in
     holds-same s now (accepts s tail now (b .writable) (subst (Whole (s .part)) same v) (devices b ∙ sym (length-afterCalls ds calls)))
-    (held b gap last e later r)
+    (held b edge gap last e later r)

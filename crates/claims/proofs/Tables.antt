@@ -131,10 +131,10 @@ reads-return : (part devices : ℕ) (c : Command) (tail : Tail) (frame : List �
 unfolding returnRead returnRefusal
 reads-return part devices c tail frame = answers (returnTable part devices c tail frame) refl refl returnReadNumber R.Refused _ refl itself
 
-gives-states : (frame : List ℕ) (n : ℕ) (out : List ℕ) → claim.GivesStates frame n out
+gives-states : (frame : List ℕ) (n edge : ℕ) (out : List ℕ) → claim.GivesStates frame n edge out
 unfolding clockedAnswer clockedOut
-gives-states frame n out =
-    let table = frameRows (length frame) n (length out) in
+gives-states frame n edge out =
+    let table = frameRows (length frame) n edge (length out) in
     (answers table refl refl convertedNumber L.Refused _ refl itself, leaves table refl refl convertedNumber L.Refused _ refl itself out _)
 
 packs-states : (states out : List ℕ) → claim.PacksStates states out

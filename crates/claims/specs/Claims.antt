@@ -10,10 +10,10 @@ use lib.Dec.{leb}
 use lib.IntN.{pos, negℤ}
 use lib.ListN.{length, take, getD, replicate}
 use lib.Signed.{_<ℤ_}
-use Rattle.bits.specs.Bits.{digit, fields, bytesOf, bytesFor, over}
+use Rattle.bits.specs.Bits.{digit, bits, fields, bytesOf, bytesFor, over}
 use Rattle.parts.specs.Parts.{Part, max6972, max6973, rows, known, partOf, outputs, subframes, phaseCount, frameClocks, period, periodFrames, sinkCurrent, restoreOrder, isCount, Usable}
 use Rattle.tables.specs.Refusals.{first}
-use Rattle.parts.specs.Wire.{State, stateAt, stateCode, lows, dataBit}
+use Rattle.parts.specs.Wire.{State, high, Edge, edgeAt, stateAt, stateCode, statesAt, statesOf, lows, clocked, frame}
 use Rattle.parts.specs.declared.command.Command.{Command}
 use Rattle.parts.specs.declared.command.Command.the-variants.{Individual}
 use Rattle.serial.specs.States.{dataBits, frameStates, frameRows, clockedAnswer, clockedOut, stateRows, dataBytesAnswer, dataBytesOut}
@@ -28,7 +28,8 @@ use Rattle.frame_writer.specs.declared.answer.Written.the-variants as W
 use Rattle.frame_reader.specs.declared.answer.Read.the-variants as Q
 use Rattle.return_reader.specs.declared.answer.ReturnRead.the-variants as R
 use Rattle.frame_laws.specs.RoundTrip.{ReadBack, WrittenAgain, byteRead, bytesRead, valuesRead}
-use Rattle.device.specs.Step.{step}
+use Rattle.phases.specs.Phases.{phaseOf, windowOf}
+use Rattle.device.specs.Step.{step, sliceLength}
 use Rattle.device.specs.Judgement.{fits, judgement, stepRefusals, acceptedStep, refusedWith, stepAnswer}
 use Rattle.device.specs.declared.device.Device.{Device}
 use Rattle.device.specs.declared.device.Answer.{Answer}
@@ -37,12 +38,14 @@ use Rattle.calls.specs.Calls.{roomFor, returned, runTable, runRoom}
 use Rattle.calls.specs.History.{Call, fresh, run, boundary, tableOf, refusalOf, effect, after, afterCalls, statesGiven, answered, answers, Runs, Settles}
 use Rattle.calls.specs.Told.{partTold, flagIn, flagTold, ownTable}
 use Rattle.model.specs.Lists.{All, Pairwise}
-use Rattle.model.specs.Device.{faults, stepDevice, registersIn}
+use Rattle.model.specs.Device.{faults, fault, counted, begun, stepDevice, registersIn}
+use Rattle.model.specs.Edge.{lowRun, RisesAs}
 use Rattle.model.specs.Device as model
 use Rattle.model.specs.Set.{Set, Own, OwnProper, owned}
 use Rattle.model.specs.Restore.{piecesStates, statesUntil, returnsOf, RegistersHold, CutFields}
 use Rattle.device.specs.Run.{stepRecord}
-use Rattle.link.specs.View.{deviceOf, Arrays, registersAt, registersAll, Holds}
+use Rattle.device.specs.Run as stepping
+use Rattle.link.specs.View.{deviceOf, registersOf, Arrays, registersAt, registersAll, Holds}
 use Rattle.link.specs.Called.{called}
 use Rattle.link.specs.Restore.{Writable, framePart, restorePart, restoreStates, restoreThen, gapAfter, tailsOf, arrival}
 use Rattle.cursor.specs.Answer.{ran, runAnswer}
@@ -71,7 +74,7 @@ use Rattle.answers.specs.declared.answer.Answer.{Answer as RowAnswer}
 use Rattle.capi_bits.specs.PartAnswers.{partRows, ofPart}
 use Rattle.capi_frames.specs.FrameAnswers.{returnReadNumber}
 use Rattle.claims.specs.Tables.{Exactly, Answers, Leaves, convertedNumber, writtenNumber, readNumber, askedNumber, leadNumber, clocksNumber, argumentsNumber}
-use Rattle.claims.specs.Examples.{Each, examples}
+use Rattle.claims.specs.Examples.{Each, examples, edgeExamples}
 
 -- each is a byte
 abbrev pub Bytes : List ℕ → Type 0
@@ -99,11 +102,11 @@ abbrev pub ReadsReturn : ℕ → ℕ → Command → Tail → List ℕ → Type 
 ReadsReturn part devices c tail frame =
     Answers returnReadNumber (returns.returnTable part devices c tail frame) R.Refused (R.Count (returns.countOf (fields 8 frame))) (returns.returnRead part devices c tail frame)
 
--- a frame's line states: how many, and these in front of the lent states
-abbrev pub GivesStates : List ℕ → ℕ → List ℕ → Type 0
-GivesStates frame n out =
-    Answers convertedNumber (frameRows (length frame) n (length out)) L.Refused (L.Written n) (clockedAnswer frame n out)
-    × Leaves (convertedNumber (clockedAnswer frame n out)) out (over (frameStates frame n) out) (clockedOut frame n out)
+-- a frame's line states with an edge: how many, and these in front of the lent states
+abbrev pub GivesStates : List ℕ → ℕ → ℕ → List ℕ → Type 0
+GivesStates frame n edge out =
+    Answers convertedNumber (frameRows (length frame) n edge (length out)) L.Refused (L.Written n) (clockedAnswer frame n edge out)
+    × Leaves (convertedNumber (clockedAnswer frame n edge out)) out (over (frameStates (edgeAt edge) frame n) out) (clockedOut frame n edge out)
 
 -- returned states, packed: how many bytes, and these in front of the lent bytes
 abbrev pub PacksStates : List ℕ → List ℕ → Type 0
@@ -132,7 +135,7 @@ pub record AcceptedExactly : Type 0 where
   pub writes : (t : Told) (tail : Tail) (byte : ℕ) (bytes values out : List ℕ) → Writes t tail byte bytes values out
   pub reads : (t : Told) (tail : Tail) (frame bytes values : List ℕ) → Reads t tail frame bytes values
   pub readsReturn : (part devices : ℕ) (c : Command) (tail : Tail) (frame : List ℕ) → ReadsReturn part devices c tail frame
-  pub givesStates : (frame : List ℕ) (n : ℕ) (out : List ℕ) → GivesStates frame n out
+  pub givesStates : (frame : List ℕ) (n edge : ℕ) (out : List ℕ) → GivesStates frame n edge out
   pub packsStates : (states out : List ℕ) → PacksStates states out
   pub judges : (d : Device) → Exactly (judgement d) (first (judgement d))
   pub steps : (d : Device) (s : ℕ) → Answers (λ (a : Answer). a .refusal) (stepRefusals d s) (refusedWith d) (acceptedStep (step d s)) (stepAnswer d s)
@@ -200,6 +203,58 @@ CallModelled =
     → refusalOf ds c ≡ 0
     → _≡_ {A = List model.Device × List State} (map deviceOf (after ds c), map stateAt (answered ds c)) (called (map deviceOf ds) c)
 
+-- ---- where load rises: with SYNC's last bit, with the first command bit, or with the second
+
+-- the phase of a record after line states, as the model's device has it
+abbrev pub phaseAfter : Device → List State → model.Phase
+phaseAfter d ls = deviceOf ((stepping.run d (map stateCode ls)) .0) .phase
+
+-- the low bits that a record has seen once it was given line states: those of its window and of the states, since the last high clock
+abbrev pub lowsSeen : Device → List State → List Bool
+lowsSeen d ls = lowRun (bits 9 (windowOf (phaseOf (d .place)))) ls
+
+-- a rising edge, after any line history ls
+pub record RisingEdge : Type 0 where
+  -- no history fits two of the three readings
+  pub one :
+      (ls : List State) (first : Bool) (e f : Edge) (got had : List Bool)
+      → RisesAs e (lowRun [] ls) first got
+      → RisesAs f (lowRun [] ls) first had
+      → (e ≡ f) × (got ≡ had)
+  -- each is accepted, whatever the record held and saw before: it is in the header, with exactly the command bits that were seen
+  pub accepted :
+      (d : Device) (ls : List State) (first : Bool) (e : Edge) (got : List Bool)
+      → Arrays d
+      → fits d ≡ true
+      → RisesAs e (lowRun [] ls) first got
+      → phaseAfter d (ls ++ high first ∷ []) ≡ begun got
+  -- a record hunts after a low clock and when it is fresh; what it has seen is one of the readings
+  pub heard :
+      (d : Device) (ls : List State) (first : Bool) (window : ℕ) (e : Edge) (got : List Bool)
+      → Arrays d
+      → fits d ≡ true
+      → phaseAfter d ls ≡ model.hunting window
+      → RisesAs e (lowsSeen d ls) first got
+      → phaseAfter d (ls ++ high first ∷ []) ≡ begun got
+  -- or it is none of them: every other rising edge is lost
+  pub lost :
+      (d : Device) (ls : List State) (first : Bool) (window : ℕ)
+      → Arrays d
+      → fits d ≡ true
+      → phaseAfter d ls ≡ model.hunting window
+      → ((e : Edge) (got : List Bool) → RisesAs e (lowsSeen d ls) first got → ⊥)
+      → phaseAfter d (ls ++ high first ∷ []) ≡ model.lost
+
+-- every device sends the exact edge: of a frame that comes with any edge it keeps its own slice and sends on the frame of those behind it
+abbrev pub SentOn : Type 0
+SentOn =
+    (d : Device) (e : Edge) (c : Command) (n : ℕ) (slice behind tail : List Bool)
+    → Arrays d
+    → fits d ≡ true
+    → n < 1024
+    → length slice ≡ sliceLength (d .registers) c
+    → (stepping.run d (statesAt e (frame c n (slice ++ behind) tail))) .1 ≡ statesOf (frame c (counted n (fault c (registersOf (d .registers)))) behind tail)
+
 -- ---- demand 3
 
 -- any records, told to be a part's and made fresh, and any calls after that
@@ -220,20 +275,22 @@ pub record RestorePremises (p : ℕ) (records : List Device) (earlier during : L
   pub runs : Runs (start p records earlier) during
 
 -- what holds of a chain `now`, as it stood before the restore, once the calls `during` gave the first k states of the set's restore
-pub record Outcome (now : List Device) (during : List Call) (s : Set) (gap : Command → List Bool) (tail : Command → Tail) (last : List Bool) (k : ℕ) : Type 0 where
+pub record Outcome (now : List Device) (during : List Call) (s : Set) (edge : Command → Edge) (gap : Command → List Bool) (tail : Command → Tail)
+    (last : List Bool) (k : ℕ) : Type 0 where
   -- all four frames were given; then fault settings, runs of low states and calls that change nothing, and a boundary: each device's
   -- registers in use hold the values of its own slices
   pub restored :
-      length (restoreStates s gap tail) ≤ k
+      length (restoreStates s edge gap tail) ≤ k
       → (later : List Call)
       → Settles (afterCalls now during) later
       → Pairwise Holds (owned s) (afterCalls now (during ++ (later ++ boundary ∷ [])))
-  -- j frames were given, and of what follows them at most the clocks at low load: the runs wrote the first j returns, and nothing else
+  -- j frames were given, and of what follows them at most the clocks at low load: the runs wrote the first j returns, with the exact edge, and
+  -- nothing else
   pub returned :
       (j : ℕ)
-      → length (restorePart s gap tail j) ≤ k
-      → k ≤ length (restorePart s gap tail j) + length (gapAfter gap last j)
-      → dataBits (answers now during) ≡ flatten (take j (returnsOf (tailsOf tail) (registersAll now)))
+      → length (restorePart s edge gap tail j) ≤ k
+      → k ≤ length (restorePart s edge gap tail j) + length (gapAfter gap last j)
+      → answers now during ≡ flatten (map statesOf (take j (returnsOf (tailsOf tail) (registersAll now))))
   -- in each device, 1 to N, each group is new exactly where its slice had fully arrived
   pub cut :
       (device : ℕ) (o : Own)
@@ -241,41 +298,43 @@ pub record Outcome (now : List Device) (during : List Call) (s : Set) (gap : Com
       → device ≤ s .devices
       → CutFields (λ c. leb (arrival s gap tail c device) k) (getD (owned s) (device - 1) o) (registersAt now device) (registersAt (afterCalls now during) device)
 
--- any records made fresh, any calls, then the calls of a restore, whose runs gave the first k states of it, for any k
+-- any records made fresh, any calls, then the calls of a restore, whose runs gave the first k states of it, for any k and any edge of each frame
 abbrev pub DemandThree : Type 0
 DemandThree =
-    (p : ℕ) (records : List Device) (earlier during : List Call) (s : Set) (gap : Command → List Bool) (tail : Command → Tail) (last : List Bool) (k : ℕ)
+    (p : ℕ) (records : List Device) (earlier during : List Call) (s : Set) (edge : Command → Edge) (gap : Command → List Bool) (tail : Command → Tail)
+    (last : List Bool) (k : ℕ)
     → RestorePremises p records earlier during s tail
-    → statesGiven (start p records earlier) during ≡ take k (restoreThen s gap tail last)
-    → Outcome (start p records earlier) during s gap tail last k
+    → statesGiven (start p records earlier) during ≡ take k (restoreThen s edge gap tail last)
+    → Outcome (start p records earlier) during s edge gap tail last k
 
 -- what the runs write while the frame after the first j comes in, packed, is what the return reader accepts: it gives the number of flags up
 abbrev pub Counted : Type 0
 Counted =
-    (p : ℕ) (records : List Device) (earlier former during : List Call) (s : Set) (gap : Command → List Bool) (tail : Command → Tail) (last : List Bool) (j : ℕ)
+    (p : ℕ) (records : List Device) (earlier former during : List Call) (s : Set) (edge : Command → Edge) (gap : Command → List Bool) (tail : Command → Tail)
+    (last : List Bool) (j : ℕ)
     → RestorePremises p records earlier (former ++ during) s tail
     → j < 4
     → let c : Command = getD restoreOrder j Individual in
     let now : List Device = afterCalls (start p records earlier) former in
-    statesGiven (start p records earlier) former ≡ restorePart s gap tail j
-    → statesGiven now during ≡ framePart s gap tail c ++ map stateCode (lows last)
+    statesGiven (start p records earlier) former ≡ restorePart s edge gap tail j
+    → statesGiven now during ≡ framePart s edge gap tail c ++ map stateCode (lows last)
     → returns.returnRead (s .part) (s .devices) c (tail c) (bytesOf (dataBits (answers now during))) ≡ R.Count (faults c (registersAll (start p records earlier)))
 
 -- nothing above is empty: whatever was called since an accepted fresh, one run of the restore of any set for the chain is accepted, meets the
 -- premises above, and with a boundary restores the set
 abbrev pub Restorable : Type 0
 Restorable =
-    (p : ℕ) (records : List Device) (earlier : List Call) (s : Set) (gap : Command → List Bool) (tail : Command → Tail) (out : List ℕ)
+    (p : ℕ) (records : List Device) (earlier : List Call) (s : Set) (edge : Command → Edge) (gap : Command → List Bool) (tail : Command → Tail) (out : List ℕ)
     → refusalOf records (fresh p) ≡ 0
     → Writable s tail
     → s .devices ≡ length records
     → s .part ≡ startPart p records earlier
-    → roomFor (length (restoreStates s gap tail)) ≤ length out
+    → roomFor (length (restoreStates s edge gap tail)) ≤ length out
     → let now : List Device = start p records earlier in
-    let restore : Call = run (restoreStates s gap tail) out in
+    let restore : Call = run (restoreStates s edge gap tail) out in
     (refusalOf now restore ≡ 0)
     × RestorePremises p records earlier (restore ∷ []) s tail
-    × (statesGiven now (restore ∷ []) ≡ restoreThen s gap tail [])
+    × (statesGiven now (restore ∷ []) ≡ restoreThen s edge gap tail [])
     × Pairwise Holds (owned s) (afterCalls now (restore ∷ boundary ∷ []))
 
 -- ---- the calls themselves
@@ -332,9 +391,10 @@ HoldsSame =
 -- after a restore, whatever settles and a boundary: a comparison of that set and that chain is not refused, and says same
 abbrev pub RestoredSame : Type 0
 RestoredSame =
-    (p : ℕ) (records : List Device) (earlier during later : List Call) (s : Set) (gap : Command → List Bool) (tail : Command → Tail) (last : List Bool)
+    (p : ℕ) (records : List Device) (earlier during later : List Call) (s : Set) (edge : Command → Edge) (gap : Command → List Bool) (tail : Command → Tail)
+    (last : List Bool)
     → RestorePremises p records earlier during s tail
-    → statesGiven (start p records earlier) during ≡ restoreThen s gap tail last
+    → statesGiven (start p records earlier) during ≡ restoreThen s edge gap tail last
     → Settles (afterCalls (start p records earlier) during) later
     → comparison s (afterCalls (start p records earlier) (during ++ (later ++ boundary ∷ []))) ≡ same
 
@@ -449,15 +509,15 @@ pub record Largest : Type 0 where
 -- ---- any row: nothing above is said of a number of banks or a width
 
 -- what a restore does to devices of the model that have the row p, in any phases and with any registers, where os is each device's own
-pub record RowRestores (p : Part) (os : List Own) (ds : List model.Device) (gap tail : Command → List Bool) (last : List Bool) : Type 0 where
-  pub restored : Pairwise RegistersHold os (registersIn (model.boundary ((model.runChain ds (piecesStates p os gap tail ++ lows last)) .0)))
-  pub returned : map dataBit ((model.runChain ds (piecesStates p os gap tail ++ lows last)) .1) ≡ flatten (returnsOf tail (registersIn ds))
+pub record RowRestores (p : Part) (os : List Own) (ds : List model.Device) (edge : Command → Edge) (gap tail : Command → List Bool) (last : List Bool) : Type 0 where
+  pub restored : Pairwise RegistersHold os (registersIn (model.boundary ((model.runChain ds (piecesStates p os edge gap tail ++ lows last)) .0)))
+  pub returned : (model.runChain ds (piecesStates p os edge gap tail ++ lows last)) .1 ≡ flatten (map clocked (returnsOf tail (registersIn ds)))
   pub cut :
       (k device : ℕ) (o : Own) (r : model.Registers)
       → 1 ≤ device
       → device ≤ length os
       → CutFields (λ c. leb (statesUntil p os gap tail c device) k) (getD os (device - 1) o) (getD (registersIn ds) (device - 1) r)
-      (getD (registersIn ((model.runChain ds (take k (piecesStates p os gap tail ++ lows last))) .0)) (device - 1) r)
+      (getD (registersIn ((model.runChain ds (take k (piecesStates p os edge gap tail ++ lows last))) .0)) (device - 1) r)
 
 -- a made-up row of four banks with values of 8 bits, and one of one bank with values of 10 bits
 abbrev pub fourBanks : Part
@@ -473,11 +533,11 @@ ones p = record { configuration = 0; calibration = replicate (p .banks) 1; globa
 -- demand 3 and the light of any row; a fifth row may have any number of banks and any width, and one that a record has room for is usable
 pub record AnyRow : Type 0 where
   pub restores :
-      (p : Part) (os : List Own) (ds : List model.Device) (gap tail : Command → List Bool) (last : List Bool)
+      (p : Part) (os : List Own) (ds : List model.Device) (edge : Command → Edge) (gap tail : Command → List Bool) (last : List Bool)
       → 1 ≤ length ds
       → length ds ≤ 1023
       → Pairwise (λ o r. OwnProper p o × (r .part ≡ p)) os (registersIn ds)
-      → RowRestores p os ds gap tail last
+      → RowRestores p os ds edge gap tail last
   pub frameOn :
       (p : Part) (configuration global : ℕ)
       → 1 ≤ subframes p configuration
@@ -495,3 +555,7 @@ pub record AnyRow : Type 0 where
 -- a to z hold
 abbrev pub ExamplesHold : Type 0
 ExamplesHold = Each examples
+
+-- 2a to 2i hold
+abbrev pub EdgeExamplesHold : Type 0
+EdgeExamplesHold = Each edgeExamples

@@ -1,15 +1,16 @@
--- The lettered examples of docs/RULES.md, a to z, as one list in the order of their letters and with the numbers given there.
+-- The lettered examples of docs/RULES.md, a to z and, of where load rises, 2a to 2i, as lists in the order of their letters and with the
+-- numbers given there.
 use Prim.Native.Nat.{ℕ, zero, suc, _-_}
 use mathlib.Core.Path.{_≡_}
 use mathlib.Core.Bool.{Bool, true, false, _&&_}
-use mathlib.Core.List.{List, [], _∷_, _++_}
+use mathlib.Core.List.{List, [], _∷_, _++_, map}
 use lib.Dec.{leb}
 use lib.IntN.{ℤ, pos, negℤ}
-use lib.ListN.{length, replicate}
+use lib.ListN.{length, take, replicate}
 use Rattle.bits.specs.Bits.{bits, fields, bytesOf}
 use Rattle.parts.specs.Parts.{partOf}
 use Rattle.tables.specs.Refusals.{first}
-use Rattle.parts.specs.Wire.{frame, statesOf}
+use Rattle.parts.specs.Wire.{State, lows, highs, stateCode, Edge, early, exact, late, frame, statesAt, statesOf}
 use Rattle.parts.specs.declared.command.Command.{Command}
 use Rattle.parts.specs.declared.command.Command.the-variants.{Individual, Calibration, Global, Configuration}
 use Rattle.serial.specs.States.{dataBits}
@@ -19,9 +20,15 @@ use Rattle.frame_reader.specs.Reading.{readRefusal}
 use Rattle.frames.specs.declared.told.Told.{Told}
 use Rattle.frames.specs.declared.told.Tail.{Tail}
 use Rattle.frame_writer.specs.declared.answer.Written.the-variants as W
+use Rattle.phases.specs.Phases.{placeOf}
+use Rattle.phases.specs.declared.phase.Phase.{Phase}
+use Rattle.phases.specs.declared.phase.Phase.the-variants.{Opening, Lost}
+use Rattle.registers.specs.Held.{bankBytes}
 use Rattle.device.specs.Step.{faulted, freshDevice}
+use Rattle.device.specs.Run.{run}
 use Rattle.device.specs.declared.device.Device.{Device}
 use Rattle.calls.specs.Calls.{returned}
+use Rattle.calls.specs.Chain.{through}
 use Rattle.subframes.specs.Subframes.{isOn}
 use Rattle.subframes.specs.Answers.{onAnswer, leadAnswer}
 use Rattle.schedule.specs.Light.{isEven}
@@ -48,6 +55,10 @@ threeDevices part = faulted (freshDevice part) 1 1 ∷ freshDevice part ∷ faul
 unfoldable pub threeStates : List ℕ → List ℕ
 threeStates bytes = statesOf (frame Calibration 0 (fields 8 (times 3 bytes)) (bits 8 0xA5))
 
+-- a calibration frame for two 6974, with the bytes 1 to 3 and 4 to 6, sent with an edge
+unfoldable pub twoStates : Edge → List ℕ
+twoStates edge = statesAt edge (frame Calibration 0 (fields 8 (1 ∷ 2 ∷ 3 ∷ 4 ∷ 5 ∷ 6 ∷ [])) [])
+
 -- ---- what an example says
 
 pub data Example : Type 0 where
@@ -69,6 +80,12 @@ pub data Example : Type 0 where
   output : ℕ → ℕ → ℕ → Example
   -- one device of a part, by its configuration, calibration bytes, global byte and values, and the sign that it is: total, average and remainder
   draws : ℕ → ℕ → List ℕ → ℕ → List ℕ → ℕ → ℕ → ℕ → Example
+  -- a fresh device of any part, given these line states, comes to a phase
+  comes : List State → Phase → Example
+  -- of two fresh 6974, given so many states of that frame with an edge, each holds these calibration bytes
+  holds : Edge → ℕ → List (List ℕ) → Example
+  -- what the first of them sends on of it
+  passes : Edge → List ℕ → Example
 
 -- what is answered of every output of a parity with a value, at every clock of every ON subframe, in every phase that there is
 abbrev pub Lights : ℕ → ℕ → Bool → (ℕ → Bool) → Type 0
@@ -95,6 +112,9 @@ Says (output part number n) = first (litRows part 0 0 number 0 0 0) ≡ n
 Says (draws part configuration bytes global values total average remainder) =
     (current (setOf part 1 configuration bytes global values) 3 ≡ record { total = total; average = average; remainder = remainder; refusal = 0 })
     × (currentOut (setOf part 1 configuration bytes global values) (replicate 3 0) ≡ total ∷ average ∷ remainder ∷ [])
+Says (comes states phase) = (part : ℕ) → (run (freshDevice part) (map stateCode states)) .0 .place ≡ placeOf phase
+Says (holds edge states bytes) = map (λ d. bankBytes (d .registers)) ((through (freshDevice 6974 ∷ freshDevice 6974 ∷ []) (take states (twoStates edge))) .0) ≡ bytes
+Says (passes edge states) = (run (freshDevice 6974) (twoStates edge)) .1 ≡ states
 
 -- all that stands under one letter
 abbrev pub All-say : List Example → Type 0
@@ -154,4 +174,31 @@ examples =
     ∷ draws 6975 0x11 (replicate 3 0) 3 (0 ∷ 16383 ∷ replicate 46 0) 12533760000 23906 131072 ∷ [])
     ∷ (y says draws 6972 0x00 (0xA9 ∷ 0 ∷ []) 96 (replicate 16 2560) 806191056000 1537687 214144 ∷ [])
     ∷ (z says draws 6974 0x08 (1 ∷ 2 ∷ 3 ∷ []) 5 (replicate 24 1000) 7013952000 13378 27136 ∷ [])
+    ∷ []
+
+-- device 1 stores at the 48th state and device 2 at the 72nd
+abbrev stores : Edge → List Example
+stores edge =
+    holds edge 47 (replicate 3 0 ∷ replicate 3 0 ∷ [])
+    ∷ holds edge 48 ((1 ∷ 2 ∷ 3 ∷ []) ∷ replicate 3 0 ∷ [])
+    ∷ holds edge 71 ((1 ∷ 2 ∷ 3 ∷ []) ∷ replicate 3 0 ∷ [])
+    ∷ holds edge 72 ((1 ∷ 2 ∷ 3 ∷ []) ∷ (4 ∷ 5 ∷ 6 ∷ []) ∷ [])
+    ∷ []
+
+-- SYNC at low load; the command three times, the count and the slice of device 2 at high
+abbrev sentOn : List ℕ
+sentOn = map stateCode (lows (bits 8 0xE8) ++ highs (bits 6 0b010101 ++ (bits 10 0 ++ fields 8 (4 ∷ 5 ∷ 6 ∷ []))))
+
+-- 2a to 2i
+abbrev pub edgeExamples : List Lettered
+edgeExamples =
+    (a says comes (lows (bits 7 0b1110100) ++ highs (bits 1 1)) Lost ∷ [])
+    ∷ (b says comes (highs (bits 1 0) ++ (lows (bits 7 0b1110100) ++ highs (bits 1 0))) (Opening 0b1) ∷ [])
+    ∷ (c says comes (lows (bits 9 0b111010001) ++ highs (bits 1 0)) (Opening 0b110) ∷ [])
+    ∷ (d says comes (lows (bits 10 0b1110100011) ++ highs (bits 1 1)) Lost ∷ [])
+    ∷ (e says comes (lows (bits 3 0b111) ++ (highs (bits 1 0) ++ (lows (bits 4 0b0100) ++ highs (bits 1 0)))) Lost ∷ [])
+    ∷ (f says comes (lows (bits 9 0b011010001) ++ highs (bits 1 1)) Lost ∷ [])
+    ∷ (g says stores early ++ (stores exact ++ stores late))
+    ∷ (h says comes (lows (bits 9 0b111101000) ++ highs (bits 1 1)) (Opening 0b11) ∷ [])
+    ∷ (i says passes early sentOn ∷ passes exact sentOn ∷ passes late sentOn ∷ [])
     ∷ []

@@ -64,9 +64,9 @@ enum {
     BB_REFUSED_UNUSED_BIT = 11, /* an unused bit of the last byte is 1 */
     BB_REFUSED_TAIL = 12,       /* the tail is not the one sent */
     BB_REFUSED_POSITION_OR_RECORD = 13 /* a device number, position (subframe, clock or output), window, line state,
-                                   fault kind (0 overtemperature, 1 open LED) or phase is out of range, or a device
-                                   record holds a value over its width, something in a place that its part does not
-                                   use, or numbers that fit none of the phases below */
+                                   edge (0 early, 1 exact, 2 late), fault kind (0 overtemperature, 1 open LED) or phase
+                                   is out of range, or a device record holds a value over its width, something in a
+                                   place that its part does not use, or numbers that fit none of the phases below */
 };
 
 /* Commands, C1 C0. */
@@ -75,6 +75,16 @@ enum {
     BB_CALIBRATION = 1,
     BB_GLOBAL = 2,
     BB_CONFIGURATION = 3
+};
+
+/*
+ * Edges: the bit of a frame with which load rises. Send BB_EXACT to a sign. A device takes all three, and whichever it
+ * is sent, it sends the exact edge on.
+ */
+enum {
+    BB_EARLY = 0, /* the last bit of SYNC */
+    BB_EXACT = 1, /* the first command bit */
+    BB_LATE = 2   /* the second command bit */
 };
 
 /* Fault kinds. */
@@ -137,8 +147,8 @@ struct bb_registers {
 
 /*
  * Where a device is in the frame. Numbers that a phase does not use are 0.
- *   BB_HUNTING   read: the last eight low bits since the last high clock, as a byte
- *   BB_OPENING   read: a leading one and then the command bits so far, 2 to 63
+ *   BB_HUNTING   read: the window, the last nine low bits since the last high clock as a number, below 512
+ *   BB_OPENING   read: a leading one and then the command bits so far, 1 (none yet, after an early edge) to 63
  *   BB_COUNTING  command; read: a leading one and then the count bits so far, 1 to 1023
  *   BB_SLICE     command; count, below 1024; read: bits taken, below the slice's bits by command, part and own D0
  *   BB_PASSING, BB_LOST
@@ -283,11 +293,14 @@ struct bb_answer bb_read_return(uint16_t part, size_t devices, uint8_t command, 
 /* ---- From bytes to line states and back ---- */
 
 /*
- * Gives the line states of a packed frame of `bits` bits: the first 8 at low load, the rest at high. Answers the number
- * of states written, `bits`. Unused bits of the last byte are not looked at.
- * Refused with 4 where `frame_length` is not (bits + 7) / 8, and with 5 where `room` is below `bits`.
+ * Gives the line states of a packed frame of `bits` bits that is sent with an edge, BB_EXACT to a sign: the first 7
+ * (BB_EARLY), 8 (BB_EXACT) or 9 (BB_LATE) bits at low load, the rest at high; a frame with no more bits is all at low.
+ * Answers the number of states written, `bits`. Unused bits of the last byte are not looked at.
+ * Refused with 4 where `frame_length` is not (bits + 7) / 8, with 5 where `room` is below `bits`, and with 13 where
+ * `edge` is over 2.
  */
-struct bb_answer bb_states(const uint8_t *frame, size_t frame_length, size_t bits, uint8_t *states, size_t room);
+struct bb_answer bb_states(const uint8_t *frame, size_t frame_length, size_t bits, uint8_t edge, uint8_t *states,
+                           size_t room);
 
 /*
  * Packs the data bits of line states as bb_read_return takes them, and answers the number of bytes written,

@@ -94,7 +94,7 @@ static uint64_t send(const struct set *set, struct bb_device *chain, uint8_t com
     uint8_t frame[512], states[4096], returned[4096], back[16];
     size_t length = write_frame(set, command, DEVICES, TAIL, TAIL_LENGTH, frame, sizeof frame);
     size_t bits = 24 + DEVICES * bb_slice_bits(command, PART, CONFIGURATION).value + TAIL_LENGTH;
-    struct bb_answer on_line = bb_states(frame, length, bits, states, sizeof states);
+    struct bb_answer on_line = bb_states(frame, length, bits, BB_EXACT, states, sizeof states);
     expect("the frame has states", on_line.refusal == 0 && on_line.value == bits);
     struct bb_answer sent = bb_run(chain, DEVICES, states, on_line.value, returned, sizeof returned);
     expect("the run is accepted", sent.refusal == 0);

@@ -196,11 +196,11 @@ pub fn read_return(told: &Told, bytes: &[u8]) -> Answer {
     }
 }
 
-/// The line states of a packed frame.
-pub fn states(frame: &[u8], bits: usize, states: &mut [u8]) -> Answer {
+/// The line states of a packed frame that is sent with an edge: 0 early, 1 exact, 2 late.
+pub fn states(frame: &[u8], bits: usize, edge: u8, states: &mut [u8]) -> Answer {
     let (room, states) = (states.len(), states.as_mut_ptr());
     // SAFETY: both slices are lent for the call, with their lengths.
-    unsafe { raw::bb_states(frame.as_ptr(), frame.len(), bits, states, room) }
+    unsafe { raw::bb_states(frame.as_ptr(), frame.len(), bits, edge, states, room) }
 }
 
 /// The data bits of line states, packed.

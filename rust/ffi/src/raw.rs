@@ -64,6 +64,7 @@ extern "C" {
         frame: *const u8,
         frame_length: usize,
         bits: usize,
+        edge: u8,
         states: *mut u8,
         room: usize,
     ) -> Answer;

@@ -57,7 +57,8 @@ pub struct Place {
     pub command: u8,
     /// The count received, in the slice.
     pub count: u16,
-    /// The window of low bits; a leading one and the bits so far; or the slice's bits taken.
+    /// The window of the last nine low bits, below 512; a leading one and the bits so far, of the command 1 (none yet) to
+    /// 63, of the count 1 to 1023; or the slice's bits taken.
     pub read: u16,
 }
 

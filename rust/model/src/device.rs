@@ -1,16 +1,20 @@
 //! One device, clock by clock.
 
 use crate::bits::{bits_of, number_of};
-use crate::frame::{header, SYNC};
+use crate::edge::Edge;
+use crate::frame::header;
 use crate::part::{field_width, multiplexed, slice_bits, Command, Part};
 use crate::serial::clocked;
 use crate::{refuse, Refusal};
 
+/// Low bits that a record keeps.
+const WINDOW: u32 = 9;
+
 /// Where a device is in the frame.
 #[derive(Clone, Debug, PartialEq, Eq)]
 pub enum Phase {
-    /// The last eight bits of the low clocks since the last high one.
-    Hunting(u8),
+    /// The bits of the low clocks since the last high one; of a record, the last nine of them.
+    Hunting(Vec<bool>),
     /// The command bits so far.
     Opening(Vec<bool>),
     /// The command, and the count bits so far.
@@ -111,19 +115,21 @@ impl Device {
     }
 
     fn low(mut self, bit: bool) -> Device {
-        let window = match self.phase {
-            Phase::Hunting(window) => window,
-            _ => 0,
+        let heard = match self.phase {
+            Phase::Hunting(low) => low,
+            _ => vec![],
         };
-        self.phase = Phase::Hunting(window << 1 | u8::from(bit));
+        self.phase = Phase::Hunting(joined(heard, bit));
         self
     }
 
     fn high(mut self, bit: bool, state: u8) -> (Device, Vec<u8>) {
         let phase = self.phase.clone();
         self.phase = match phase {
-            Phase::Hunting(window) if u64::from(window) == SYNC => Phase::Opening(vec![bit]),
-            Phase::Hunting(_) => Phase::Lost,
+            Phase::Hunting(low) => match Edge::read(&low, bit) {
+                Some((_, command_bits)) => Phase::Opening(command_bits),
+                None => Phase::Lost,
+            },
             Phase::Opening(bits) => opened(joined(bits, bit)),
             Phase::Counting(command, bits) => counted(command, joined(bits, bit)),
             Phase::Slice(command, count, taken) => {
@@ -229,8 +235,10 @@ fn phase_of(place: &record::Place, part: Part, configuration: u8) -> Result<Phas
     } = *place;
     let command = Command::ALL.into_iter().find(|c| c.code() == code);
     match (phase, command, count, read) {
-        (record::HUNTING, Some(Command::Individual), 0, 0..=255) => Ok(Phase::Hunting(read as u8)),
-        (record::OPENING, Some(Command::Individual), 0, 2..=63) => {
+        (record::HUNTING, Some(Command::Individual), 0, 0..=511) => {
+            Ok(Phase::Hunting(bits_of(WINDOW, u64::from(read))))
+        }
+        (record::OPENING, Some(Command::Individual), 0, 1..=63) => {
             Ok(Phase::Opening(bits_after_one(read)))
         }
         (record::COUNTING, Some(command), 0, 1..=1023) => {
@@ -257,9 +265,15 @@ fn one_and(bits: &[bool]) -> u16 {
     (1 << bits.len()) + number_of(bits) as u16
 }
 
+/// The last low bits, as a number. SYNC begins with a one, so that no edge goes by zeros in front.
+fn window(low: &[bool]) -> u16 {
+    let kept = low.len().min(WINDOW as usize);
+    number_of(&low[low.len() - kept..]) as u16
+}
+
 fn place_of(phase: &Phase) -> record::Place {
     let (phase, command, count, read) = match phase {
-        Phase::Hunting(window) => (record::HUNTING, 0, 0, u16::from(*window)),
+        Phase::Hunting(low) => (record::HUNTING, 0, 0, window(low)),
         Phase::Opening(bits) => (record::OPENING, 0, 0, one_and(bits)),
         Phase::Counting(command, bits) => (record::COUNTING, command.code(), 0, one_and(bits)),
         Phase::Slice(command, count, taken) => {

@@ -11,6 +11,7 @@ pub mod chain;
 pub mod compare;
 pub mod current;
 pub mod device;
+pub mod edge;
 pub mod frame;
 pub mod light;
 pub mod part;

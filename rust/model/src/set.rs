@@ -1,5 +1,6 @@
 //! A set: the settings of a whole sign.
 
+use crate::edge::Edge;
 use crate::frame::{frame_bits, Tail, Told};
 use crate::part::{slice_fields, Command, Part};
 use crate::serial::states_of_frame;
@@ -81,11 +82,22 @@ impl Set {
         }
     }
 
-    /// The line states of one frame.
+    /// The line states of one frame, with the exact edge.
     pub fn states(&self, command: Command, tail: Tail) -> Result<Vec<u8>, Refusal> {
+        self.states_with(Edge::Exact, command, tail)
+    }
+
+    /// The line states of one frame, with an edge.
+    pub fn states_with(
+        &self,
+        edge: Edge,
+        command: Command,
+        tail: Tail,
+    ) -> Result<Vec<u8>, Refusal> {
         let told = self.told(command, tail);
         let frame = write(&told, &self.given(command), usize::MAX)?;
-        states_of_frame(&frame, frame_bits(&told, Part::of(self.part)?), usize::MAX)
+        let bits = frame_bits(&told, Part::of(self.part)?);
+        states_of_frame(&frame, bits, edge.number(), usize::MAX)
     }
 
     /// Where one device's own share of a command's list stands, in a set in order; devices are numbered from 1.

@@ -201,11 +201,14 @@ fn records_that_do_not_fit() {
             }
         })
     };
-    assert_eq!(place(record::HUNTING, 0, 0, 255), 0);
-    assert_eq!(place(record::HUNTING, 0, 0, 256), 13);
+    assert_eq!(place(record::HUNTING, 0, 0, 256), 0);
+    assert_eq!(place(record::HUNTING, 0, 0, 511), 0);
+    assert_eq!(place(record::HUNTING, 0, 0, 512), 13);
     assert_eq!(place(record::HUNTING, 1, 0, 0), 13);
-    assert_eq!(place(record::OPENING, 0, 0, 1), 13);
+    assert_eq!(place(record::OPENING, 0, 0, 0), 13);
+    assert_eq!(place(record::OPENING, 0, 0, 1), 0);
     assert_eq!(place(record::OPENING, 0, 0, 63), 0);
+    assert_eq!(place(record::OPENING, 0, 0, 64), 13);
     assert_eq!(place(record::COUNTING, 3, 0, 1), 0);
     assert_eq!(place(record::COUNTING, 4, 0, 1), 13);
     assert_eq!(place(record::SLICE, 0, 1023, 287), 0);
@@ -217,16 +220,19 @@ fn records_that_do_not_fit() {
 
 #[test]
 fn every_place_comes_back_as_it_was() {
-    for (phase, command, count, read) in [(0, 0, 0, 77), (1, 0, 0, 45), (2, 2, 0, 513)] {
+    let fits = |phase, command, read| {
         let mut device = Device::fresh(6975);
         device.place = Place {
             phase,
             command,
-            count,
+            count: 0,
             read,
         };
         assert_eq!(Judged::of_record(&device).unwrap().to_record(), device);
-    }
+    };
+    (0..512).for_each(|read| fits(record::HUNTING, 0, read));
+    (1..64).for_each(|read| fits(record::OPENING, 0, read));
+    (1..1024).for_each(|read| fits(record::COUNTING, 2, read));
 }
 
 #[test]

@@ -5,6 +5,9 @@ use crate::part::{CALIBRATION, GLOBAL, INDIVIDUAL};
 use crate::Refusal;
 use record::{Device, Place, Registers, COUNTING, HUNTING, LOST, OPENING, PASSING, SLICE};
 
+/// The nine low bits that a hunting device keeps.
+const WINDOW: u16 = 0x1FF;
+
 /// What a device sends on.
 #[derive(Clone, Copy, Debug, PartialEq, Eq)]
 pub enum Sent {
@@ -74,8 +77,8 @@ fn fits_place(device: &Device) -> bool {
     } = device.place;
     let r = &device.registers;
     match phase {
-        HUNTING => command == 0 && count == 0 && read < 256,
-        OPENING => command == 0 && count == 0 && (2..64).contains(&read),
+        HUNTING => command == 0 && count == 0 && read <= WINDOW,
+        OPENING => command == 0 && count == 0 && (1..64).contains(&read),
         COUNTING => command < 4 && count == 0 && (1..1024).contains(&read),
         SLICE => {
             let bits = || slice_bits(command, r.part, r.configuration);
@@ -108,7 +111,7 @@ fn low(device: &mut Device, bit: u16) {
         HUNTING => device.place.read,
         _ => 0,
     };
-    device.place = place(HUNTING, 0, 0, (window << 1 | bit) & 0xFF);
+    device.place = place(HUNTING, 0, 0, (window << 1 | bit) & WINDOW);
 }
 
 /// A high clock before the slice.
@@ -121,7 +124,7 @@ fn open(device: &mut Device, bit: u16) {
     } = device.place;
     let next = read << 1 | bit;
     device.place = match phase {
-        HUNTING if read == 0xE8 => place(OPENING, 0, 0, 2 | bit),
+        HUNTING => rise(read, bit),
         OPENING if next < 64 => place(OPENING, 0, 0, next),
         OPENING => match next & 63 {
             pairs @ (0 | 0x15 | 0x2A | 0x3F) => place(COUNTING, (pairs & 3) as u8, 0, 1),
@@ -131,6 +134,19 @@ fn open(device: &mut Device, bit: u16) {
         COUNTING => place(SLICE, command, next & 1023, 0),
         _ => Place::of(LOST),
     };
+}
+
+/// Load goes high: with the last bit of SYNC, with the first command bit, or with the second.
+fn rise(window: u16, bit: u16) -> Place {
+    if window & 0xFF == 0xE8 {
+        place(OPENING, 0, 0, 2 | bit)
+    } else if window & 0x7F == 0x74 && bit == 0 {
+        place(OPENING, 0, 0, 1)
+    } else if window >> 1 == 0xE8 {
+        place(OPENING, 0, 0, 4 | (window & 1) << 1 | bit)
+    } else {
+        Place::of(LOST)
+    }
 }
 
 fn take_bit(device: &mut Device, bit: u16) -> Sent {
@@ -159,7 +175,7 @@ pub fn take_lows(device: &mut Device, states: &[u8]) -> usize {
         taken += 1;
     }
     if taken > 0 {
-        device.place = place(HUNTING, 0, 0, window & 0xFF);
+        device.place = place(HUNTING, 0, 0, window & WINDOW);
     }
     taken
 }

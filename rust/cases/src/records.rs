@@ -40,10 +40,7 @@ fn place(random: &mut Random, part: Part, configuration: u8) -> Place {
     let command = random.pick(&Command::ALL);
     let mut place = Place::of(phase);
     match phase {
-        record::HUNTING => {
-            let any = random.byte().into();
-            place.read = random.pick(&[0xE8, 0xE8, any]);
-        }
+        record::HUNTING => place.read = window(random),
         record::OPENING => place.read = opening(random),
         record::COUNTING => {
             place.command = command.code();
@@ -61,14 +58,25 @@ fn place(random: &mut Random, part: Part, configuration: u8) -> Place {
     place
 }
 
-/// Command bits so far: one of the beginnings of a command, or any.
+/// Nine low bits: those about SYNC, from two bits before its end to two bits behind it, or any.
+fn window(random: &mut Random) -> u16 {
+    let any = random.next() as u16;
+    let about_sync = any & !0x3FC | 0xE8 << 2;
+    let kept = match random.below(3) {
+        0 => any,
+        _ => about_sync >> random.below(5),
+    };
+    kept & 0x1FF
+}
+
+/// Command bits so far, or none yet: one of the beginnings of a command, or any.
 fn opening(random: &mut Random) -> u16 {
     let code = random.below(4) as u16;
     let whole = 0x40 | (code * 0x15);
     match random.below(3) {
         0 => whole >> 1,
-        1 => whole >> random.between(1, 5),
-        _ => random.between(2, 63) as u16,
+        1 => whole >> random.between(1, 6),
+        _ => random.between(1, 63) as u16,
     }
 }
 
@@ -106,7 +114,8 @@ fn read(random: &mut Random, part: Part, configuration: u8) -> u16 {
     let mode = random.pick(&[configuration, other]);
     let bits = slice_bits(command, part, mode) as u16;
     let any = random.next() as u16;
-    let limit = random.pick(&[0, 1, 2, 63, 64, 255, 256, 1023, 1024, any]);
+    let limits = [0, 1, 2, 63, 64, 255, 256, 511, 512, 513, 1023, 1024, any];
+    let limit = random.pick(&limits);
     random.pick(&[bits - 1, bits, limit])
 }
 

@@ -1,7 +1,7 @@
 //! One device by value: its judgement and its step.
 
-use crate::tally::Tally;
-use cases::records;
+use crate::tally::{Case, Tally};
+use cases::{records, sets};
 use ffi::Stepped;
 use model::device::Device;
 use model::frame::header;
@@ -19,28 +19,52 @@ pub fn judged_and_stepped() -> Tally {
         };
         let any = random.byte();
         let state = random.pick(&[0, 1, 2, 3, 2, 3, 3, any]);
-        let judged = Device::of_record(&record);
-        let refusal = judged.as_ref().err().copied().unwrap_or(0);
-        case.same("judgement", ffi::judge(record), refusal);
-
-        let stepped = ffi::step(record, state);
-        case.reach(stepped.refusal);
-        let refusal = match refusal {
-            0 if state > 3 => 13,
-            other => other,
-        };
-        case.same("refusal", stepped.refusal, refusal);
-        match judged {
-            Ok(device) if state < 4 => {
-                let (next, sent) = device.step(state);
-                case.same("next device", stepped.device, next.to_record());
-                case.same("sent", states_of(&stepped), sent);
-            }
-            _ => case.same("refused", stepped, kept(record, refusal)),
-        }
+        judge_and_step(case, record, state);
     });
-    tally.close(&[0, 1, 13]);
+    tally.close_rises(&[0, 1, 13]);
     tally
+}
+
+/// Every window and every number of bits read, in every phase and past the last; every state.
+pub fn every_read() -> Tally {
+    let mut tally = Tally::new("judge and step, every window", 0);
+    let mut number = 0;
+    for phase in 0..=6 {
+        for read in 0..=1025 {
+            for state in 0..=4 {
+                let mut record = record::Device::fresh(sets::part(number));
+                record.place.phase = phase;
+                record.place.read = read;
+                tally.case(number, |case| judge_and_step(case, record, state));
+                number += 1;
+            }
+        }
+    }
+    tally.close_rises(&[0, 13]);
+    tally
+}
+
+fn judge_and_step(case: &mut Case, record: record::Device, state: u8) {
+    let judged = Device::of_record(&record);
+    let refusal = judged.as_ref().err().copied().unwrap_or(0);
+    case.same("judgement", ffi::judge(record), refusal);
+
+    let stepped = ffi::step(record, state);
+    case.reach(stepped.refusal);
+    let refusal = match refusal {
+        0 if state > 3 => 13,
+        other => other,
+    };
+    case.same("refusal", stepped.refusal, refusal);
+    match judged {
+        Ok(device) if state < 4 => {
+            case.rises(&record, &[state]);
+            let (next, sent) = device.step(state);
+            case.same("next device", stepped.device, next.to_record());
+            case.same("sent", states_of(&stepped), sent);
+        }
+        _ => case.same("refused", stepped, kept(record, refusal)),
+    }
 }
 
 /// The answer of a refused step: the device as it came in, and nothing else.

@@ -5,8 +5,10 @@
 
 use crate::tally::{Case, Tally};
 use cases::{records, sets, states, Random};
+use model::edge::Edge;
 use model::frame::{header, Tail};
 use model::part::{multiplexed, slice_bits, Command, Part};
+use model::serial::clocked;
 use model::set::Set;
 use record::Device;
 
@@ -21,7 +23,7 @@ struct Chain {
 pub fn restored() -> Tally {
     let mut tally = Tally::new("histories, restores and cuts", 0x415D);
     tally.of_each_part(500, history);
-    tally.close(&[0, 1, 2, 5, 13]);
+    tally.close_rises(&[0, 1, 2, 5, 13]);
     tally
 }
 
@@ -60,6 +62,7 @@ impl Chain {
     fn run(&mut self, case: &mut Case, states: &[u8]) -> Vec<u8> {
         let room = states.len() + 23;
         let mut returned = vec![0xEE; room];
+        case.rises(&self.model[0], states);
         let found = ffi::run(&mut self.library, states, &mut returned);
         let expected = model::chain::run(&mut self.model, states, room).unwrap_or_default();
         returned.truncate((found.value as usize).min(room));
@@ -146,14 +149,15 @@ struct Restore<'a> {
 }
 
 impl Restore<'_> {
-    /// Four frames with any tails, low clocks before, between and after.
+    /// Four frames with any tails, each with any edge, low clocks before, between and after.
     fn new<'a>(random: &mut Random, set: &'a Set) -> Restore<'a> {
         let tails = [(); 4].map(|()| sets::tail(random));
         let mut states = states::gap(random);
         let mut begins = [0; 4];
         for (k, command) in Command::RESTORE.into_iter().enumerate() {
             begins[k] = states.len();
-            states.extend(library_states(set, command, tails[k]));
+            let edge = random.pick(&Edge::ALL);
+            states.extend(library_states(set, command, tails[k], edge));
             states.extend(states::gap(random));
         }
         Restore {
@@ -203,9 +207,12 @@ impl Restore<'_> {
         case.same("compare", (compared.group, compared.refusal), (0, 0));
     }
 
-    /// SYNC, the command three times, the number of devices whose flag of the frame's kind stands, the tail.
+    /// SYNC, the command three times, the number of devices whose flag of the frame's kind stands, the tail; with the
+    /// exact edge, whichever was sent.
     fn is_return(&self, case: &mut Case, command: Command, tail: Tail, count: u16, states: &[u8]) {
-        let expected = model::bits::pack(&[header(command, count), tail.bits()].concat());
+        let bits = [header(command, count), tail.bits()].concat();
+        case.same("returned states", states, &clocked(&bits));
+        let expected = model::bits::pack(&bits);
         let mut bytes = vec![0; states.len().div_ceil(8)];
         let packed = ffi::data_bytes(states, &mut bytes);
         case.same("return", (packed.refusal, &bytes), (0, &expected));
@@ -307,8 +314,8 @@ fn front<T: Copy + Default, const N: usize>(values: &[T]) -> [T; N] {
     std::array::from_fn(|k| values.get(k).copied().unwrap_or_default())
 }
 
-/// A frame's states by the library's own way: written, and put on the wire.
-fn library_states(set: &Set, command: Command, tail: Tail) -> Vec<u8> {
+/// A frame's states by the library's own way: written, and put on the wire with an edge.
+fn library_states(set: &Set, command: Command, tail: Tail, edge: Edge) -> Vec<u8> {
     let given = set.given(command);
     let told = told(set, command, tail);
     let slice = ffi::slice_bits(command.code(), set.part, set.configuration).value as usize;
@@ -323,7 +330,7 @@ fn library_states(set: &Set, command: Command, tail: Tail) -> Vec<u8> {
     );
     assert_eq!(written.refusal, 0, "a set in order is written");
     let mut states = vec![0; bits];
-    let answer = ffi::states(&frame, bits, &mut states);
+    let answer = ffi::states(&frame, bits, edge.number(), &mut states);
     assert_eq!(answer.refusal, 0, "a written frame has states");
     states
 }

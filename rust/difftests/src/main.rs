@@ -1,10 +1,11 @@
 //! The proved library against the independent model, on random cases from fixed seeds; currents also against the
 //! baseline, which takes large signs.
 //!
-//! Every kind of test prints its cases, its seed and how often each answer was given. A kind is one test: it fails if a
-//! case differs or if an answer that it must reach was never given. The last line is `N passed, M failed` and counts
-//! kinds; the exit status is 0 only if none failed. Arguments choose kinds by the beginnings of their names, as `frames`
-//! or `light::lit`.
+//! Every kind of test prints its cases, its seed and how often each answer was given, and where devices are stepped,
+//! how often load rose with each edge. A kind is one test: it fails if a case differs, if an answer that it must reach
+//! was never given, or if load never rose as it must. The last line is `N passed, M failed` and counts kinds; the exit
+//! status is 0 only if none failed. Arguments choose kinds by the beginnings of their names, as `frames` or
+//! `light::lit`.
 
 mod bits;
 mod chain;
@@ -21,15 +22,17 @@ use tally::{commas, Tally};
 
 fn main() {
     let wanted: Vec<String> = std::env::args().skip(1).collect();
-    let kinds: [(&str, fn() -> Tally); 20] = [
+    let kinds: [(&str, fn() -> Tally); 22] = [
         ("bits::packing", bits::packing),
         ("bits::parts", bits::parts),
         ("frames::written", frames::written),
         ("frames::read", frames::read),
         ("frames::returned", frames::returned),
         ("serial::states", serial::states),
+        ("serial::edges", serial::edges),
         ("serial::data_bytes", serial::data_bytes),
         ("device::judged_and_stepped", device::judged_and_stepped),
+        ("device::every_read", device::every_read),
         ("chain::lent", chain::lent),
         ("history::restored", history::restored),
         ("light::schedules", light::schedules),

@@ -1,11 +1,17 @@
 //! Counts of the cases of a kind, and what one that differs shows.
 
 use cases::{sets, Random};
+use model::bits::bits_of;
+use model::edge::Edge;
 use model::part::Part;
+use record::Device;
 use std::fmt::Debug;
 
 /// Cases that differ are printed up to so many for each kind.
 const SHOWN: u64 = 3;
+
+/// How load can rise at a hunting device: with each edge, or with none, and the device is lost.
+const RISES: [&str; 4] = ["early", "exact", "late", "lost"];
 
 /// One kind of test: many cases, which pass or fail together.
 pub struct Tally {
@@ -20,12 +26,15 @@ pub struct Tally {
     /// Answers that should have been given, and never were.
     missing: u64,
     reached: [u64; 14],
+    /// How often load rose, by [`RISES`].
+    rises: [u64; 4],
 }
 
 /// One case.
 pub struct Case {
     differences: Vec<String>,
     refusals: Vec<u8>,
+    rises: [u64; 4],
 }
 
 impl Tally {
@@ -39,6 +48,7 @@ impl Tally {
             of_each_part: None,
             missing: 0,
             reached: [0; 14],
+            rises: [0; 4],
         }
     }
 
@@ -71,8 +81,12 @@ impl Tally {
         let mut case = Case {
             differences: vec![],
             refusals: vec![],
+            rises: [0; 4],
         };
         run(&mut case);
+        for (count, more) in self.rises.iter_mut().zip(case.rises) {
+            *count += more;
+        }
         for refusal in case.refusals {
             match self.reached.get_mut(usize::from(refusal)) {
                 Some(count) => *count += 1,
@@ -111,6 +125,20 @@ impl Tally {
             different => println!("{name}: {cases}; {} differ", commas(different)),
         }
         println!("    seed {:#x}; answers {}", self.seed, self.answers());
+    }
+
+    /// Prints the same and how often load rose, which must have been with each edge and with none.
+    pub fn close_rises(&mut self, numbers: &[u8]) {
+        let mut rises = vec![];
+        for (how, count) in RISES.into_iter().zip(self.rises) {
+            if count == 0 {
+                println!("{}: load never rose: {how}", self.name);
+                self.missing += 1;
+            }
+            rises.push(format!("{how} {}", commas(count)));
+        }
+        self.close(numbers);
+        println!("    load rose: {}", rises.join("; "));
     }
 
     /// How often each answer was given.
@@ -156,6 +184,21 @@ impl Case {
                 around(&library, at),
                 around(&model, at)
             ));
+        }
+    }
+
+    /// Counts how load rises at a device that is given states.
+    pub fn rises(&mut self, device: &Device, states: &[u8]) {
+        let hunting = device.place.phase == record::HUNTING;
+        let mut low = hunting.then(|| bits_of(9, u64::from(device.place.read)));
+        for &state in states {
+            let bit = state & 1 == 1;
+            if state < 2 {
+                low.get_or_insert_with(Vec::new).push(bit);
+            } else if let Some(low) = low.take() {
+                let read = Edge::read(&low, bit);
+                self.rises[read.map_or(3, |(edge, _)| usize::from(edge.number()))] += 1;
+            }
         }
     }
 

@@ -89,7 +89,8 @@ currents = (
 
 -- of the 16-output parts, l to s, and what follows
 sixteen : Each (drop 11 examples)
-unfolding bits number fields split padded bytesOf over commandCount header frame clockedAt frameBits frameOf writeRefusal written writtenOut heldFields readRefusal threeStates chain run stepRecord howManyFrom onAnswer leadAnswer positionOver
+unfolding bits number fields split padded bytesOf over commandCount header frame clockedAt frameBits frameOf
+    writeRefusal written writtenOut heldFields readRefusal threeStates chain run stepRecord howManyFrom onAnswer leadAnswer positionOver
 sixteen = (
   ((refl, refl, refl), tt),
   (
@@ -120,7 +121,8 @@ sixteen = (
 )
 
 pub examples-hold : Each examples
-unfolding bits number fields split padded bytesOf over commandCount header frame clockedAt frameBits frameOf writeRefusal written writtenOut heldFields readRefusal threeStates chain run stepRecord howManyFrom onAnswer leadAnswer
+unfolding bits number fields split padded bytesOf over commandCount header frame clockedAt frameBits frameOf
+    writeRefusal written writtenOut heldFields readRefusal threeStates chain run stepRecord howManyFrom onAnswer leadAnswer
 examples-hold = (
   ((refl, refl, refl), tt),
   (

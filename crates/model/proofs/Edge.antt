@@ -11,8 +11,8 @@ use native.Mathlib.Omega.{arith}
 use lib.Dec.{eqb, leb, leb→le, nleb→lt}
 use lib.ListN.{length, take, drop, length-append, length-drop, take-append-drop}
 use lib.Pow.{pow-mono}
-use borrow.Author.Tests.{eqb-true}
-use Rattle.tables.proofs.Booleans.{cond-both}
+use borrow.Author.Tests.{not-true, eqb-true}
+use Rattle.tables.proofs.Booleans.{and-both, cond-both}
 use Rattle.bits.specs.Bits.{digit, bits, number, isOne}
 use Rattle.bits.proofs.Laws.{bits-append, bits-low, bits-mod-self, bits-number, number-bits, number-append, number-lt}
 use Rattle.parts.specs.Wire.{State, low, high, lows, Edge, early, exact, late, sync}
@@ -142,11 +142,6 @@ one-bit : (n : ℕ) → bits 1 n ≡ isOne (n / 1 % 2) ∷ []
 unfolding bits
 one-bit n = refl
 
-both-true : (x y : Bool) → x && not y ≡ true → (x ≡ true) × (y ≡ false)
-both-true true false e = (refl, refl)
-both-true true true e = absurd (let z : _≡_ {A = ℕ} 0 1 = cc in omega arith)
-both-true false y e = absurd (let z : _≡_ {A = ℕ} 0 1 = cc in omega arith)
-
 -- after seen at low load, the first of them after a high clock: one of the readings, or lost
 module _ (seen : List Bool) (first : Bool) where
   abbrev Read : Type 0
@@ -155,9 +150,9 @@ module _ (seen : List Bool) (first : Bool) where
   read-early : eqb (number seen % 512 % 128) 0x74 && not first ≡ true → Read
   unfolding bits
   read-early h =
-      let (t, f) = both-true (eqb (number seen % 512 % 128) 0x74) first h in
+      let (t, z) = and-both (eqb (number seen % 512 % 128) 0x74) (not first) h in
       let n : number seen % 128 ≡ 0x74 = omega (arith, eqb-true (number seen % 512 % 128) 0x74 t) in
-      (early, [], (rw n at (ends 7 seen (long 6 seen (omega arith))), f, refl))
+      (early, [], (rw n at (ends 7 seen (long 6 seen (omega arith))), not-true first z, refl))
 
   read-exact : eqb (number seen % 512 % 256) 0xE8 ≡ true → Read
   read-exact h =

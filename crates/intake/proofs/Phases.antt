@@ -4,9 +4,9 @@ use mathlib.Core.Path.{_≡_, refl, sym, ap, _∙_, subst}
 use mathlib.Core.Bool.{Bool, true, false, cond, true≢false}
 use mathlib.Core.List.{List, [], _∷_}
 use mathlib.Core.Logic.{⊎-elim}
-use Prim.Native.Nat.{ℕ, _+_, _-_, _%_, _*_, _<_, _≤_}
+use Prim.Native.Nat.{ℕ, _+_, _%_, _<_, _≤_}
 use native.Mathlib.Omega.{arith}
-use lib.Dec.{ltb, eqb, lit<}
+use lib.Dec.{ltb, lit<}
 use lib.ListN.{length, getD, drop}
 use lib.Seq.{drop-drop}
 use types.Run.{OneOf}
@@ -14,11 +14,10 @@ use denote.Enum.Declared.{tagOf}
 use Rattle.phases.proofs.phase.Phase.{the-type}
 use borrow.Author.Tests.{le-ltb, lt-ltb}
 use Rattle.parts.specs.declared.command.Command.{Command}
-use Rattle.phases.specs.Phases.{phaseOf, heard, inHeader, headed, opened}
+use Rattle.phases.specs.Phases.{phaseOf, heard, inHeader, headed}
 use Rattle.device.specs.Step.{step, stepHigh, at, moved, sliceLength}
 use Rattle.phases.proofs.Places.{Small, phase-place, phase-small}
-use Rattle.phases.proofs.Rising.{rising-small}
-use Rattle.tables.proofs.Booleans.{cond-both}
+use Rattle.phases.proofs.Rising.{rising-small, opening-small, counting-small}
 use Rattle.phases.specs.declared.phase.Phase.{Phase}
 use Rattle.phases.specs.declared.phase.Phase.the-variants.{Hunting, Opening, Counting, Slice, Passing, Lost}
 use Rattle.phases.specs.declared.phase.Sent.the-variants.{Nothing}
@@ -86,17 +85,10 @@ step-headed r (Slice c n t) s h = absurd (true≢false (sym h))
 step-headed r Passing s h = absurd (true≢false (sym h))
 step-headed r Lost s h = absurd (true≢false (sym h))
 
-opened-small : (n : ℕ) → Small (opened n)
-opened-small n =
-    cond-both Small (eqb n 0) _ _ (λ _. lit< tt)
-    (λ _. cond-both Small (eqb n 21) _ _ (λ _. lit< tt)
-    (λ _. cond-both Small (eqb n 42) _ _ (λ _. lit< tt)
-    (λ _. cond-both Small (eqb n 63) _ _ (λ _. lit< tt) (λ _. lit< tt))))
-
 pub headed-small : (p : Phase) (b : ℕ) → Small p → Small (headed p b)
 headed-small (Hunting w) b h = rising-small w b
-headed-small (Opening n) b h = cond-both Small (ltb (n * 2 + b) 64) _ _ (λ _. lit< tt) (λ _. opened-small (n * 2 + b - 64))
-headed-small (Counting c n) b h = cond-both Small (ltb (n * 2 + b) 1024) _ _ (λ _. lit< tt) (λ _. lit< tt)
+headed-small (Opening n) b h = opening-small n b
+headed-small (Counting c n) b h = counting-small c n b
 headed-small (Slice c n t) b h = h
 headed-small Passing b h = h
 headed-small Lost b h = h

@@ -3,7 +3,7 @@
 use mathlib.Core.Path.{_≡_, refl, sym, ap, _∙_}
 use mathlib.Core.Bool.{Bool, true, false, cond}
 use mathlib.Core.List.{List, [], _∷_, map}
-use Prim.Native.Nat.{ℕ, zero, suc, _+_, _-_, _*_, _/_, _%_, _≤_, _<_}
+use Prim.Native.Nat.{ℕ, zero, suc, _+_, _*_, _/_, _%_, _≤_, _<_}
 use native.Mathlib.Nat.{mod-lt}
 use native.Mathlib.Omega.{arith}
 use lib.Dec.{eqb, ltb, leb, lit<}
@@ -13,7 +13,7 @@ use Rattle.parts.specs.Parts.{partOf, multiplex, fieldWidth, fieldLimit}
 use Rattle.parts.specs.Wire.{State, low, high, stateAt, stateCode, header, clocked, statesOf}
 use Rattle.parts.specs.declared.command.Command.{Command}
 use Rattle.parts.specs.declared.command.Command.the-variants.{Individual, Calibration, Global, Configuration}
-use Rattle.phases.specs.Phases.{phaseOf, windowOf, heard, rising, opened, opening, counting}
+use Rattle.phases.specs.Phases.{phaseOf, windowOf, heard, rising, opening, counting}
 use Rattle.registers.specs.Held.{holding, took}
 use Rattle.storing.specs.Stored.{stored, copies}
 use Rattle.device.specs.Step.{moved, sentStates, sliceLength, step, stepHigh}
@@ -24,8 +24,7 @@ use Rattle.phases.specs.declared.phase.Sent.the-variants.{Nothing, One}
 use Rattle.registers.specs.declared.registers.Registers.{Registers}
 use Rattle.device.specs.declared.device.Device.{Device}
 use Rattle.device.specs.declared.device.Stepped.{Stepped}
-use Rattle.phases.proofs.Places.{Small}
-use Rattle.phases.proofs.Rising.{rising-small}
+use Rattle.phases.proofs.Rising.{rising-small, opening-small, counting-small}
 use Rattle.tables.proofs.Booleans.{and-both, cond-both}
 use Rattle.device.proofs.Kept.{Good, phase-good, kept}
 use Rattle.widths.proofs.Below.{Below, below-of}
@@ -71,20 +70,6 @@ lost-same r b = refl
 passing-same : (r : Registers) (b : Bool) → (viewed r Passing, high b ∷ []) ≡ stepDevice (viewed r Passing) (high b)
 unfolding stepDevice
 passing-same r b = refl
-
--- the phases that a high clock moves a header to are small
-opened-small : (n : ℕ) → Small (opened n)
-opened-small n =
-    cond-both Small (eqb n 0) _ _ (λ _. lit< tt)
-    (λ _. cond-both Small (eqb n 21) _ _ (λ _. lit< tt)
-    (λ _. cond-both Small (eqb n 42) _ _ (λ _. lit< tt)
-    (λ _. cond-both Small (eqb n 63) _ _ (λ _. lit< tt) (λ _. lit< tt))))
-
-opening-small : (read bit : ℕ) → Small (opening read bit)
-opening-small read bit = cond-both Small (ltb (read * 2 + bit) 64) _ _ (λ _. lit< tt) (λ _. opened-small (read * 2 + bit - 64))
-
-counting-small : (c : Command) (read bit : ℕ) → Small (counting c read bit)
-counting-small c read bit = cond-both Small (ltb (read * 2 + bit) 1024) _ _ (λ _. lit< tt) (λ _. lit< tt)
 
 high-same : (r : Registers) (p : Phase) (s : ℕ) → 2 ≤ s → length (r .slice) ≡ 48 → Below r → Good r p → seen (stepHigh r p s) ≡ stepDevice (viewed r p) (high (eqb (s % 2) 1))
 high-same r (Hunting w) s h e b g = seen-sending r (rising w (s % 2)) Nothing (rising-small w (s % 2)) ∙ rising-same r w (s % 2) (mod-lt s (lit< tt))

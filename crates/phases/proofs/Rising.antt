@@ -1,12 +1,14 @@
--- The rising edge by what the window and the first high bit are: each reading excludes those that are tested before it. Assumes nothing.
+-- The rising edge by what the window and the first high bit are: each reading excludes those that are tested before it. Last, the phases that a
+-- bit of a header moves to are small. Assumes nothing.
 use mathlib.Core.Path.{_≡_}
 use mathlib.Core.Bool.{true, false, _&&_}
-use Prim.Native.Nat.{ℕ, _+_, _*_, _/_, _%_}
+use Prim.Native.Nat.{ℕ, _+_, _-_, _*_, _/_, _%_}
 use native.Mathlib.Omega.{arith}
-use lib.Dec.{eqb, lit<}
+use lib.Dec.{eqb, ltb, lit<}
 use borrow.Author.Tests.{eq-eqb, ne-eqb}
 use Rattle.tables.proofs.Booleans.{cond-both}
-use Rattle.phases.specs.Phases.{rising}
+use Rattle.parts.specs.declared.command.Command.{Command}
+use Rattle.phases.specs.Phases.{rising, opened, opening, counting}
 use Rattle.phases.specs.declared.phase.Phase.{Phase}
 use Rattle.phases.specs.declared.phase.Phase.the-variants.{Opening, Lost}
 use Rattle.phases.proofs.Places.{Small}
@@ -31,3 +33,17 @@ rising-any P w b early exact late lost =
 
 pub rising-small : (w b : ℕ) → Small (rising w b)
 rising-small w b = rising-any Small w b (lit< tt) (lit< tt) (lit< tt) (lit< tt)
+
+-- the phases that the other bits of a header move to are small
+opened-small : (n : ℕ) → Small (opened n)
+opened-small n =
+    cond-both Small (eqb n 0) _ _ (λ _. lit< tt)
+    (λ _. cond-both Small (eqb n 21) _ _ (λ _. lit< tt)
+    (λ _. cond-both Small (eqb n 42) _ _ (λ _. lit< tt)
+    (λ _. cond-both Small (eqb n 63) _ _ (λ _. lit< tt) (λ _. lit< tt))))
+
+pub opening-small : (read bit : ℕ) → Small (opening read bit)
+opening-small read bit = cond-both Small (ltb (read * 2 + bit) 64) _ _ (λ _. lit< tt) (λ _. opened-small (read * 2 + bit - 64))
+
+pub counting-small : (c : Command) (read bit : ℕ) → Small (counting c read bit)
+counting-small c read bit = cond-both Small (ltb (read * 2 + bit) 1024) _ _ (λ _. lit< tt) (λ _. lit< tt)

@@ -2,7 +2,7 @@
 use mathlib.Core.Path.{_≡_, refl, sym, ap, _∙_, subst}
 use mathlib.Core.Bool.{Bool, true, false, not, _&&_}
 use Prim.Native.Nat.{ℕ, _+_, _*_, _-_, _/_, _%_, _≤_, _<_}
-use native.Mathlib.Nat.{suc-mul, add-mul, mul-comm, mul-assoc, div-add-mod', mul-le-mul-right, div-lt-iff-lt-mul, le-div-iff-mul-le}
+use native.Mathlib.Nat.{one-mul, add-mul, mul-comm, mul-assoc, div-add-mod', mul-le-mul-right, div-lt-iff-lt-mul, le-div-iff-mul-le}
 use native.Mathlib.Omega.{arith}
 use borrow.Author.Tests.{not-true, not-false, leb-true, leb-false, le-leb, lt-leb}
 use lib.Dec.{leb}
@@ -58,6 +58,10 @@ module _ (n w left : ℕ) (some : 0 < w) where
   pub eights-within : n / 8 ≤ left / w → n / 8 * w ≤ left
   eights-within h = le-div-iff-mul-le some .0 h
 
--- the next of n fields has room where all have
+-- the next k of n fields have room where all have
+pub room-more : (w k i n : ℕ) → i + k ≤ n → i * w + k * w ≤ n * w
+room-more w k i n l = subst (λ (m : ℕ). m ≤ n * w) (add-mul i k w) (mul-le-mul-right w l)
+
+-- the next one
 pub room : (w : ℕ) {i n : ℕ} → i < n → i * w + w ≤ n * w
-room w {i} {n} l = subst (λ (k : ℕ). k ≤ n * w) (suc-mul i w) (mul-le-mul-right w l)
+room w {i} {n} l = omega (arith, room-more w 1 i n (omega arith), one-mul w)

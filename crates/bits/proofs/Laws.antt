@@ -5,14 +5,16 @@ use mathlib.Core.Path.{_≡_, refl, sym, ap, ap₂, _∙_, subst}
 use mathlib.Core.Bool.{Bool, true, false}
 use mathlib.Core.List.{List, [], _∷_, _++_, append-assoc, append-nil}
 use Prim.Native.Nat.{ℕ, zero, suc, _+_, _-_, _*_, _/_, _%_, _^_, _≤_, _<_}
-use native.Mathlib.Nat.{zero-add, add-zero, mul-mod-left, suc-add, add-comm, add-assoc, add-mul, mul-assoc, mod-lt, mod-eq-of-lt, suc-mul, zero-mul, pow-suc, zero-div, mul-comm, mod-one, lt-of-lt-of-le}
+use native.Mathlib.Nat.{zero-add, add-zero, mul-mod-left, suc-add, add-comm, add-assoc, add-mul, mul-assoc, mod-lt, mod-eq-of-lt}
+use native.Mathlib.Nat.{suc-mul, zero-mul, pow-suc, zero-div, mul-comm, mod-one, lt-of-lt-of-le}
 use native.Mathlib.Numerals.{one-add, add-one}
 use native.Mathlib.Omega.{arith}
 use lib.ListN.{length, getD, set, take, drop, replicate, length-append, length-replicate, length-take, length-drop, take-append-drop}
-use lib.Seq.{take-at, drop-at, take-add, take-append-add, drop-append-add, length-take-le, take-length, take-append-seam, drop-append-seam, drop-drop, set-split, paste, paste-suc}
+use lib.Seq.{take-at, drop-at, take-add, take-append-add, drop-append-add, take-append-le, drop-append-le, length-take-le, take-length, drop-drop, drop-cons}
+use lib.Seq.{take-append-seam, drop-append-seam, set-split, paste, paste-suc}
 use lib.Arith.{digits-lt}
 use lib.Bits.{bitOr, or-shifted}
-use lib.Pow.{pow-add, pow-pos, pow-mono, shr-shr, shl-shr, high, low, field, mod-mod-pow, mod-pow-add}
+use lib.Pow.{pow-add, pow-pos, pow-mono, shr-shr, shl-shr, high, low, field, mod-mod-pow, mod-pow-add, ones-lt, ones-split}
 use Rattle.bits.specs.Bits.{isOne, digit, bits, number, fields, split, padded, bytesOf, bytesFor, over, overAt}
 
 -- ---- a number's bits
@@ -69,6 +71,12 @@ bits-push m h k a v l =
         mod-pow-add (a * 2 ^ k) (m + h) k
         ∙ ap₂ (λ (x y : ℕ). (x % 2 ^ (m + h)) * 2 ^ k + y) (shl-shr a k) (mul-mod-left a (2 ^ k))
         ∙ add-zero ((a % 2 ^ (m + h)) * 2 ^ k)
+
+-- the low bits of a mask of n ones
+pub ones-low : (n w : ℕ) → w ≤ n → (2 ^ n - 1) % 2 ^ w ≡ 2 ^ w - 1
+ones-low n w h =
+    let e : n ≡ n - w + w = omega arith in
+    ap (λ (k : ℕ). (2 ^ k - 1) % 2 ^ w) e ∙ ap (λ (k : ℕ). k % 2 ^ w) (ones-split (n - w) w) ∙ low (2 ^ (n - w) - 1) w (ones-lt w)
 
 -- ---- bits as a number
 
@@ -152,6 +160,14 @@ drop-fields w k vs h =
     ap (λ (z : List ℕ). drop (k * w) (fields w z)) (sym (take-append-drop k vs)) ∙ ap (drop (k * w)) (fields-append w (take k vs) (drop k vs))
     ∙ drop-at (fields w (take k vs)) (fields w (drop k vs)) (k * w) (length-fields w (take k vs) ∙ ap (λ (n : ℕ). n * w) (length-take-le k vs h))
 
+-- those up to i, and n more
+pub fields-more : (w i n : ℕ) (vs : List ℕ) → fields w (take i vs) ++ fields w (take n (drop i vs)) ≡ fields w (take (i + n) vs)
+fields-more w i n vs = sym (ap (fields w) (take-add i n vs) ∙ fields-append w (take i vs) (take n (drop i vs)))
+
+-- one of them
+pub fields-at : (w i : ℕ) (vs : List ℕ) → i < length vs → fields w (take 1 (drop i vs)) ≡ bits w (getD vs i 0)
+fields-at w i vs l = ap (λ (z : List ℕ). fields w (take 1 z)) (drop-cons vs i 0 l) ∙ fields-one w (getD vs i 0)
+
 pub length-split : (w n : ℕ) (bs : List Bool) → length (split w n bs) ≡ n
 unfolding split
 length-split w zero bs = refl
@@ -162,6 +178,18 @@ unfolding split
 split-lt w zero bs i = pow-pos w
 split-lt w (suc n) bs zero = number-take-lt w bs
 split-lt w (suc n) bs (suc i) = split-lt w n (drop w bs) i
+
+-- values cut from bits of which some stand behind the others
+pub split-append : (w m n : ℕ) (xs ys : List Bool) → length xs ≡ m * w → split w (m + n) (xs ++ ys) ≡ split w m xs ++ split w n ys
+unfolding split
+split-append w zero n [] ys e = ap (λ (k : ℕ). split w k ys) (zero-add n)
+split-append w zero n (x ∷ xs) ys e = absurd (omega (arith, zero-mul w))
+split-append w (suc m) n xs ys e =
+    let l : w ≤ length xs = omega (arith, suc-mul m w) in
+    let r : length (drop w xs) ≡ m * w = omega (arith, suc-mul m w, length-drop w xs) in
+    ap (λ (k : ℕ). split w k (xs ++ ys)) (suc-add m n)
+    ∙ ap₂ (λ (x : ℕ) (z : List ℕ). x ∷ z) (ap number (take-append-le w xs ys l))
+    (ap (split w (m + n)) (drop-append-le w xs ys l) ∙ split-append w m n (drop w xs) ys r)
 
 -- what was written is read back, with anything after it
 pub split-fields : (w : ℕ) (vs : List ℕ) (rest : List Bool) → ((i : ℕ) → getD vs i 0 < 2 ^ w) → split w (length vs) (fields w vs ++ rest) ≡ vs

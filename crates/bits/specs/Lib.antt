@@ -1,2 +1,4 @@
--- Bits, bytes, and what fits into them.
+-- Bits, bytes, what fits into them, and values in groups. Words, for private functions, is inside.
 pub mod Bits
+pub mod Groups
+pub mod Words

@@ -1,24 +1,21 @@
 -- The laws of specs/Writing. Bits that are pushed stand behind those that were written; bytes that are stored leave what is written as it
--- was; runs compose; and a run that ends with zeros up to a byte's end stored the bytes of its bits. Assumes nothing.
-use mathlib.Core.Path.{_≡_, refl, sym, ap, ap₂, _∙_, subst₂}
-use mathlib.Core.Bool.{Bool, true, false}
+-- was; and runs compose. Assumes nothing.
+use mathlib.Core.Path.{_≡_, refl, sym, ap, ap₂, _∙_, subst, subst₂}
+use mathlib.Core.Bool.{Bool}
 use mathlib.Core.List.{List, [], _∷_, _++_, append-assoc, append-nil}
 use Prim.Native.Nat.{ℕ, suc, _+_, _-_, _*_, _/_, _%_, _^_, _≤_, _<_}
-use native.Mathlib.Nat.{add-zero, mod-lt, suc-mul, zero-mul, one-mul}
-use native.Mathlib.Numerals.{add-one}
+use native.Mathlib.Nat.{add-zero, mod-lt, add-mul, zero-mul, one-mul}
 use native.Mathlib.Omega.{arith}
-use lib.ListN.{length, getD, take, drop, replicate, set, length-append, take-append-drop}
-use lib.Seq.{length-take-le, take-all, take-suc, take-suc-set, drop-drop, drop-set-lt}
+use lib.ListN.{length, getD, take, drop, set, length-drop}
+use lib.Seq.{length-take-le, take-all, take-suc-set, drop-drop, drop-set-lt}
 use lib.Pow.{pow-pos, shr-shr}
 use lib.Bits.{bitOr, bitAnd, and-mask}
-use Rattle.bits.specs.Bits.{bits, fields, bytesOf, bytesFor, over, overAt, roomFits}
-use Rattle.packing.specs.Packing.{packed, packedOut}
+use Rattle.bits.specs.Bits.{bits, number, fields, over}
 use Rattle.packing.specs.declared.packing.Packed.the-variants as P
 use Rattle.packing.specs.Writing.{writtenBits, Pushed, Stored}
 use Rattle.packing.specs.declared.writer.Writer.{Writer}
-use Rattle.packing.proofs.Answers.{packed-roomFits, packed-refused, packedOut-roomFits, packedOut-refused}
-use Rattle.bits.proofs.Fits.{roomFits-room}
-use Rattle.bits.proofs.Laws.{length-fields, bits-add, bits-mod-self, bits-zero, bits-push, fields-append, fields-one, bytes-unique, bytes-of-bits, bytesOf-append, below-take}
+use Rattle.bits.proofs.Groups.{group-bits}
+use Rattle.bits.proofs.Laws.{bits-add, bits-mod-self, bits-push, fields-append, fields-one, fields-more, fields-at}
 
 -- ---- one push
 
@@ -65,6 +62,17 @@ stored-more v x k {a} {b} {at} {n} {bs} q l f d =
 
     s : at + (n + 1) ≡ at + n + 1
     s = omega arith
+
+-- more of them behind those
+pub stored-then : {a b c : List ℕ} {at n m : ℕ} {bs cs : List Bool} → Stored a b at n bs → Stored b c (at + n) m cs → Stored a c at (n + m) (bs ++ cs)
+stored-then {a} {b} {c} {at} {n} {m} {bs} {cs} d e =
+    let s : at + (n + m) ≡ at + n + m = omega arith in
+    record {
+      said = ap (λ (k : ℕ). fields 8 (take k c)) s ∙ e .said ∙ ap (λ (z : List Bool). z ++ cs) (d .said) ∙ append-assoc (fields 8 (take at a)) bs cs;
+      rest =
+          ap (λ (k : ℕ). drop k c) s ∙ e .rest ∙ sym (drop-drop m (at + n) b) ∙ ap (drop m) (d .rest) ∙ drop-drop m (at + n) a
+          ∙ ap (λ (k : ℕ). drop k a) (sym s);
+    }
 
 pub bits-four-bytes : (y : ℕ) → bits 8 (y / 2 ^ 24) ++ bits 8 (y / 2 ^ 16) ++ bits 8 (y / 2 ^ 8) ++ bits 8 y ≡ bits 32 y
 bits-four-bytes y =
@@ -155,14 +163,23 @@ pushed-none w {a} {p} h =
       count = omega (arith, zero-mul w);
     }
 
-pub pushed-more : (w : ℕ) (vs : List ℕ) (i : ℕ) {a b c : List ℕ} {p q r : Writer} → i < length vs
-    → Pushed a b p q (i * w) (fields w (take i vs)) → Pushed b c q r w (bits w (getD vs i 0)) → Pushed a c p r ((i + 1) * w) (fields w (take (i + 1) vs))
-pushed-more w vs i {a} {b} {c} {p} {q} {r} l d e =
-    let n : i * w + w ≡ (i + 1) * w = sym (suc-mul i w) ∙ ap (λ (k : ℕ). k * w) (sym (add-one i)) in
-    let bs : fields w (take i vs) ++ bits w (getD vs i 0) ≡ fields w (take (i + 1) vs)
-    = sym (ap (fields w) (ap (λ (k : ℕ). take k vs) (add-one i) ∙ take-suc vs i 0 l) ∙ fields-append w (take i vs) (getD vs i 0 ∷ [])
-    ∙ ap (λ (z : List Bool). fields w (take i vs) ++ z) (fields-one w (getD vs i 0))) in
-    subst₂ (λ (k : ℕ) (z : List Bool). Pushed a c p r k z) n bs (then d e)
+-- n more behind i of them
+pub pushed-more : (w n : ℕ) (vs : List ℕ) (i : ℕ) {a b c : List ℕ} {p q r : Writer} → Pushed a b p q (i * w) (fields w (take i vs))
+    → Pushed b c q r (n * w) (fields w (take n (drop i vs))) → Pushed a c p r ((i + n) * w) (fields w (take (i + n) vs))
+pushed-more w n vs i {a} {b} {c} {p} {q} {r} d e =
+    subst₂ (λ (k : ℕ) (z : List Bool). Pushed a c p r k z) (sym (add-mul i n w)) (fields-more w i n vs) (then d e)
+
+-- the value i
+pub pushed-at : (w : ℕ) (vs : List ℕ) (i : ℕ) {a b : List ℕ} {p q : Writer} → i < length vs → Pushed a b p q w (bits w (getD vs i 0))
+    → Pushed a b p q (1 * w) (fields w (take 1 (drop i vs)))
+pushed-at w vs i {a} {b} {p} {q} l d = subst₂ (λ (k : ℕ) (z : List Bool). Pushed a b p q k z) (sym (one-mul w)) (sym (fields-at w i vs l)) d
+
+-- the n values from the value i on, as one number
+pub pushed-group : (w n : ℕ) (vs : List ℕ) (i : ℕ) {x : ℕ} {a b : List ℕ} {p q : Writer} → i + n ≤ length vs → x ≡ number (fields w (take n (drop i vs)))
+    → Pushed a b p q (n * w) (bits (n * w) x) → Pushed a b p q (n * w) (fields w (take n (drop i vs)))
+pushed-group w n vs i {x} {a} {b} {p} {q} l e d =
+    let long : length (take n (drop i vs)) ≡ n = length-take-le n (drop i vs) (omega (arith, length-drop i vs)) in
+    subst (λ (z : List Bool). Pushed a b p q (n * w) z) (ap (bits (n * w)) e ∙ group-bits n w (take n (drop i vs)) long) d
 
 pub pushed-all : (w : ℕ) (vs : List ℕ) (i : ℕ) {a b : List ℕ} {p q : Writer} → i ≤ length vs → length vs ≤ i
     → Pushed a b p q (i * w) (fields w (take i vs)) → Pushed a b p q (length vs * w) (fields w vs)
@@ -170,53 +187,20 @@ pushed-all w vs i {a} {b} {p} {q} h l d =
     let e : i ≡ length vs = omega arith in
     subst₂ (λ (n : ℕ) (z : List ℕ). Pushed a b p q (n * w) (fields w z)) e (take-all i vs l) d
 
+-- k of them, and then the others: how long they are, and both
+rest-long : (vs : List ℕ) (k : ℕ) → length (take (length vs - k) (drop k vs)) ≡ length vs - k
+rest-long vs k = length-take-le (length vs - k) (drop k vs) (omega (arith, length-drop k vs))
+
+pub rest-room : (w : ℕ) (vs : List ℕ) (k : ℕ) → k ≤ length vs → k * w + length (take (length vs - k) (drop k vs)) * w ≡ length vs * w
+rest-room w vs k h =
+    let e : k + (length vs - k) ≡ length vs = omega arith in
+    ap (λ (n : ℕ). k * w + n * w) (rest-long vs k) ∙ sym (add-mul k (length vs - k) w) ∙ ap (λ (n : ℕ). n * w) e
+
+pub pushed-rest : (w : ℕ) (vs : List ℕ) (k : ℕ) {a b c : List ℕ} {p q r : Writer} → k ≤ length vs → Pushed a b p q (k * w) (fields w (take k vs))
+    → Pushed b c q r (length (take (length vs - k) (drop k vs)) * w) (fields w (take (length vs - k) (drop k vs))) → Pushed a c p r (length vs * w) (fields w vs)
+pushed-rest w vs k {a} {b} {c} {p} {q} {r} h d e =
+    pushed-all w vs (k + (length vs - k)) (omega arith) (omega arith)
+    (pushed-more w (length vs - k) vs k d (subst (λ (n : ℕ). Pushed b c q r (n * w) (fields w (take (length vs - k) (drop k vs)))) (rest-long vs k) e))
+
 pub pushed-one : (w v : ℕ) {a b : List ℕ} {p q : Writer} → Pushed a b p q w (bits w v) → Pushed a b p q (1 * w) (fields w (v ∷ []))
 pushed-one w v {a} {b} {p} {q} d = subst₂ (λ (n : ℕ) (z : List Bool). Pushed a b p q n z) (sym (one-mul w)) (sym (fields-one w v)) d
-
--- ---- a whole run
-
-abbrev start : ℕ → Writer
-start at = record { at = at; acc = 0; have = 0 }
-
--- a writer from the byte `at` on, that ends with zeros up to a byte's end: it stored the bytes of its bits there, and nothing else
-module _ {before mid after : List ℕ} {q r : Writer} {n k : ℕ} {bs : List Bool} (at : ℕ) (inside : at ≤ length before) (d : Pushed before mid (start at) q n bs)
-    (e : Pushed mid after q r k (bits k 0)) (fewer : k < 8) (none : r .have ≡ 0) where
-  pub closed-count : r .at ≡ at + bytesFor n
-  closed-count = omega (arith, d .count, e .count)
-
-  pub closed : r .at ≤ length after → ((i : ℕ) → getD before i 0 < 256) → ((i : ℕ) → getD after i 0 < 256) → after ≡ overAt at (bytesOf bs) before
-  unfolding over overAt writtenBits bits
-  closed room b b′ =
-      let f = then d e in
-      let old : List ℕ = take at before in
-      let ys : List ℕ = take (r .at) after in
-      let said : fields 8 ys ≡ (fields 8 old ++ bs) ++ replicate k false
-      = sym (append-nil (fields 8 ys)) ∙ ap (λ (m : ℕ). fields 8 ys ++ bits m (r .acc)) (sym none) ∙ f .said
-      ∙ ap₂ (λ (x y : List Bool). x ++ (bs ++ y)) (append-nil (fields 8 old)) (bits-zero k) ∙ sym (append-assoc (fields 8 old) bs (replicate k false)) in
-      let whole : length (fields 8 old) % 8 ≡ 0 = omega (arith, length-fields 8 old) in
-      let e : ys ≡ old ++ bytesOf bs
-      = bytes-unique ys (fields 8 old ++ bs) k fewer (below-take 256 (r .at) after (omega arith) b′) said ∙ bytesOf-append (fields 8 old) bs whole
-      ∙ ap (λ (z : List ℕ). z ++ bytesOf bs) (bytes-of-bits old (below-take 256 at before (omega arith) b)) in
-      let m : r .at ≡ at + length (bytesOf bs)
-      = sym (length-take-le (r .at) after room) ∙ ap length e ∙ length-append old (bytesOf bs) ∙ ap (λ (z : ℕ). z + length (bytesOf bs)) (length-take-le at before inside) in
-      sym (take-append-drop (r .at) after) ∙ ap₂ (λ (x y : List ℕ). x ++ y) e (f .rest ∙ ap (λ (z : ℕ). drop z before) m ∙ sym (drop-drop (length (bytesOf bs)) at before))
-      ∙ append-assoc old (bytesOf bs) (drop (length (bytesOf bs)) (drop at before))
-
--- it is what packing answers and leaves where the fields fit; where they do not, nothing is done
-module _ (widest w : ℕ) (vs : List ℕ) (at : ℕ) where
-  pub packed-run : {before mid after : List ℕ} {q r : Writer} {k : ℕ} → roomFits widest w (length vs) at (length before) ≡ true
-      → Pushed before mid (start at) q (length vs * w) (fields w vs) → Pushed mid after q r k (bits k 0) → k < 8 → r .have ≡ 0 → length after ≡ length before
-      → ((i : ℕ) → getD before i 0 < 256) → ((i : ℕ) → getD after i 0 < 256)
-      → (P.Bytes (r .at - at) ≡ packed widest w (length vs) at (length before)) × (after ≡ packedOut widest w vs at before)
-  packed-run {before} {mid} {after} {q} {r} {k} e d f fewer none same b b′ =
-      let room = roomFits-room widest w (length vs) at (length before) e in
-      let inside : at ≤ length before = omega arith in
-      let n : r .at ≡ at + bytesFor (length vs * w) = closed-count at inside d f fewer none in
-      let m : r .at - at ≡ bytesFor (length vs * w) = omega arith in (
-        ap P.Bytes m ∙ sym (packed-roomFits widest w (length vs) at (length before) e),
-        closed at inside d f fewer none (omega arith) b b′ ∙ sym (packedOut-roomFits widest w vs at before e),
-      )
-
-  pub packed-none : (before : List ℕ) → roomFits widest w (length vs) at (length before) ≡ false
-      → (P.Refused ≡ packed widest w (length vs) at (length before)) × (before ≡ packedOut widest w vs at before)
-  packed-none before e = (sym (packed-refused widest w (length vs) at (length before) e), sym (packedOut-refused widest w vs at before e))

@@ -4,6 +4,8 @@ ghost use mathlib.Core.Path.{_≡_};
 ghost use mathlib.Core.List.{_∷_, []};
 ghost use lib.ListN.{length};
 ghost use Rattle.packing.specs.Packing.{packed, packedOut};
+use super::blocks;
+use super::groups;
 use super::writer;
 
 // What packing answers.
@@ -22,12 +24,13 @@ pub fn pack(values: &[u16], width: u32, out: &mut [u8], at: usize) -> Packed
     if !bits::has_room(16, width, values.len(), at, out.len()) {
         return Packed::Refused;
     }
+    let done = blocks::put_blocks(out, at, width, values);
     let start = writer::Writer {
-        at,
+        at: at + done / 8 * width as usize,
         acc: 0,
         have: 0,
     };
-    let last = writer::push_each(out, start, width, values);
+    let last = groups::push_all(out, start, width, &values[done..]);
     let end = writer::finish(out, last);
     Packed::Bytes(end.at - at)
 }

@@ -81,6 +81,15 @@ fn push(out: &mut [u8], writer: Writer, width: u32, value: u64) -> Writer
     }
 }
 
+// The 64 bits of `x`, as eight bytes, of which one store can be made.
+pub fn store_long(out: &mut [u8], at: usize, x: u64)
+    requires { ⌜ at + 8 ≤ length (now out) ⌝ }
+    ensures { λ _. ⌜ Stored (now (out .entry)) (now (out .exit)) at 8 (bits 64 x) ⌝ }
+{
+    store_word(out, at, x >> 32);
+    store_word(out, at + 4, x);
+}
+
 // The low 32 bits of `x`, as four bytes. They are taken from a `u32`, of which one store can be made.
 fn store_word(out: &mut [u8], at: usize, x: u64)
     requires { ⌜ at + 4 ≤ length (now out) ⌝ }

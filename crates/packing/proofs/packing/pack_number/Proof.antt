@@ -1,8 +1,13 @@
 -- Where there is room, the writer stores the bytes of the fields and zeros; else nothing is done. Assumes nothing.
+use mathlib.Core.Path.{refl}
 use mathlib.Core.List.{_∷_, []}
+use Prim.Native.Nat.{_+_, _*_}
 use native.Mathlib.Omega.{arith}
 use lib.ListN.{length}
+use Rattle.bits.specs.Bits.{bytesFor}
 use Rattle.bits.proofs.Fits as fits
+use Rattle.packing.proofs.Laid as laid
+use Rattle.packing.proofs.Whole as whole
 use Rattle.packing.proofs.Writing as writing
 use borrow.Author.Needs.{needs}
 use Rattle.packing.proofs.packing.pack_number.Statement.{statement}
@@ -14,7 +19,7 @@ has-room-requires c κs = search needs
 returns : tie.Need-returns
 returns c =
     let a = c .before .before .before .args in
-    writing.packed-none 64 (a .width) (a .value ∷ []) (a .at) (a .out .now) (fits.told-false (c .before .has-room .ensures) (c .if1 .taken))
+    whole.packed-none 64 (a .width) (a .value ∷ []) (a .at) (a .out .now) (fits.told-false (c .before .has-room .ensures) (c .if1 .taken))
 
 push-wide-requires : tie.Need-push-wide-requires
 push-wide-requires c κs =
@@ -42,7 +47,8 @@ returns-2 c =
     let s = t .before .before in
     let a = s .before .args in
     let f = c .before .before .before .finish in
-    writing.packed-run 64 (a .width) (a .value ∷ []) (a .at) (fits.told-true (t .before .has-room .ensures) (t .if1 .left))
+    whole.packed-run 64 (a .width) (a .value ∷ []) (a .at) (fits.told-true (t .before .has-room .ensures) (t .if1 .left)) (omega arith) (omega arith) refl
+    (laid.laid-none (a .out .now) (a .at) (a .at + bytesFor (1 * a .width)))
     (writing.pushed-one (a .width) (a .value) (w .push-wide .ensures)) (f .ensures .0) (omega arith) (f .ensures .1) (omega arith)
     (λ i. s .slice-known .given i .fits) (λ i. c .before .slice-known3 .given i .fits)
 

@@ -46,7 +46,11 @@ loop-again : tie.Need-loop-again Inv-loop μ-loop
 loop-again c =
     let s = c .before .before .before .before .before .before .before .before .before in
     let l = c .before .before .before .before .before .before .loop in
-    (writing.pushed-more (s .args .width) (s .args .values .now) (l .i) (omega arith) (l .inv .0) (c .before .before .push .ensures), omega arith, omega arith)
+    let vs = s .args .values .now in (
+      writing.pushed-more (s .args .width) 1 vs (l .i) (l .inv .0) (writing.pushed-at (s .args .width) vs (l .i) (omega arith) (c .before .before .push .ensures)),
+      omega arith,
+      omega arith,
+    )
 
 same-length : tie.Need-same-length Inv-loop μ-loop
 same-length c = search needs

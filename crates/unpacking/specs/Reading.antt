@@ -11,6 +11,10 @@ use Rattle.unpacking.specs.declared.reader.Reader.{Reader}
 unfoldable pub ahead : List ℕ → ℕ → ℕ → ℕ → List Bool
 ahead src at have acc = bits have acc ++ fields 8 (drop at src)
 
+-- a reader at the byte `at`, with no bits taken in
+abbrev pub from : ℕ → Reader
+from at = record { at = at; acc = 0; have = 0 }
+
 -- a reader at `p` read the numbers vs of w bits each, and is at `r`
 pub record Pulled (src : List ℕ) (p r : Reader) (w : ℕ) (vs : List ℕ) : Type 0 where
   pub said : ahead src (p .at) (p .have) (p .acc) ≡ fields w vs ++ ahead src (r .at) (r .have) (r .acc)

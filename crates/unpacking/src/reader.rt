@@ -117,11 +117,19 @@ fn fill_bytes(src: &[u8], reader: Reader, width: u32) -> Reader
 }
 
 // Four bytes, as a number. It is a `u32`, for which one load can be made.
-fn load_word(src: &[u8], at: usize) -> u32
+pub fn load_word(src: &[u8], at: usize) -> u32
     requires { ⌜ at + 4 ≤ length (now src) ⌝ }
     ensures { λ r. ⌜ Loaded (now (src .entry)) at 4 r ⌝ }
 {
     let two = ((src[at] as u32) << 8) | (src[at + 1] as u32);
     let three = (two << 8) | (src[at + 2] as u32);
     (three << 8) | (src[at + 3] as u32)
+}
+
+// Eight bytes, as a number. The compiler makes one load of the two.
+pub fn load_long(src: &[u8], at: usize) -> u64
+    requires { ⌜ at + 8 ≤ length (now src) ⌝ }
+    ensures { λ r. ⌜ Loaded (now (src .entry)) at 8 r ⌝ }
+{
+    ((load_word(src, at) as u64) << 32) | (load_word(src, at + 4) as u64)
 }

@@ -3,6 +3,8 @@
 ghost use mathlib.Core.Path.{_≡_};
 ghost use lib.ListN.{length};
 ghost use Rattle.unpacking.specs.Unpacking.{unpacked, unpackedOut, numberAt};
+use super::blocks;
+use super::groups;
 use super::reader;
 
 // What reading one number answers.
@@ -20,12 +22,9 @@ pub fn unpack(src: &[u8], at: usize, width: u32, values: &mut [u16]) -> bool
     if !bits::has_room(16, width, values.len(), at, src.len()) {
         return false;
     }
-    let start = reader::Reader {
-        at,
-        acc: 0,
-        have: 0,
-    };
-    reader::pull_each(src, start, width, values);
+    let done = blocks::take_blocks(src, at, width, values);
+    let here = at + done / 8 * width as usize;
+    groups::pull_all(src, here, width, &mut values[done..]);
     true
 }
 

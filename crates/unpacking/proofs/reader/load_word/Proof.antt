@@ -1,7 +1,8 @@
 -- Each byte stands behind those before it. Assumes nothing.
-use mathlib.Core.Path.{refl}
-use Prim.Native.Nat.{_+_}
+use Prim.Native.Nat.{ℕ, _+_, _<_}
 use native.Mathlib.Omega.{arith}
+use lib.ListN.{length, getD}
+use Rattle.unpacking.specs.Reading.{Loaded}
 use Rattle.unpacking.proofs.Reading as reading
 use borrow.Author.Needs.{needs}
 use Rattle.unpacking.proofs.reader.load_word.Statement.{statement}
@@ -44,9 +45,10 @@ returns : tie.Need-returns
 returns c =
     let a = c .before .before .before .before .args in
     let g = c .shared-slice-known4 .given in
-    reading.loaded-more 0 (a .at + 3) refl (omega arith) (g (a .at + 3) .fits)
-    (reading.loaded-more 8 (a .at + 2) refl (omega arith) (g (a .at + 2) .fits)
-    (reading.loaded-more 16 (a .at + 1) refl (omega arith) (g (a .at + 1) .fits) (reading.loaded-one (a .src .now) (a .at) (omega arith))))
+    let one : (k : ℕ) → k < length (a .src .now) → Loaded (a .src .now) k 1 (getD (a .src .now) k 0) = reading.loaded-one (a .src .now) in
+    reading.loaded-more 0 (g (a .at + 3) .fits)
+    (reading.loaded-more 8 (g (a .at + 2) .fits) (reading.loaded-more 16 (g (a .at + 1) .fits) (one (a .at) (omega arith)) (one (a .at + 1) (omega arith))) (one (a .at + 2) (omega arith)))
+    (one (a .at + 3) (omega arith))
 
 pub load-word-spec : {M : Type 1} → statement M
 load-word-spec =

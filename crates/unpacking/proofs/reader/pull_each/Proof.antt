@@ -54,7 +54,7 @@ loop-again c =
     let v = c .before .before .pull .result .value in
     let t : take (l .i + 1) (set (l .values) (l .i) v) ≡ take (l .i) (l .values) ++ (v ∷ [])
     = ap (λ (n : ℕ). take n (set (l .values) (l .i) v)) (add-one (l .i)) ∙ take-suc-set (l .values) (l .i) v (omega arith) in
-    (rw t (reading.pulled-more (l .inv .0) (c .before .before .pull .ensures)), omega (arith, length-set (l .values) (l .i) v), length-set (l .values) (l .i) v ∙ l .inv .2)
+    (rw t (reading.pulled-append (l .inv .0) (c .before .before .pull .ensures)), omega (arith, length-set (l .values) (l .i) v), length-set (l .values) (l .i) v ∙ l .inv .2)
 
 same-length : tie.Need-same-length Inv-loop μ-loop
 same-length c = search needs

@@ -1,6 +1,9 @@
 -- Each claim of specs/Claims, under its name, from the theorem that proves it. Assumes nothing.
+use mathlib.Core.Path.{refl}
+use Rattle.bits.proofs.Groups.{group-bytes}
 use Rattle.parts.specs.Parts.{partOf}
 use Rattle.parts.proofs.Laws.{usable, whole-frames}
+use Rattle.frame_laws.proofs.Grouped.{framed-groups}
 use Rattle.frame_laws.proofs.RoundTrip.{written-read, read-written}
 use Rattle.subframes.proofs.Claims as subframes
 use Rattle.schedule.proofs.Claims as light
@@ -28,6 +31,9 @@ writtenRead = written-read
 
 pub readWritten : claim.ReadWritten
 readWritten = read-written
+
+pub inGroups : claim.InGroups
+inGroups = record { sizes = refl; bytes = refl; whole = group-bytes; framed = framed-groups }
 
 pub stepModelled : claim.StepModelled
 stepModelled = chains.step-modelled

@@ -11,14 +11,15 @@ use lib.IntN.{pos, negℤ}
 use lib.ListN.{length, take, getD, replicate}
 use lib.Signed.{_<ℤ_}
 use Rattle.bits.specs.Bits.{digit, bits, fields, bytesOf, bytesFor, over}
+use Rattle.bits.specs.Groups.{groupSize, inGroups, groupBytes}
 use Rattle.parts.specs.Parts.{Part, max6972, max6973, rows, known, partOf, outputs, subframes, phaseCount, frameClocks, period, periodFrames, sinkCurrent, restoreOrder, isCount, Usable}
 use Rattle.tables.specs.Refusals.{first}
-use Rattle.parts.specs.Wire.{State, high, Edge, edgeAt, stateAt, stateCode, statesAt, statesOf, lows, clocked, frame}
+use Rattle.parts.specs.Wire.{State, high, Edge, edgeAt, stateAt, stateCode, statesAt, statesOf, lows, clocked, header, frame}
 use Rattle.parts.specs.declared.command.Command.{Command}
 use Rattle.parts.specs.declared.command.Command.the-variants.{Individual}
 use Rattle.serial.specs.States.{dataBits, frameStates, frameRows, clockedAnswer, clockedOut, stateRows, dataBytesAnswer, dataBytesOut}
 use Rattle.serial.specs.declared.states.Converted.the-variants as L
-use Rattle.frames.specs.Frames.{fieldCount, frameOf}
+use Rattle.frames.specs.Frames.{toldOf, fieldCount, tailBits, frameOf}
 use Rattle.frame_writer.specs.Writing.{settings, writeTable, written, writtenOut}
 use Rattle.frame_reader.specs.Reading.{heldFields, roomShort, readTable, found, bytesFound, valuesFound, read, readBytes, readValues}
 use Rattle.return_reader.specs.Returns as returns
@@ -184,6 +185,18 @@ ReadWritten =
     → ((n : ℕ) → read t tail frame (length bytes) (length values) ≡ Q.Refused n → ⊥)
     → length frame ≤ length out
     → WrittenAgain t tail frame (byteRead t tail frame bytes values) (bytesRead t tail frame bytes values) (valuesRead t tail frame bytes values) out
+
+-- request Three, an individual frame in groups: two values of 12 bits are three bytes and four of 14 are seven; of any part, any N, multiplexed
+-- or not, with any tail, it is its header, then each group's bytes in wire order, then its tail
+pub record InGroups : Type 0 where
+  pub sizes : map (λ p. groupSize (p .width)) rows ≡ 2 ∷ 4 ∷ 2 ∷ 4 ∷ []
+  pub bytes : map (λ p. groupSize (p .width) * p .width / 8) rows ≡ 3 ∷ 7 ∷ 3 ∷ 7 ∷ []
+  pub whole : (w : ℕ) (group : List ℕ) → length group ≡ groupSize w → 8 * length (bytesOf (fields w group)) ≡ groupSize w * w
+  pub framed :
+      (part devices configuration : ℕ) (tail : Tail) (values : List ℕ)
+      → length values ≡ fieldCount (toldOf part devices Individual configuration)
+      → frameOf (toldOf part devices Individual configuration) tail values
+      ≡ bytesOf (header Individual 0) ++ (groupBytes (partOf part .width) (inGroups (partOf part .width) values) ++ bytesOf (tailBits tail))
 
 -- ---- demand 2: registers. The device that reads like docs/RULES.md is model/specs/Device; a record is seen as one by link/specs/View
 

@@ -1,7 +1,11 @@
 //! Optimised plain Rust of the same operations: what the proved library is timed against.
 //!
 //! Each function judges what the proved one judges and works in place. All are tested against `model`.
+//!
+//! Lists are packed and unpacked in several ways, each a [`way::Way`]: [`bitwise`], value by value ([`packing`]), in
+//! groups ([`grouped`]), in groups with 8-byte stores and loads ([`wide`]), and in staged groups ([`staged`]).
 
+pub mod bitwise;
 pub mod chain;
 pub mod compare;
 pub mod current;
@@ -11,6 +15,9 @@ pub mod packing;
 pub mod part;
 pub mod reader;
 pub mod sets;
+pub mod staged;
+pub mod way;
+pub mod wide;
 pub mod writer;
 
 /// A number of the table in docs/RULES.md, "Refusal numbers".

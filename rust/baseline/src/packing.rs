@@ -1,5 +1,16 @@
 //! Packing and unpacking through an accumulator, one value after the other, a byte or four at a time.
 
+use crate::way::Way;
+
+/// A byte at a time.
+pub const WAY: Way = Way { pack, unpack };
+
+/// Four bytes at a time.
+pub const WORDS: Way = Way {
+    pack: pack_words,
+    unpack: unpack_words,
+};
+
 /// Packs the low `width` bits of each value into `out` from the byte `at` on: how many bytes, or `None` without room.
 pub fn pack(values: &[u16], width: u32, out: &mut [u8], at: usize) -> Option<usize> {
     if width > 16 {

@@ -1,11 +1,24 @@
-//! The frame reader: all checks, then one pass that unpacks value by value.
+//! The frame reader: all checks, then one pass that unpacks.
 
 use crate::part::{self, field_width, subframes, CALIBRATION, CONFIGURATION, GLOBAL, INDIVIDUAL};
+use crate::way::{Way, FASTEST};
 use crate::writer::Told;
-use crate::{packing, Refusal};
+use crate::Refusal;
 
 /// Reads a frame: the byte of a global or configuration frame, or how many elements went to the command's list.
+/// Individual values are unpacked in the fastest way.
 pub fn read(
+    told: &Told,
+    frame: &[u8],
+    calibration: &mut [u8],
+    individual: &mut [u16],
+) -> Result<usize, Refusal> {
+    read_by(&FASTEST, told, frame, calibration, individual)
+}
+
+/// As [`read`], with individual values unpacked in a way.
+pub fn read_by(
+    way: &Way,
     told: &Told,
     frame: &[u8],
     calibration: &mut [u8],
@@ -24,7 +37,24 @@ pub fn read(
     if is_room_short {
         return Err(5);
     }
-    let end = 3 + fields * field_width(told.command, told.part) as usize / 8;
+    let slices = judge_bits(told, frame)?;
+    match told.command {
+        INDIVIDUAL => {
+            let width = part::width(told.part);
+            (way.unpack)(frame, 3, width, &mut individual[..fields]);
+            Ok(fields)
+        }
+        CALIBRATION => {
+            calibration[..fields].copy_from_slice(slices);
+            Ok(fields)
+        }
+        _ => Ok(usize::from(slices[0])),
+    }
+}
+
+/// Numbers 6 to 12, of a frame of the right length; the bytes of its slices.
+fn judge_bits<'a>(told: &Told, frame: &'a [u8]) -> Result<&'a [u8], Refusal> {
+    let end = 3 + told.fields() * field_width(told.command, told.part) as usize / 8;
     let (slices, rest) = (&frame[3..end], &frame[end..]);
     let is_high = told.command == GLOBAL && {
         let limit = subframes(told.part, told.configuration);
@@ -41,18 +71,7 @@ pub fn read(
         return Err(10);
     }
     judge_tail(told.tail, told.tail_length, rest)?;
-    match told.command {
-        INDIVIDUAL => {
-            let width = part::width(told.part);
-            packing::unpack(frame, 3, width, &mut individual[..fields]);
-            Ok(fields)
-        }
-        CALIBRATION => {
-            calibration[..fields].copy_from_slice(slices);
-            Ok(fields)
-        }
-        _ => Ok(usize::from(slices[0])),
-    }
+    Ok(slices)
 }
 
 /// Reads a return: its count. The told configuration is ignored.

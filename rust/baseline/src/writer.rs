@@ -1,9 +1,10 @@
-//! The frame writer: one pass over the values that judges, one that packs value by value.
+//! The frame writer: one pass over the values that judges, one that packs.
 
 use crate::part::{
     self, field_width, is_known, slice_bits, subframes, CALIBRATION, GLOBAL, INDIVIDUAL,
 };
-use crate::{packing, Refusal};
+use crate::way::{Way, FASTEST};
+use crate::Refusal;
 
 /// What a writer and a reader are told.
 #[derive(Clone, Copy, Debug)]
@@ -57,7 +58,8 @@ impl Told {
     }
 }
 
-/// Writes a frame and says how many bytes it has. The lists of other commands are ignored.
+/// Writes a frame and says how many bytes it has. The lists of other commands are ignored. Individual values are packed
+/// in the fastest way.
 pub fn write(
     told: &Told,
     byte: u8,
@@ -65,14 +67,20 @@ pub fn write(
     individual: &[u16],
     out: &mut [u8],
 ) -> Result<usize, Refusal> {
+    write_by(&FASTEST, told, byte, calibration, individual, out)
+}
+
+/// As [`write`], with individual values packed in a way.
+pub fn write_by(
+    way: &Way,
+    told: &Told,
+    byte: u8,
+    calibration: &[u8],
+    individual: &[u16],
+    out: &mut [u8],
+) -> Result<usize, Refusal> {
     told.judge()?;
-    let fields = told.fields();
-    let is_other_length = match told.command {
-        INDIVIDUAL => individual.len() != fields,
-        CALIBRATION => calibration.len() != fields,
-        _ => false,
-    };
-    if is_other_length {
+    if is_other_length(told, calibration, individual) {
         return Err(4);
     }
     let length = told.bits().div_ceil(8);
@@ -85,11 +93,11 @@ pub fn write(
     let command = (u16::from(told.command) * 0x15) << 10;
     out[0] = 0xE8;
     out[1..3].copy_from_slice(&command.to_be_bytes());
-    let end = 3 + fields * field_width(told.command, told.part) as usize / 8;
+    let end = 3 + told.fields() * field_width(told.command, told.part) as usize / 8;
     match told.command {
         INDIVIDUAL => {
             let width = part::width(told.part);
-            packing::pack(individual, width, out, 3).ok_or(5)?;
+            (way.pack)(individual, width, out, 3).ok_or(5)?;
         }
         CALIBRATION => out[3..end].copy_from_slice(calibration),
         _ => out[3..end].fill(byte),
@@ -99,6 +107,14 @@ pub fn write(
         out[end..].copy_from_slice(&tail[..length - end]);
     }
     Ok(length)
+}
+
+fn is_other_length(told: &Told, calibration: &[u8], individual: &[u16]) -> bool {
+    match told.command {
+        INDIVIDUAL => individual.len() != told.fields(),
+        CALIBRATION => calibration.len() != told.fields(),
+        _ => false,
+    }
 }
 
 fn is_out_of_range(told: &Told, byte: u8, individual: &[u16]) -> bool {

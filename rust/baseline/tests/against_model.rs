@@ -1,9 +1,10 @@
-//! Every baseline against the model, on random cases. The four parts take turns.
+//! Every baseline against the model, on random cases; packing and unpacking lists are in `ways.rs`. The four parts take
+//! turns.
 
+use baseline::way::{Way, FASTEST};
 use baseline::writer::Told;
-use baseline::{chain, compare, current, device, grouped, packing, reader, writer};
+use baseline::{chain, compare, current, device, grouped, reader, writer};
 use cases::{records, sets, states, Random};
-use model::bits;
 use model::current::Figure;
 use model::frame::Tail;
 use model::part::{Command, Part};
@@ -11,6 +12,9 @@ use model::reader::Contents;
 use model::set::Set;
 
 const SEED: u64 = 0xBA5E;
+
+/// The ways in which the benchmarks write and read frames.
+const WAYS: [Way; 2] = [FASTEST, grouped::WAY];
 
 fn told(set: &Set, command: Command, tail: Tail) -> Told {
     Told {
@@ -29,45 +33,11 @@ fn any_set(random: &mut Random, case: u64) -> Set {
 }
 
 #[test]
-fn packing_and_unpacking() {
-    type Pack = fn(&[u16], u32, &mut [u8], usize) -> Option<usize>;
-    type Unpack = fn(&[u8], usize, u32, &mut [u16]) -> bool;
-    let kinds: [(Pack, Unpack); 3] = [
-        (packing::pack, packing::unpack),
-        (packing::pack_words, packing::unpack_words),
-        (grouped::pack, grouped::unpack),
-    ];
-    for case in 0..4000 {
-        let random = &mut Random::of_case(SEED, case);
-        let any = random.between(0, 16) as u32;
-        let width = random.pick(&[12, 14, any]);
-        let count = random.below(40);
-        let values = random.words(count);
-        let masked = values.iter().map(|&v| u64::from(v) & ((1 << width) - 1));
-        let packed = bits::pack(&bits::fields(width, masked.clone()));
-        let at = random.below(4);
-        for (pack, unpack) in kinds {
-            let mut out = vec![0x55; at + packed.len() + 2];
-            let expected = [&vec![0x55; at], &packed[..], &[0x55; 2]].concat();
-            assert_eq!(pack(&values, width, &mut out, at), Some(packed.len()));
-            assert_eq!(out, expected);
-            let mut back = vec![0; count];
-            assert!(unpack(&out, at, width, &mut back));
-            assert!(back.iter().map(|&v| u64::from(v)).eq(masked.clone()));
-            if !packed.is_empty() {
-                let short = at + packed.len() - 1;
-                assert_eq!(pack(&values, width, &mut out[..short], at), None);
-                assert!(!unpack(&out[..short], at, width, &mut back));
-            }
-        }
-    }
-}
-
-#[test]
 fn frames_written_and_read() {
     for case in 0..8000 {
         let random = &mut Random::of_case(SEED, case);
-        let mut set = any_set(random, case);
+        let devices = random.between(1, 8);
+        let mut set = sets::set(random, sets::part(case), devices);
         let (command, mut tail) = (random.pick(&Command::ALL), sets::tail(random));
         if random.one_in(8) {
             set.global = random.byte();
@@ -81,17 +51,22 @@ fn frames_written_and_read() {
         let given = set.given(command);
         let room = random.pick(&[4, 5, 6, 2000, 2000, 2000]);
         let expected = model::writer::write(&set.told(command, tail), &given, room);
-        let mut out = vec![0; room];
-        let written = writer::write(
-            &told(&set, command, tail),
-            given.byte,
-            given.calibration,
-            given.individual,
-            &mut out,
-        );
-        assert_eq!(written, expected.as_ref().map(Vec::len).map_err(|&n| n));
+        for way in &WAYS {
+            let mut out = vec![0x55; room];
+            let written = writer::write_by(
+                way,
+                &told(&set, command, tail),
+                given.byte,
+                given.calibration,
+                given.individual,
+                &mut out,
+            );
+            assert_eq!(written, expected.as_ref().map(Vec::len).map_err(|&n| n));
+            let frame = expected.as_deref().unwrap_or_default();
+            assert_eq!(out[..frame.len()], *frame);
+            assert!(out[frame.len()..].iter().all(|&byte| byte == 0x55));
+        }
         let Ok(mut frame) = expected else { continue };
-        assert_eq!(out[..frame.len()], frame);
         if random.one_in(2) {
             let at = random.below(frame.len().min(8));
             frame[at] ^= 1 << random.below(8);
@@ -99,14 +74,16 @@ fn frames_written_and_read() {
         if random.one_in(3) {
             *frame.last_mut().unwrap() ^= 1 << random.below(8);
         }
-        reads_alike(&set, command, tail, &frame);
+        for way in &WAYS {
+            reads_alike(way, &set, command, tail, &frame);
+        }
     }
 }
 
-fn reads_alike(set: &Set, command: Command, tail: Tail, frame: &[u8]) {
+fn reads_alike(way: &Way, set: &Set, command: Command, tail: Tail, frame: &[u8]) {
     let (mut bytes, mut values) = (vec![0; 100], vec![0; 1000]);
     let told_frame = told(set, command, tail);
-    let read = reader::read(&told_frame, frame, &mut bytes, &mut values);
+    let read = reader::read_by(way, &told_frame, frame, &mut bytes, &mut values);
     match model::reader::read(&set.told(command, tail), frame, 100_000) {
         Err(number) => assert_eq!(read, Err(number)),
         Ok(Contents::Byte(byte)) => assert_eq!(read, Ok(usize::from(byte))),

@@ -1,23 +1,34 @@
-//! Individual frames of multiplexed devices with 14-bit values, from settings to bytes and back, with all checks.
+//! Individual frames of multiplexed devices, from settings to bytes and back, with all checks.
 
-use crate::race::{best, print};
+use crate::race::{beside, print, Plain};
 use baseline::part::{values, width};
-use baseline::{reader, writer};
+use baseline::way::FASTEST;
+use baseline::{grouped, reader, writer};
 use cases::{sets, Random};
 use model::set::Set;
 use std::hint::black_box;
 
 const INDIVIDUAL: u8 = 0;
 
-/// N = 1, 64, 512, 1023, of 24 outputs and of 16.
+const GROUPS: Plain = Plain::limited("groups", grouped::WAY, 1.5);
+const BEST: Plain = Plain::unlimited("best", FASTEST);
+
+/// N = 512 of each part, beside Rust by groups and the fastest Rust; N = 1, 64, 1023 of the parts with 14-bit values,
+/// beside the fastest.
 pub fn races() {
+    for part in [6972, 6973, 6974, 6975] {
+        write_and_read(&page(part, 512), &[GROUPS, BEST]);
+    }
     for part in [6975, 6973] {
-        for devices in [1, 64, 512, 1023] {
-            let set = page(part, devices);
-            let frame = write(&set);
-            read(&set, &frame);
+        for devices in [1, 64, 1023] {
+            write_and_read(&page(part, devices), &[BEST]);
         }
     }
+}
+
+fn write_and_read(set: &Set, ways: &[Plain]) {
+    let frame = write(set, ways);
+    read(set, ways, &frame);
 }
 
 /// A multiplexed page of a sign, with values of the part's width.
@@ -58,54 +69,66 @@ fn told_library(set: &Set) -> ffi::Told {
     }
 }
 
-fn write(set: &Set) -> Vec<u8> {
+fn write(set: &Set, ways: &[Plain]) -> Vec<u8> {
     let length = told(set).bits().div_ceil(8);
-    let [mut a, mut b] = [(); 2].map(|()| vec![0; length]);
     let (told, of_library) = (told(set), told_library(set));
-    let [proved, plain] = best([
-        &mut || {
+    let mut written = vec![0; length];
+    let mut plain: Vec<_> = ways.iter().map(|w| (&w.way, vec![0; length])).collect();
+    let times = beside(
+        || {
             let values = black_box(&set.individual);
-            black_box(ffi::write(&of_library, 0, &[], values, &mut a));
+            black_box(ffi::write(&of_library, 0, &[], values, &mut written));
         },
-        &mut || {
-            let values = black_box(&set.individual);
-            let _ = black_box(writer::write(&told, 0, &[], values, &mut b));
-        },
-    ]);
-    assert!(a == b && a[0] == 0xE8, "written alike");
-    print(
-        &format!(
-            "write an individual frame of a {} chain, N = {}",
-            set.part, set.devices
-        ),
-        ("ns a device", set.devices as f64),
-        proved,
-        plain,
-        (set.devices == 512).then_some(1.3),
+        plain.iter_mut().map(|(way, out)| {
+            let told = &told;
+            move || {
+                let values = black_box(&set.individual);
+                let _ = black_box(writer::write_by(way, told, 0, &[], values, out));
+            }
+        }),
     );
-    a
+    assert!(
+        plain.iter().all(|(_, out)| *out == written),
+        "written alike"
+    );
+    assert_eq!(written[0], 0xE8, "written alike");
+    print_all("write", set, ways, &times);
+    written
 }
 
-fn read(set: &Set, frame: &[u8]) {
-    let [mut a, mut b] = [(); 2].map(|()| vec![0; set.individual.len()]);
+fn read(set: &Set, ways: &[Plain], frame: &[u8]) {
+    let count = set.individual.len();
     let (told, of_library) = (told(set), told_library(set));
-    let [proved, plain] = best([
-        &mut || {
-            black_box(ffi::read(&of_library, black_box(frame), &mut [], &mut a));
+    let mut values = vec![0; count];
+    let mut plain: Vec<_> = ways.iter().map(|w| (&w.way, vec![0; count])).collect();
+    let times = beside(
+        || {
+            let frame = black_box(frame);
+            black_box(ffi::read(&of_library, frame, &mut [], &mut values));
         },
-        &mut || {
-            let _ = black_box(reader::read(&told, black_box(frame), &mut [], &mut b));
-        },
-    ]);
-    assert!(a == set.individual && b == set.individual, "read alike");
-    print(
-        &format!(
-            "read an individual frame of a {} chain, N = {}",
-            set.part, set.devices
-        ),
-        ("ns a device", set.devices as f64),
-        proved,
-        plain,
-        None,
+        plain.iter_mut().map(|(way, values)| {
+            let told = &told;
+            move || {
+                let frame = black_box(frame);
+                let _ = black_box(reader::read_by(way, told, frame, &mut [], values));
+            }
+        }),
     );
+    assert!(values == set.individual, "read alike");
+    assert!(plain.iter().all(|(_, v)| *v == values), "read alike");
+    print_all("read", set, ways, &times);
+}
+
+fn print_all(what: &str, set: &Set, ways: &[Plain], times: &[f64]) {
+    let (part, devices) = (set.part, set.devices);
+    for (plain, other) in ways.iter().zip(&times[1..]) {
+        let beside = plain.name;
+        print(
+            &format!("{what} an individual frame of a {part} chain, N = {devices}; {beside}"),
+            ("ns a device", devices as f64),
+            times[0],
+            *other,
+            plain.limit,
+        );
+    }
 }

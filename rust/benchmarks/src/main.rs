@@ -11,10 +11,8 @@ mod steps;
 
 fn main() {
     let wanted: Vec<String> = std::env::args().skip(1).collect();
-    println!("Best of many rounds; in a round both sides have their turn, on the same input.");
-    println!(
-        "Both sides are first shown to give the same. Output memory is not cleared before a call:"
-    );
+    println!("Best of many rounds; in a round all sides have their turn, on the same input.");
+    println!("All sides are shown to give the same. Output memory is not cleared before a call:");
     println!("each side writes over what its last call left there.");
     println!();
     println!(

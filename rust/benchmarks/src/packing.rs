@@ -1,106 +1,83 @@
-//! Packing and unpacking a page: 24,576 values.
+//! Packing and unpacking the individual values of 512 multiplexed devices of each part, beside each plain way.
 
-use crate::race::{best, print};
-use baseline::{grouped, packing};
-use cases::Random;
+use crate::frames::page;
+use crate::race::{beside, print, Plain};
+use baseline::{bitwise, grouped, packing, part, staged, wide};
 use std::hint::black_box;
 
-const VALUES: usize = 24_576;
+const DEVICES: usize = 512;
 
-/// The plain ways, and the most that the ratio to each may be.
-const WAYS: [(&str, Option<f64>); 3] = [
-    ("accumulator, byte by byte", Some(1.0)),
-    ("accumulator, four bytes at once", None),
-    ("best groups", None),
+const WAYS: [Plain; 6] = [
+    Plain::limited("bit by bit, plain Rust", bitwise::WAY, 0.5),
+    Plain::limited("accumulator, byte by byte", packing::WAY, 1.0),
+    Plain::unlimited("accumulator, four bytes", packing::WORDS),
+    Plain::limited("groups", grouped::WAY, 1.2),
+    Plain::unlimited("groups, 8-byte words", wide::WAY),
+    Plain::unlimited("staged groups (best)", staged::WAY),
 ];
 
-/// Both widths, against accumulators and against groups.
+/// Of 16 and of 24 outputs, with values of 12 and of 14 bits.
 pub fn races() {
-    for width in [12, 14] {
-        let random = &mut Random::of_case(1, u64::from(width));
-        let values: Vec<u16> = random
-            .words(VALUES)
-            .iter()
-            .map(|v| v & ((1 << width) - 1))
-            .collect();
-        let bytes = pack(width, &values);
-        unpack(width, &values, &bytes);
+    for part in [6972, 6973, 6974, 6975] {
+        let values = page(part, DEVICES).individual;
+        let bytes = pack(part, &values);
+        unpack(part, &values, &bytes);
     }
 }
 
-fn pack(width: u32, values: &[u16]) -> Vec<u8> {
-    let length = VALUES * width as usize / 8;
-    let [mut a, mut b, mut c, mut d] = [(); 4].map(|()| vec![0; length]);
-    let times = best([
-        &mut || {
-            black_box(ffi::pack(black_box(values), black_box(width), &mut a, 0));
-        },
-        &mut || {
-            black_box(packing::pack(
-                black_box(values),
-                black_box(width),
-                &mut b,
-                0,
-            ));
-        },
-        &mut || {
+fn pack(part: u16, values: &[u16]) -> Vec<u8> {
+    let width = part::width(part);
+    let length = values.len() * width as usize / 8;
+    let mut packed = vec![0; length];
+    let mut plain = WAYS.map(|plain| (plain.way.pack, vec![0; length]));
+    let times = beside(
+        || {
             let (values, width) = (black_box(values), black_box(width));
-            black_box(packing::pack_words(values, width, &mut c, 0));
+            black_box(ffi::pack(values, width, &mut packed, 0));
         },
-        &mut || {
-            black_box(grouped::pack(
-                black_box(values),
-                black_box(width),
-                &mut d,
-                0,
-            ));
-        },
-    ]);
-    assert!(a == b && a == c && a == d, "packed alike");
-    print_all("pack", width, times);
-    a
+        plain.iter_mut().map(|(pack, out)| {
+            move || {
+                let (values, width) = (black_box(values), black_box(width));
+                black_box(pack(values, width, out, 0));
+            }
+        }),
+    );
+    assert!(plain.iter().all(|(_, out)| *out == packed), "packed alike");
+    print_all("pack", part, values.len(), &times);
+    packed
 }
 
-fn unpack(width: u32, values: &[u16], bytes: &[u8]) {
-    let [mut a, mut b, mut c, mut d] = [(); 4].map(|()| vec![0; VALUES]);
-    let times = best([
-        &mut || {
-            black_box(ffi::unpack(black_box(bytes), 0, black_box(width), &mut a));
-        },
-        &mut || {
-            black_box(packing::unpack(
-                black_box(bytes),
-                0,
-                black_box(width),
-                &mut b,
-            ));
-        },
-        &mut || {
+fn unpack(part: u16, values: &[u16], bytes: &[u8]) {
+    let width = part::width(part);
+    let mut unpacked = vec![0; values.len()];
+    let mut plain = WAYS.map(|plain| (plain.way.unpack, vec![0; values.len()]));
+    let times = beside(
+        || {
             let (bytes, width) = (black_box(bytes), black_box(width));
-            black_box(packing::unpack_words(bytes, 0, width, &mut c));
+            black_box(ffi::unpack(bytes, 0, width, &mut unpacked));
         },
-        &mut || {
-            black_box(grouped::unpack(
-                black_box(bytes),
-                0,
-                black_box(width),
-                &mut d,
-            ));
-        },
-    ]);
-    assert!(a == values && b == values, "unpacked alike");
-    assert!(c == values && d == values, "unpacked alike");
-    print_all("unpack", width, times);
+        plain.iter_mut().map(|(unpack, back)| {
+            move || {
+                let (bytes, width) = (black_box(bytes), black_box(width));
+                black_box(unpack(bytes, 0, width, back));
+            }
+        }),
+    );
+    assert!(unpacked == values, "unpacked alike");
+    assert!(plain.iter().all(|(_, b)| b == values), "unpacked alike");
+    print_all("unpack", part, values.len(), &times);
 }
 
-fn print_all(what: &str, width: u32, [proved, others @ ..]: [f64; 4]) {
-    for ((way, limit), other) in WAYS.into_iter().zip(others) {
+fn print_all(what: &str, part: u16, count: usize, times: &[f64]) {
+    let width = part::width(part);
+    for (plain, other) in WAYS.iter().zip(&times[1..]) {
+        let beside = plain.name;
         print(
-            &format!("{what} {VALUES} values of {width} bits; {way}"),
-            ("ns a value", VALUES as f64),
-            proved,
-            other,
-            limit,
+            &format!("{what} {count} values of {width} bits ({part}); {beside}"),
+            ("ns a value", count as f64),
+            times[0],
+            *other,
+            plain.limit,
         );
     }
 }

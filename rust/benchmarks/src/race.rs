@@ -1,5 +1,6 @@
 //! Times of several ways to do one thing, taken in turn.
 
+use baseline::way::Way;
 use std::time::{Duration, Instant};
 
 /// Rounds of each race at least.
@@ -11,17 +12,58 @@ const RACE: Duration = Duration::from_millis(400);
 /// Time of one measurement at least: short work is repeated.
 const MEASURED: f64 = 100e-6;
 
+/// A plain way to pack and unpack, beside which the library is timed.
+#[derive(Clone, Copy)]
+pub struct Plain {
+    /// What it is called.
+    pub name: &'static str,
+    /// The way.
+    pub way: Way,
+    /// The most that the ratio to it may be.
+    pub limit: Option<f64>,
+}
+
+impl Plain {
+    /// With a limit.
+    pub const fn limited(name: &'static str, way: Way, most: f64) -> Plain {
+        let limit = Some(most);
+        Plain { name, way, limit }
+    }
+
+    /// For information.
+    pub const fn unlimited(name: &'static str, way: Way) -> Plain {
+        let limit = None;
+        Plain { name, way, limit }
+    }
+}
+
 /// The best time of each way over all rounds, in nanoseconds. In a round each way has its turn.
 pub fn best<const N: usize>(mut ways: [&mut dyn FnMut(); N]) -> [f64; N] {
-    let repeats = ways
-        .each_mut()
-        .map(|way| (MEASURED / seconds(*way, 1).max(1e-9)).ceil() as usize);
-    let mut best = [f64::MAX; N];
+    let times = best_of_each(&mut ways);
+    std::array::from_fn(|k| times[k])
+}
+
+/// The same of the proved library, which is first, and of any number of others.
+pub fn beside<F: FnMut()>(mut proved: impl FnMut(), others: impl Iterator<Item = F>) -> Vec<f64> {
+    let mut others: Vec<F> = others.collect();
+    let mut ways: Vec<&mut dyn FnMut()> = vec![&mut proved];
+    for other in &mut others {
+        ways.push(other);
+    }
+    best_of_each(&mut ways)
+}
+
+fn best_of_each(ways: &mut [&mut dyn FnMut()]) -> Vec<f64> {
+    let repeats: Vec<usize> = ways
+        .iter_mut()
+        .map(|way| (MEASURED / seconds(*way, 1).max(1e-9)).ceil() as usize)
+        .collect();
+    let mut best = vec![f64::MAX; ways.len()];
     let start = Instant::now();
     let mut round = 0;
     while round < ROUNDS || start.elapsed() < RACE {
-        for k in 0..N {
-            let time = seconds(ways[k], repeats[k]) / repeats[k] as f64;
+        for (k, way) in ways.iter_mut().enumerate() {
+            let time = seconds(*way, repeats[k]) / repeats[k] as f64;
             best[k] = best[k].min(time * 1e9);
         }
         round += 1;

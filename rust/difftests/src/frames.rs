@@ -22,11 +22,12 @@ fn told_library(told: &Told, random: &mut Random) -> ffi::Told {
     }
 }
 
-/// A number of devices: mostly few.
+/// A number of devices: mostly few, and often enough for lists of several blocks.
 fn devices(random: &mut Random) -> usize {
     match random.below(1000) {
         0 => 1023,
-        1..=20 => random.between(7, 60),
+        1..=10 => random.between(31, 60),
+        11..=150 => random.between(7, 30),
         _ => random.between(1, 6),
     }
 }

@@ -32,13 +32,13 @@ fn pack12(values: &[u16], out: &mut [u8]) -> usize {
 }
 
 fn pack14(values: &[u16], out: &mut [u8]) -> usize {
-    for (four, bytes) in values.chunks_exact(4).zip(out.chunks_exact_mut(7)) {
-        let bits = four
-            .iter()
-            .fold(0, |bits, &v| bits << 14 | u64::from(v & 0x3FFF));
+    let (fours, rest) = values.as_chunks::<4>();
+    for (four, bytes) in fours.iter().zip(out.as_chunks_mut::<7>().0) {
+        let [a, b, c, d] = four.map(|v| u64::from(v & 0x3FFF));
+        let bits = a << 42 | b << 28 | c << 14 | d;
         bytes.copy_from_slice(&bits.to_be_bytes()[1..]);
     }
-    values.len() & !3
+    values.len() - rest.len()
 }
 
 fn unpack12(bytes: &[u8], values: &mut [u16]) -> usize {
@@ -50,13 +50,12 @@ fn unpack12(bytes: &[u8], values: &mut [u16]) -> usize {
 }
 
 fn unpack14(bytes: &[u8], values: &mut [u16]) -> usize {
-    for (bytes, four) in bytes.chunks_exact(7).zip(values.chunks_exact_mut(4)) {
+    let fours = values.as_chunks_mut::<4>().0;
+    for (bytes, four) in bytes.as_chunks::<7>().0.iter().zip(fours) {
         let mut word = [0; 8];
         word[1..].copy_from_slice(bytes);
         let bits = u64::from_be_bytes(word);
-        for (k, value) in four.iter_mut().enumerate() {
-            *value = (bits >> (42 - 14 * k) & 0x3FFF) as u16;
-        }
+        *four = [42, 28, 14, 0].map(|k| (bits >> k & 0x3FFF) as u16);
     }
     values.len() & !3
 }

@@ -12,7 +12,7 @@
 //! go by the lane are multiplications by powers of two, of which the low 16 bits are a shift to the left and the high
 //! ones a shift to the right: the compiler does eight at a time. Between stage and frame go words of four lanes.
 
-use crate::way::{Blocks, Way};
+use crate::way::{front, Blocks, Way};
 use crate::wide;
 
 /// In blocks of 64 values when packed and of 256 when unpacked, at 12 and 14 bits; with 8-byte stores and loads
@@ -157,9 +157,4 @@ fn split(lanes: &Lanes, before: &Lanes, by: &Split, values: &mut [u16; BLOCK]) {
         let high = u16::from_be_bytes(before[k]).wrapping_mul(factor);
         values[k] = (high | low as u16) & by.mask;
     }
-}
-
-/// The first elements of a list that has so many.
-fn front<T, const N: usize>(list: &[T]) -> &[T; N] {
-    list.first_chunk().expect("a whole block")
 }

@@ -80,3 +80,8 @@ impl Blocks {
         (self.rest.unpack)(bytes, unpacked, width, &mut values[whole..])
     }
 }
+
+/// The first elements of a list that has so many.
+pub(crate) fn front<T, const N: usize>(list: &[T]) -> &[T; N] {
+    list.first_chunk().expect("a whole block")
+}

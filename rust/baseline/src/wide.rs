@@ -103,11 +103,13 @@ fn spread(lanes: u64, four: &mut [u16]) {
     }
 }
 
-fn store(bytes: &mut [u8], at: usize, word: u64) {
+/// The eight bytes of a word.
+pub(crate) fn store(bytes: &mut [u8], at: usize, word: u64) {
     bytes[at..at + 8].copy_from_slice(&word.to_be_bytes());
 }
 
-fn load(bytes: &[u8], at: usize) -> u64 {
+/// Eight bytes as a word.
+pub(crate) fn load(bytes: &[u8], at: usize) -> u64 {
     let mut word = [0; 8];
     word.copy_from_slice(&bytes[at..at + 8]);
     u64::from_be_bytes(word)

@@ -3,18 +3,19 @@
 //! there is no room.
 
 use baseline::way::Way;
-use baseline::{bitwise, grouped, packing, staged, wide};
+use baseline::{bitwise, grouped, packing, staged, wide, words};
 use cases::Random;
 use model::bits;
 
 const SEED: u64 = 0x3A75;
 
 /// The ways that are held against bit by bit.
-const WAYS: [Way; 5] = [
+const WAYS: [Way; 6] = [
     packing::WAY,
     packing::WORDS,
     grouped::WAY,
     wide::WAY,
+    words::WAY,
     staged::WAY,
 ];
 

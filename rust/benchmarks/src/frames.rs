@@ -1,6 +1,6 @@
 //! Individual frames of multiplexed devices, from settings to bytes and back, with all checks.
 
-use crate::race::{beside, print, Plain};
+use crate::race::{beside, print_ways, Plain};
 use baseline::part::{values, width};
 use baseline::way::FASTEST;
 use baseline::{grouped, reader, writer};
@@ -121,14 +121,6 @@ fn read(set: &Set, ways: &[Plain], frame: &[u8]) {
 
 fn print_all(what: &str, set: &Set, ways: &[Plain], times: &[f64]) {
     let (part, devices) = (set.part, set.devices);
-    for (plain, other) in ways.iter().zip(&times[1..]) {
-        let beside = plain.name;
-        print(
-            &format!("{what} an individual frame of a {part} chain, N = {devices}; {beside}"),
-            ("ns a device", devices as f64),
-            times[0],
-            *other,
-            plain.limit,
-        );
-    }
+    let what = format!("{what} an individual frame of a {part} chain, N = {devices}");
+    print_ways(&what, ("ns a device", devices as f64), ways, times);
 }

@@ -16,7 +16,7 @@ fn main() {
     println!("each side writes over what its last call left there.");
     println!();
     println!(
-        "{:64} {:>10} {:>10} {:12} {:>6}",
+        "{:72} {:>10} {:>10} {:12} {:>6}",
         "", "proved", "Rust", "in", "ratio"
     );
     let kinds: [(&str, fn()); 6] = [

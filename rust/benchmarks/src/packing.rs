@@ -1,19 +1,20 @@
 //! Packing and unpacking the individual values of 512 multiplexed devices of each part, beside each plain way.
 
 use crate::frames::page;
-use crate::race::{beside, print, Plain};
-use baseline::{bitwise, grouped, packing, part, staged, wide};
+use crate::race::{beside, print_ways, Plain};
+use baseline::{bitwise, grouped, packing, part, staged, wide, words};
 use std::hint::black_box;
 
 const DEVICES: usize = 512;
 
-const WAYS: [Plain; 6] = [
+const WAYS: [Plain; 7] = [
     Plain::limited("bit by bit, plain Rust", bitwise::WAY, 0.5),
     Plain::limited("accumulator, byte by byte", packing::WAY, 1.0),
     Plain::unlimited("accumulator, four bytes", packing::WORDS),
     Plain::limited("groups", grouped::WAY, 1.2),
     Plain::unlimited("groups, 8-byte words", wide::WAY),
-    Plain::unlimited("staged groups (best)", staged::WAY),
+    Plain::limited("staged words, the library's kind", words::WAY, 1.2),
+    Plain::unlimited("staged lanes (best)", staged::WAY),
 ];
 
 /// Of 16 and of 24 outputs, with values of 12 and of 14 bits.
@@ -70,14 +71,6 @@ fn unpack(part: u16, values: &[u16], bytes: &[u8]) {
 
 fn print_all(what: &str, part: u16, count: usize, times: &[f64]) {
     let width = part::width(part);
-    for (plain, other) in WAYS.iter().zip(&times[1..]) {
-        let beside = plain.name;
-        print(
-            &format!("{what} {count} values of {width} bits ({part}); {beside}"),
-            ("ns a value", count as f64),
-            times[0],
-            *other,
-            plain.limit,
-        );
-    }
+    let what = format!("{what} {count} values of {width} bits ({part})");
+    print_ways(&what, ("ns a value", count as f64), &WAYS, times);
 }

@@ -79,6 +79,14 @@ fn seconds(way: &mut dyn FnMut(), repeats: usize) -> f64 {
     start.elapsed().as_secs_f64()
 }
 
+/// Prints a race of the proved library, whose time is first, and of plain ways: a line for each of these.
+pub fn print_ways(what: &str, per: (&str, f64), ways: &[Plain], times: &[f64]) {
+    for (plain, other) in ways.iter().zip(&times[1..]) {
+        let what = format!("{what}; {}", plain.name);
+        print(&what, per, times[0], *other, plain.limit);
+    }
+}
+
 /// Prints a race: the proved library's time, another's, their ratio, and the most that the ratio may be.
 pub fn print(what: &str, per: (&str, f64), proved: f64, other: f64, limit: Option<f64>) {
     let (unit, count) = per;
@@ -89,7 +97,7 @@ pub fn print(what: &str, per: (&str, f64), proved: f64, other: f64, limit: Optio
         None => String::new(),
     };
     println!(
-        "{what:64} {:10.2} {:10.2} {unit:12} {ratio:6.2}  {verdict}",
+        "{what:72} {:10.2} {:10.2} {unit:12} {ratio:6.2}  {verdict}",
         proved / count,
         other / count
     );

@@ -17,6 +17,9 @@
  *   least current, 1/8 uA        88,000      88,000      48,000         48,000
  *   current step, 1/8 uA         1375        1375        750            750
  *
+ *   A frame of light has S subframes (bb_subframes), each of which runs in MUX0 and then, multiplexed, in MUX1. So it
+ *   is 524,288 clocks long; on a 6973 or 6975 with GLB4 (the configuration's D4 is 1) it is 131,072.
+ *
  *   Outputs are in wire order, from 0: Z7 to Z0, Y7 to Y0; or B7 to B0, G7 to G0, R7 to R0. A device's share of a list
  *   of settings is one byte for each bank, or one value for each output, and multiplexed (the configuration's D0 is 1)
  *   two for each output, of MUX0 and then of MUX1.
@@ -66,7 +69,8 @@ enum {
     BB_REFUSED_POSITION_OR_RECORD = 13 /* a device number, position (subframe, clock or output), window, line state,
                                    edge (0 early, 1 exact, 2 late), fault kind (0 overtemperature, 1 open LED) or phase
                                    is out of range, or a device record holds a value over its width, something in a
-                                   place that its part does not use, or numbers that fit none of the phases below */
+                                   place that its part does not use, a position not below its frame's length, or
+                                   numbers that fit none of the phases below */
 };
 
 /* Commands, C1 C0. */
@@ -123,7 +127,8 @@ struct bb_answer {
  * The arrays have places for three banks. A part of two banks uses the front of each: calibration[0] and [1], places 0
  * to 15 of the four lists of values, and slots 0 to 31 of `slice`; the places behind hold 0.
  * A record fits when both flags are 0 or 1, every value and every slot of `slice` is below 2^(value width), every place
- * that its part does not use is 0, and its place in the frame fits its phase.
+ * that its part does not use is 0, its position is below the length of its frame of light by its own part and
+ * configuration, and its place in the frame that comes in fits its phase.
  */
 struct bb_registers {
     uint16_t part;           /* 6972, 6973, 6974 or 6975 */
@@ -131,9 +136,9 @@ struct bb_registers {
     uint8_t openled;         /* fault flag: 0 or 1 */
     uint8_t configuration;   /* D0 multiplex, D4 GLB4 */
     uint8_t calibration[3];  /* one byte for each bank: Z, Y, or B, G, R */
-    uint8_t waiting;         /* global byte, until the frame boundary */
+    uint8_t waiting;         /* global byte, until the position returns to 0 */
     uint8_t active;          /* global byte in use */
-    uint16_t waiting0[24];   /* MUX0 values, until the frame boundary; one for each output, in wire order */
+    uint16_t waiting0[24];   /* MUX0 values, until then; one for each output, in wire order */
     uint16_t waiting1[24];   /* MUX1 values likewise */
     uint16_t active0[24];    /* MUX0 values in use */
     uint16_t active1[24];    /* MUX1 values in use while D0 is 1 */
@@ -143,10 +148,15 @@ struct bb_registers {
      * off, or of an earlier and longer one, may stand in them. A slot over 255 fits also where a calibration, global or
      * configuration slice comes in: its low 8 bits are what is stored, and what copies are compared by. */
     uint16_t slice[48];
+    /* The device's position in its frame of light, in clocks: 0 when fresh. bb_run moves it, one for each state that is
+     * given to the chain. Where it returns to 0, which is a frame boundary, the waiting values become active. A
+     * configuration that is stored and makes the frame shorter takes it modulo the new length, which is no boundary;
+     * in a longer frame it stays. */
+    uint64_t position;
 };
 
 /*
- * Where a device is in the frame. Numbers that a phase does not use are 0.
+ * Where a device is in a frame that comes in. Numbers that a phase does not use are 0.
  *   BB_HUNTING   read: the window, the last nine low bits since the last high clock as a number, below 512
  *   BB_OPENING   read: a leading one and then the command bits so far, 1 (none yet, after an early edge) to 63
  *   BB_COUNTING  command; read: a leading one and then the count bits so far, 1 to 1023
@@ -160,7 +170,7 @@ struct bb_place {
     uint16_t read;
 };
 
-/* One device: a record of plain numbers without padding. */
+/* One device: a record of plain numbers. No call looks at the padding before `position` and behind `place`. */
 struct bb_device {
     struct bb_registers registers;
     struct bb_place place;
@@ -193,6 +203,13 @@ struct bb_clocks {
     uint32_t first; /* the first clock; 0 where there is none, and where refused */
     uint32_t end;   /* the clock after the last; 0 likewise */
     uint8_t refusal;
+};
+
+/* What is to be seen of an output now, or a refusal. */
+struct bb_shown_now {
+    uint8_t lit;     /* 1 where it is lit; 0 where it is not, and where refused */
+    uint8_t phase;   /* 0 (MUX0) or 1 (MUX1); 0 where nonmultiplexed, and where refused */
+    uint8_t refusal; /* 0 where accepted */
 };
 
 /* The first difference between a set and a chain, or a refusal. All numbers are 0 where they are the same. */
@@ -314,9 +331,10 @@ struct bb_answer bb_data_bytes(const uint8_t *states, size_t count, uint8_t *out
 uint8_t bb_judge(struct bb_device device);
 
 /*
- * One clock with the line state `state`, 0 to 3: data bit plus twice the load bit. Gives the next device and what it
+ * One step with the line state `state`, 0 to 3: data bit plus twice the load bit. Gives the next device and what it
  * sends on: nothing (`sent` 0), the state itself (1), or the 24 states of a header (24): SYNC 0xE8 at low load, then
- * C1 C0 three times and the ten bits of the count at high load, each most significant bit first.
+ * C1 C0 three times and the ten bits of the count at high load, each most significant bit first. The position does not
+ * move, but for a configuration that is stored and makes the frame shorter: a device advances only in bb_run.
  * Refused with 1 for the record's part, with 13 where the record does not fit or the state is over 3. A refused step
  * gives `device` as it came in, sends nothing, and every number beside `device` and `refusal` is 0.
  */
@@ -325,24 +343,29 @@ struct bb_stepped bb_step(struct bb_device device, uint8_t state);
 /* ---- A chain: a lent list of records, changed in place ---- */
 
 /*
- * Every call below that is lent a chain judges it: 1 for a record whose part is unknown, 2 for a number of records that
+ * Every call that is lent a chain judges it: 1 for a record whose part is unknown, 2 for a number of records that
  * is not 1 to 1023, 4 where records differ in part, 13 where a record does not fit. bb_fresh alone takes the records
  * whatever they hold. Those that return a number return the refusal, 0 where accepted.
  */
 
-/* Makes a chain fresh: zeros, no faults, hunting, all of the told part. Refused with 1 and 2. */
+/* Makes a chain fresh: zeros, position 0, no faults, hunting, all of the told part. Refused with 1 and 2. */
 uint8_t bb_fresh(struct bb_device *devices, size_t count, uint16_t part);
 
 /*
  * Gives the chain line states, one to a clock, and answers how many states the last device sent; they stand in
- * `returned`. Refused as above, with 5 where `room` is below states_count + 23 (also for no states), and with 13 where
- * one state is over 3.
+ * `returned`. In a clock
+ *   1. every device of the chain advances: its position goes up by one, modulo the length of its frame of light; where
+ *      it returns to 0, the waiting global byte and values, of MUX0 and MUX1, become the active ones;
+ *   2. then the state acts: it goes to device 1, what device 1 sends to device 2, and so on. States sent on advance no
+ *      device.
+ * Where a device stores with the clock of its boundary, what waited until then becomes active, and what is stored
+ * waits. A set is in use once its four frames were given and then every position has next returned to 0. That takes,
+ * for each device, its frame's length less its position in clocks at low load; 524,288 of them are always enough.
+ * Refused as above, with 5 where `room` is below states_count + 23 (also for no states), and with 13 where one state is
+ * over 3.
  */
 struct bb_answer bb_run(struct bb_device *devices, size_t count, const uint8_t *states, size_t states_count,
                         uint8_t *returned, size_t room);
-
-/* A frame boundary: waiting global and individual values become active. Refused as above. */
-uint8_t bb_boundary(struct bb_device *devices, size_t count);
 
 /*
  * Sets the fault flag of one device, 1 to `count`: 0 takes it away, any other `flag` raises it.
@@ -390,6 +413,16 @@ struct bb_clocks bb_lit_clocks(uint16_t part, uint8_t configuration, uint8_t glo
 
 /* The same of a device, by its configuration and active values. Refused as bb_device_lit is, apart from the clock. */
 struct bb_clocks bb_device_lit_clocks(struct bb_device device, uint32_t output, uint32_t subframe, uint32_t phase);
+
+/*
+ * Whether an output of one device of a chain, 1 to `count`, is lit at that device's present position, by its
+ * configuration and active values, and the phase. With clocks per subframe c and phases p (1, or multiplexed 2) the
+ * position stands in subframe position / (p * c), in phase position / c % p, at clock position % c: `lit` is what
+ * bb_device_lit answers there. Nothing is written.
+ * Refused as a chain is, with 1, 2, 4 and 13, and with 13 for a device number out of range or an output not below the
+ * part's outputs.
+ */
+struct bb_shown_now bb_lit_now(const struct bb_device *chain, size_t count, size_t device, uint32_t output);
 
 /* ---- Is it running? ---- */
 

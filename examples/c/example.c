@@ -1,7 +1,7 @@
 /*
  * From a set to a running sign, through include/bractbeacon.h: frames, line states, a run on three devices, what comes
- * back, the comparison, the light, the current; and what is different with 16 outputs. Prints what came out and exits
- * with 1 where it is not what docs/RULES.md says.
+ * back, the wait for their boundary, the comparison, the light, the current; and what is different with 16 outputs.
+ * Prints what came out and exits with 1 where it is not what docs/RULES.md says.
  *
  *   tools/library
  *   gcc -std=c11 -Wall -Wextra -Iinclude examples/c/example.c -Ltarget/staticlib -lbractbeacon -o target/example
@@ -11,7 +11,8 @@
 
 #include "bractbeacon.h"
 
-enum { DEVICES = 3, PART = 6974, CONFIGURATION = 0x00, GLOBAL = 96, VALUE = 2560 };
+/* CLOCKS are those of a subframe of the part, and FRAME those of its 128 subframes. */
+enum { DEVICES = 3, PART = 6974, CONFIGURATION = 0x00, GLOBAL = 96, VALUE = 2560, CLOCKS = 4096, FRAME = 524288 };
 
 static const uint64_t TAIL = 0xA5;
 static const uint32_t TAIL_LENGTH = 8;
@@ -106,7 +107,32 @@ static uint64_t send(const struct set *set, struct bb_device *chain, uint8_t com
     return count.value;
 }
 
-/* Example g and demand 3: two open LEDs, a whole restore, a boundary, and then the chain runs the set. */
+/* Gives the chain clocks at low load, with which every position goes up and nothing is sent. */
+static void give_low_clocks(struct bb_device *chain, uint64_t clocks)
+{
+    static const uint8_t low[CLOCKS];
+    uint8_t returned[CLOCKS + 23];
+
+    while (clocks > 0) {
+        size_t piece = clocks < CLOCKS ? (size_t)clocks : CLOCKS;
+        struct bb_answer sent = bb_run(chain, DEVICES, low, piece, returned, sizeof returned);
+        expect("low clocks send nothing", sent.refusal == 0 && sent.value == 0);
+        clocks -= piece;
+    }
+}
+
+/* How many clocks it is until every position has next returned to 0: at most FRAME. */
+static uint64_t clocks_to_boundary(const struct bb_device *chain)
+{
+    uint64_t most = 0;
+    for (int i = 0; i < DEVICES; i++) {
+        uint64_t clocks = FRAME - chain[i].registers.position;
+        most = clocks > most ? clocks : most;
+    }
+    return most;
+}
+
+/* Example g and demand 3: two open LEDs, a whole restore, a wait, and then the chain runs the set. */
 static void restore(const struct set *set, struct bb_device *chain)
 {
     expect("fresh", bb_fresh(chain, DEVICES, PART) == 0);
@@ -123,7 +149,10 @@ static void restore(const struct set *set, struct bb_device *chain)
                                            set->individual, 24 * DEVICES, chain, DEVICES);
     printf("before the boundary: device %u, group %u, place %u\n", (unsigned)before.device, before.group, before.place);
     expect("the global byte still waits", before.device == 1 && before.group == BB_IN_ACTIVE_GLOBAL);
-    expect("boundary", bb_boundary(chain, DEVICES) == 0);
+    uint64_t clocks = clocks_to_boundary(chain);
+    printf("low clocks to the boundary: %u\n", (unsigned)clocks);
+    give_low_clocks(chain, clocks);
+    expect("at the boundary", chain[0].registers.position == 0);
     struct bb_compared after = bb_compare(PART, DEVICES, CONFIGURATION, set->calibration, 3 * DEVICES, GLOBAL,
                                           set->individual, 24 * DEVICES, chain, DEVICES);
     expect("same", after.refusal == 0 && after.group == BB_SAME);
@@ -159,6 +188,20 @@ static void light(const struct bb_device *chain)
     expect("a 6975 with value 33: R0 at 32", bb_lit(6975, 0, 31, 33, 23, 0, 32, 0).value == 1);
     expect("nonmultiplexed, phase MUX1 is 13",
            bb_lit(6975, 0, 31, 33, 23, 0, 32, 1).refusal == BB_REFUSED_POSITION_OR_RECORD);
+}
+
+/* What is lit now: from the beginning of a frame of light the chain is given clocks up to the first with R0 lit. */
+static void light_now(struct bb_device *chain)
+{
+    struct bb_shown_now now = bb_lit_now(chain, DEVICES, 3, 23);
+    expect("R0 is dark in subframe 0", now.refusal == 0 && now.lit == 0 && now.phase == 0);
+    give_low_clocks(chain, CLOCKS + 15);
+    expect("dark at clock 15 of subframe 1", bb_lit_now(chain, DEVICES, 3, 23).lit == 0);
+    give_low_clocks(chain, 1);
+    now = bb_lit_now(chain, DEVICES, 3, 23);
+    printf("position %u: R0 %s\n", (unsigned)chain[2].registers.position, now.lit ? "lit" : "dark");
+    expect("lit at clock 16", now.refusal == 0 && now.lit == 1 && now.phase == 0);
+    expect("there is no device 4", bb_lit_now(chain, DEVICES, 4, 23).refusal == BB_REFUSED_POSITION_OR_RECORD);
 }
 
 /* What the set draws: an eighth of a microamp is 1/8000 mA. */
@@ -217,6 +260,7 @@ int main(void)
     frames_of_one(&set);
     restore(&set, chain);
     light(chain);
+    light_now(chain);
     current(&set);
     sixteen_outputs();
     printf("%s\n", mismatches == 0 ? "all as docs/RULES.md says" : "not as docs/RULES.md says");

@@ -1,14 +1,14 @@
--- The four calls on a lent chain: when each is refused, what it leaves in the records, and what a run answers and leaves in the room that
+-- The three calls on a lent chain: when each is refused, what it leaves in the records, and what a run answers and leaves in the room that
 -- it is lent. For any records, states and room. A refused call changes no record and no lent byte.
 use Prim.Native.Nat.{ℕ, _+_, _-_}
 use mathlib.Core.Bool.{Bool, not, _&&_}
-use mathlib.Core.List.{List, [], _∷_, _++_, map}
+use mathlib.Core.List.{List, [], _∷_, _++_}
 use lib.Dec.{leb, ltb}
 use lib.ListN.{length, getD, set, replicate}
 use Rattle.bits.specs.Bits.{digit, over}
 use Rattle.parts.specs.Parts.{known, isCount}
 use Rattle.tables.specs.Refusals.{Row, _when_, first, content}
-use Rattle.device.specs.Step.{freshDevice, bounded, faulted}
+use Rattle.device.specs.Step.{freshDevice, faulted}
 use Rattle.tables.specs.Lists.{allBelow}
 use Rattle.device.specs.declared.device.Device.{Device}
 use Rattle.calls.specs.Chain.{through, allKnown, sameParts, allFit, blank}
@@ -64,24 +64,6 @@ runAfter ds ss room = content (runRefusal ds ss room) ds (runDevices ds ss)
 -- what the lent room holds afterwards: the states returned, from its first place on
 abbrev pub runRoom : List Device → List ℕ → List ℕ → List ℕ
 runRoom ds ss out = content (runRefusal ds ss (length out)) out (over (returned ds ss) out)
-
--- ---- frame boundary
-
--- when it is refused
-abbrev pub boundaryTable : List Device → List Row
-boundaryTable ds = chainRows ds ++ (13 when not (allFit ds)) ∷ []
-
--- the number, or 0
-unfoldable pub boundaryRefusal : List Device → ℕ
-boundaryRefusal ds = first (boundaryTable ds)
-
--- waiting values become active in every device
-abbrev pub boundaryDevices : List Device → List Device
-boundaryDevices ds = map bounded ds
-
--- the records afterwards
-abbrev pub boundaryAfter : List Device → List Device
-boundaryAfter ds = content (boundaryRefusal ds) ds (boundaryDevices ds)
 
 -- ---- set fault: a device's number, 1 to N, the kind, 0 overtemperature or 1 open LED, and the flag
 

@@ -1,20 +1,21 @@
--- A lent chain: a list of device records, device 1 first. What line states do to it, device by device, and the tests by which its records
+-- A lent chain: a list of device records, device 1 first. What line states do to it, clock by clock, and the tests by which its records
 -- are judged. docs/RULES.md, "One device, clock by clock" and "Refusal numbers".
 use Prim.Native.Nat.{ℕ}
 use mathlib.Core.Bool.{Bool, true}
 use mathlib.Core.List.{List, [], _∷_}
 use lib.Dec.{eqb}
-use Rattle.machine.specs.Machine.{chain}
+use Rattle.machine.specs.Machine.{clocks}
 use Rattle.parts.specs.Parts.{known}
-use Rattle.device.specs.Step.{freshDevice}
+use Rattle.device.specs.Step.{tickedDevice, freshDevice}
 use Rattle.device.specs.Judgement.{fits}
 use Rattle.device.specs.Run.{stepRecord}
 use Rattle.device.specs.declared.device.Device.{Device}
 use Rattle.tables.specs.Lists.{every}
 
--- the devices after line states, and what the last one sent: each device takes all that the one before it sent
+-- the devices after line states, one to a clock, and what the last one sent: in each clock every device advances by one, and then the state
+-- acts on device 1 and what each device sends on the next
 abbrev pub through : List Device → List ℕ → List Device × List ℕ
-through ds ss = chain stepRecord ds ss
+through ds ss = clocks stepRecord tickedDevice ds ss
 
 -- a record is of a part
 abbrev pub hasPart : ℕ → Device → Bool

@@ -4,47 +4,41 @@ use Prim.Native.Nat.{ℕ}
 use mathlib.Core.Path.{_≡_}
 use mathlib.Core.Bool.{Bool, true}
 use mathlib.Core.List.{List, [], _∷_, _++_}
-use mathlib.Core.Logic.{_⊎_}
 use lib.ListN.{length, take}
 use Rattle.tables.specs.Lists.{allBelow}
 use Rattle.tables.specs.Refusals.{Row, content}
 use Rattle.device.specs.declared.device.Device.{Device}
-use Rattle.calls.specs.Calls.{freshTable, runTable, boundaryTable, faultTable, freshRefusal, runRefusal, boundaryRefusal, faultRefusal}
-use Rattle.calls.specs.Calls.{freshDevices, freshAfter, runDevices, runAfter, runRoom, returned, boundaryDevices, boundaryAfter, faultDevices, faultAfter}
+use Rattle.calls.specs.Calls.{freshTable, runTable, faultTable, freshRefusal, runRefusal, faultRefusal}
+use Rattle.calls.specs.Calls.{freshDevices, freshAfter, runDevices, runAfter, runRoom, returned, faultDevices, faultAfter}
 
 -- fresh: the part. run: states, and the lent room as it is. fault: device, kind, flag
 pub data Call : Type 0 where
   fresh : ℕ → Call
   run : List ℕ → List ℕ → Call
-  boundary : Call
   fault : ℕ → ℕ → Bool → Call
 
 -- what a call is refused for, in the order of the numbers
 abbrev pub tableOf : List Device → Call → List Row
 tableOf ds (fresh part) = freshTable part (length ds)
 tableOf ds (run ss out) = runTable ds ss (length out)
-tableOf ds boundary = boundaryTable ds
 tableOf ds (fault device kind flag) = faultTable ds device kind
 
 -- the number under which a call is refused, or 0
 unfoldable pub refusalOf : List Device → Call → ℕ
 refusalOf ds (fresh part) = freshRefusal part (length ds)
 refusalOf ds (run ss out) = runRefusal ds ss (length out)
-refusalOf ds boundary = boundaryRefusal ds
 refusalOf ds (fault device kind flag) = faultRefusal ds device kind
 
 -- what an accepted call makes of the records
 abbrev pub effect : List Device → Call → List Device
 effect ds (fresh part) = freshDevices part ds
 effect ds (run ss out) = runDevices ds ss
-effect ds boundary = boundaryDevices ds
 effect ds (fault device kind flag) = faultDevices ds device kind flag
 
 -- the records that a call leaves
 unfoldable pub after : List Device → Call → List Device
 after ds (fresh part) = freshAfter part ds
 after ds (run ss out) = runAfter ds ss (length out)
-after ds boundary = boundaryAfter ds
 after ds (fault device kind flag) = faultAfter ds device kind flag
 
 -- the records that a list of calls leaves
@@ -56,14 +50,12 @@ afterCalls ds (c ∷ cs) = afterCalls (after ds c) cs
 abbrev pub given : List Device → Call → List ℕ
 given ds (fresh part) = []
 given ds (run ss out) = content (runRefusal ds ss (length out)) [] ss
-given ds boundary = []
 given ds (fault device kind flag) = []
 
 -- the states that it returns: as many as it answers, from the front of the lent room
 abbrev pub answered : List Device → Call → List ℕ
 answered ds (fresh part) = []
 answered ds (run ss out) = content (runRefusal ds ss (length out)) [] (take (length (returned ds ss)) (runRoom ds ss out))
-answered ds boundary = []
 answered ds (fault device kind flag) = []
 
 -- joined up
@@ -86,7 +78,6 @@ Keeps ds c = after ds c ≡ ds
 abbrev pub RunOrKeeps : List Device → Call → Type 0
 RunOrKeeps ds (fresh part) = Keeps ds (fresh part)
 RunOrKeeps ds (run ss out) = Unit {0}
-RunOrKeeps ds boundary = Keeps ds boundary
 RunOrKeeps ds (fault device kind flag) = Keeps ds (fault device kind flag)
 
 -- and so is each of a list
@@ -94,11 +85,10 @@ abbrev pub Runs : List Device → List Call → Type 0
 Runs ds [] = Unit {0}
 Runs ds (c ∷ cs) = RunOrKeeps ds c × Runs (after ds c) cs
 
--- between the fourth frame and the boundary: a fault setting, a run of low states, or a call that leaves the records as they are
+-- after the fourth frame: a fault setting, a run that gives low states or none, or a call that leaves the records as they are
 abbrev pub FaultOrLow : List Device → Call → Type 0
 FaultOrLow ds (fresh part) = Keeps ds (fresh part)
-FaultOrLow ds (run ss out) = (allBelow ss 2 ≡ true) ⊎ Keeps ds (run ss out)
-FaultOrLow ds boundary = Keeps ds boundary
+FaultOrLow ds (run ss out) = allBelow (given ds (run ss out)) 2 ≡ true
 FaultOrLow ds (fault device kind flag) = Unit {0}
 
 -- and so is each of a list

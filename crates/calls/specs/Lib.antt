@@ -1,4 +1,4 @@
--- The plain chain of records, the four calls on it, lists of calls, and what a caller knows by them.
+-- The plain chain of records, the three calls on it, lists of calls, and what a caller knows by them.
 pub mod Chain
 pub mod Calls
 pub mod History

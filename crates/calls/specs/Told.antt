@@ -11,7 +11,7 @@ use Rattle.tables.specs.Refusals.{Row, _when_}
 use Rattle.registers.specs.declared.registers.Registers.{Registers}
 use Rattle.device.specs.declared.device.Device.{Device}
 use Rattle.calls.specs.Calls.{freshTable, roomFor}
-use Rattle.calls.specs.History.{Call, fresh, run, boundary, fault, refusalOf, after}
+use Rattle.calls.specs.History.{Call, fresh, run, fault, refusalOf, after}
 
 -- the flag of a kind that a record holds: 0 overtemperature, else open LED
 abbrev pub flagIn : Registers → ℕ → ℕ
@@ -25,7 +25,6 @@ isAccepted ds c = eqb (refusalOf ds c) 0
 abbrev pub partBy : List Device → ℕ → Call → ℕ
 partBy ds p (fresh q) = cond (isAccepted ds (fresh q)) q p
 partBy ds p (run ss out) = p
-partBy ds p boundary = p
 partBy ds p (fault device kind flag) = p
 
 -- the part told to the last accepted fresh of a list of calls, or p
@@ -37,7 +36,6 @@ partTold ds p (c ∷ cs) = partTold (after ds c) (partBy ds p c) cs
 abbrev pub flagBy : List Device → ℕ → ℕ → Bool → Call → Bool
 flagBy ds device kind old (fresh q) = cond (isAccepted ds (fresh q)) false old
 flagBy ds device kind old (run ss out) = old
-flagBy ds device kind old boundary = old
 flagBy ds device kind old (fault n k flag) = cond (isAccepted ds (fault n k flag) && (eqb n device && eqb k kind)) flag old
 
 -- the flag that the last accepted setting of a list of calls gave, false after an accepted fresh, or `old`
@@ -49,5 +47,4 @@ flagTold ds device kind old (c ∷ cs) = flagTold (after ds c) device kind (flag
 abbrev pub ownTable : ℕ → Call → List Row
 ownTable n (fresh part) = freshTable part n
 ownTable n (run ss out) = (5 when ltb (length out) (roomFor (length ss))) ∷ (13 when not (allBelow ss 4)) ∷ []
-ownTable n boundary = []
 ownTable n (fault device kind flag) = (13 when not (leb 1 device && (leb device n && ltb kind 2))) ∷ []

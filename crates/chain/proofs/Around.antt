@@ -1,5 +1,5 @@
--- What stands around the loop of proofs/Loop in `bb_fresh`, `bb_boundary` and `bb_set_fault`, walked once. Before it the records are judged and
--- counted (`judged-first`, in the two that judge); once the span is there, the index begins at its first place, the loop sweeps, the refusal's
+-- What stands around the loop of proofs/Loop in `bb_fresh`, `close` and `bb_set_fault`, walked once. Before it the records are judged and counted
+-- (`judged-first`, in the one that judges); once the span is there, the index begins at its first place, the loop sweeps, the refusal's
 -- number is the answer, and the chain is shut (`sweeping`). A function's own part is the call that makes the span, the call that makes a record, and
 -- how its locals are freed.
 use Rattle.judgement.proofs.Walk.{_≡_, refl, sym, subst, ℕ, _<_, _^_, List, [], _∷_, length, URA, fullShare, w8, w64, vint, vptr, Val, SProp, ent, Lft, GName, Share, ftrue, fat, flft}

@@ -1,4 +1,4 @@
--- The loop that `bb_fresh`, `bb_boundary` and `bb_set_fault` share, walked once: while the index is below the span's end a record is made and
+-- The loop that `bb_fresh`, `close` and `bb_set_fault` share, walked once: while the index is below the span's end a record is made and
 -- stored there, and the index grows by one. It holds for any function that has such a loop, whatever its locals: `Locals` says which of them the
 -- loop uses. How the record is made is the function's own part (`sweeps`'s `make`); where it is made of the record that stands there, `read`
 -- walks the reading.

@@ -13,12 +13,13 @@ use Rattle.bits.specs.Bits.{digit}
 use Rattle.tables.specs.Refusals.{first, content}
 use Rattle.tables.proofs.Rows.{clear}
 use Rattle.tables.proofs.Booleans.{and-left, and-both}
-use Rattle.device.specs.Step.{freshDevice, bounded, faulted}
+use Rattle.device.specs.Step.{freshDevice, faulted}
 use Rattle.device.specs.declared.device.Device.{Device}
 use Rattle.calls.specs.Chain.{allFit, blank}
-use Rattle.calls.specs.Calls.{freshRefusal, freshAfter, boundaryRefusal, boundaryAfter, faultTable, faultRefusal, faultAfter}
+use Rattle.calls.specs.Calls.{freshRefusal, freshAfter, faultTable, faultRefusal, faultAfter}
 use Rattle.changes.specs.declared.changes.Span.{Span}
 use Rattle.changes.specs.Changes.{span}
+use Rattle.turns.specs.Ending.{byClockDevice}
 
 unfoldable pub sweep : (Device → Device) → ℕ → ℕ → List Device → List Device
 sweep f from zero xs = xs
@@ -126,7 +127,7 @@ pub record Change (xs : List Device) : Type 0 where
 pub length-last : (xs : List Device) (c : Change xs) → length (c .last) ≡ length xs
 length-last xs c = ap length (sym (c .swept)) ∙ length-sweep (c .change) (c .span .from) (turnsOf (c .span)) xs
 
--- ---- the three calls
+-- ---- the calls
 
 replicated : (d : Device) (xs : List Device) → map (λ _. d) xs ≡ replicate (length xs) d
 replicated d [] = refl
@@ -161,13 +162,14 @@ fresh-change part xs = record {
   swept = fresh-swept part xs;
 }
 
-abbrev pub boundary-change : (xs : List Device) → Change xs
-boundary-change xs = record {
-  span = all-of (boundaryRefusal xs) xs;
-  change = bounded;
-  last = boundaryAfter xs;
-  within = all-within (boundaryRefusal xs) xs;
-  swept = all-swept (boundaryRefusal xs) bounded xs;
+-- every device is brought up to a clock, where the run was accepted
+abbrev pub close-change : (number clock : ℕ) (xs : List Device) → Change xs
+close-change number clock xs = record {
+  span = all-of number xs;
+  change = byClockDevice clock;
+  last = content number xs (map (byClockDevice clock) xs);
+  within = all-within number xs;
+  swept = all-swept number (byClockDevice clock) xs;
 }
 
 -- one device, where a fault setting is accepted: it then names a device of the chain

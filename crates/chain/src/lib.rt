@@ -1,11 +1,14 @@
-// The four calls on a lent chain of device records, changed in place, for C and Rust. Each function here walks the records; what it does
+// The three calls on a lent chain of device records, changed in place, for C and Rust. Each function here walks the records; what it does
 // with one of them is by value, in the crates device, judgement, changes and turns.
 ghost use mathlib.Core.Path.{_≡_};
 ghost use mathlib.Core.Bool.{not};
+ghost use mathlib.Core.List.{map};
 ghost use lib.Dec.{eqb};
 ghost use lib.ListN.{length};
-ghost use Rattle.calls.specs.Calls.{freshRefusal, freshAfter, runAfter, runRoom, boundaryRefusal, boundaryAfter, faultRefusal, faultAfter};
+ghost use Rattle.calls.specs.Calls.{freshRefusal, freshAfter, runAfter, runRoom, faultRefusal, faultAfter};
 ghost use Rattle.cursor.specs.Answer.{runAnswer};
+ghost use Rattle.tables.specs.Refusals.{content};
+ghost use Rattle.turns.specs.Ending.{byClockDevice};
 use cursor::Ran;
 use device::Device;
 
@@ -23,8 +26,8 @@ pub extern "C" fn bb_fresh(chain: &mut [Device], part: u16) -> u8
     span.refusal
 }
 
-// Gives the chain line states, one to a clock, and returns what its last device sends into the lent room. How many states came back, and
-// the refusal's number: one of them is 0.
+// Gives the chain line states, one to a clock: in each every device advances by one, and then the state acts. What the last device sends is
+// returned into the lent room. How many states came back, and the refusal's number: one of them is 0.
 #[no_mangle]
 pub extern "C" fn bb_run(chain: &mut [Device], states: &[u8], returned: &mut [u8]) -> Ran
     ensures { λ r. ⌜ (r ≡ runAnswer (now (chain .entry)) (now (states .entry)) (length (now (returned .entry)))) × (now (chain .exit) ≡ runAfter (now (chain .entry)) (now (states .entry)) (length (now (returned .entry)))) × (now (returned .exit) ≡ runRoom (now (chain .entry)) (now (states .entry)) (now (returned .entry))) ⌝ }
@@ -39,19 +42,18 @@ pub extern "C" fn bb_run(chain: &mut [Device], states: &[u8], returned: &mut [u8
         chain[i] = taken.device;
         cursor = next;
     }
-    cursor::answer(entry.refusal, cursor.written)
+    let refusal = close(chain, entry.refusal, states.len());
+    cursor::answer(refusal, cursor.written)
 }
 
-// A frame boundary: waiting values become active. The refusal's number, or 0.
-#[no_mangle]
-pub extern "C" fn bb_boundary(chain: &mut [Device]) -> u8
-    ensures { λ r. ⌜ (r ≡ boundaryRefusal (now (chain .entry))) × (now (chain .exit) ≡ boundaryAfter (now (chain .entry))) ⌝ }
+// Brings every device up to the last clock of a run, if the run was accepted. The refusal's number comes back.
+fn close(chain: &mut [Device], refusal: u8, clock: usize) -> u8
+    ensures { λ r. ⌜ (r ≡ refusal) × (now (chain .exit) ≡ content refusal (now (chain .entry)) (map (byClockDevice clock) (now (chain .entry)))) ⌝ }
 {
-    let judged = judgement::judge(chain);
-    let span = changes::boundary_span(judged, chain.len());
+    let span = changes::all_span(refusal, chain.len());
     let mut i = span.from;
     while i < span.to {
-        chain[i] = chain[i].boundary();
+        chain[i] = turns::bring(chain[i], clock);
         i += 1;
     }
     span.refusal

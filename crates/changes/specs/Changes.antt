@@ -4,7 +4,7 @@ use mathlib.Core.Bool.{cond}
 use lib.Dec.{eqb}
 use Rattle.tables.specs.Refusals.{first}
 use Rattle.calls.specs.Calls.{freshTable}
-use Rattle.refusals.specs.Rows.{boundaryRows, faultRows}
+use Rattle.refusals.specs.Rows.{faultRows}
 use Rattle.judgement.specs.declared.judging.Judged.{Judged}
 use Rattle.changes.specs.declared.changes.Span.{Span}
 
@@ -15,10 +15,6 @@ span refusal from to = record { refusal = refusal; from = cond (eqb refusal 0) f
 -- all records, for a fresh chain
 abbrev pub freshSpan : ℕ → ℕ → Span
 freshSpan part n = span (first (freshTable part n)) 0 n
-
--- all records, for a frame boundary
-abbrev pub boundarySpan : Judged → ℕ → Span
-boundarySpan j n = span (first (boundaryRows j n)) 0 n
 
 -- one device's record, for a fault setting
 abbrev pub faultSpan : Judged → ℕ → ℕ → ℕ → Span

@@ -5,10 +5,9 @@ ghost use Prim.Native.Nat.{_-_};
 ghost use lib.Dec.{eqb};
 ghost use Rattle.bits.specs.Bits.{digit};
 ghost use Rattle.device.specs.Step.{faulted};
-ghost use Rattle.changes.specs.Changes.{span, freshSpan, boundarySpan, faultSpan};
+ghost use Rattle.changes.specs.Changes.{span, freshSpan, faultSpan};
 use device::Device;
 use judgement::Judged;
-use refusals::boundary_refusal;
 use refusals::fault_refusal;
 use refusals::fresh_refusal;
 
@@ -26,11 +25,11 @@ pub fn fresh_span(part: u16, n: usize) -> Span
     span_under(fresh_refusal(part, n), 0, n)
 }
 
-// The records that a frame boundary changes.
-pub fn boundary_span(judged: Judged, n: usize) -> Span
-    ensures { λ r. ⌜ r ≡ boundarySpan judged n ⌝ }
+// All records, where a call that has a refusal's number is accepted.
+pub fn all_span(refusal: u8, n: usize) -> Span
+    ensures { λ r. ⌜ r ≡ span refusal 0 n ⌝ }
 {
-    span_under(boundary_refusal(judged, n), 0, n)
+    span_under(refusal, 0, n)
 }
 
 // The record that a fault setting changes.

@@ -2,7 +2,7 @@
 mod changes;
 
 pub use changes::Span;
-pub use changes::boundary_span;
+pub use changes::all_span;
 pub use changes::fault_span;
 pub use changes::fresh_span;
 pub use changes::with_fault;

@@ -2,59 +2,69 @@
 use mathlib.Core.Path.{_≡_, refl, subst, _∙_}
 use mathlib.Core.Bool.{Bool}
 use mathlib.Core.List.{List, _++_, map, flatten, append-nil}
-use Prim.Native.Nat.{ℕ, suc, _-_, _^_, _≤_, _<_}
+use Prim.Native.Nat.{ℕ, suc, _+_, _-_, _*_, _^_, _≤_, _<_}
+use native.Mathlib.Nat.{mul-pos}
 use native.Mathlib.Omega.{arith}
-use lib.Dec.{leb, lit<}
+use lib.Dec.{leb, ltb, lit<, ltb→lt}
 use lib.ListN.{length, length-map, length-replicate, take, getD}
 use lib.Pow.{pow-mono}
-use Rattle.parts.specs.Parts.{Part, outputs}
+use Rattle.parts.specs.Parts.{Part, outputs, multiplex, glb4, subframes, phaseCount}
+use Rattle.tables.proofs.Table.{everyPlace-at}
 use Rattle.parts.specs.Wire.{Edge, lows, clocked}
 use Rattle.parts.specs.declared.command.Command.{Command}
 use Rattle.parts.proofs.Laws.{usable, usable-row}
+use Rattle.parts.proofs.Frames.{frame-clocks-pos}
 use Rattle.subframes.proofs.Claims.{frame-on, window-lead}
 use Rattle.machine.proofs.Machine.{chain-append, length-chain}
-use Rattle.model.specs.Lists.{Pairwise}
-use Rattle.model.specs.Device.{Device, Registers, stepDevice, runChain, boundary, registersIn}
+use Rattle.model.specs.Lists.{All, Pairwise}
+use Rattle.model.specs.Device.{Device, stepDevice, runChain, registersIn}
 use Rattle.model.specs.Set.{Own, Wide, OwnProper}
-use Rattle.model.specs.Restore.{piecesOf, piecesStates, statesUntil, returnsOf, RegistersHold, CutFields}
+use Rattle.model.specs.Restore.{piecesOf, piecesStates, statesUntil, returnsOf}
 use Rattle.model.proofs.Lists.{All-replicate}
 use Rattle.model.proofs.Frame.{quiet-sends}
-use Rattle.model.proofs.Restore.{Ready, pieces-run, pieces-sent, sent-four, restored}
-use Rattle.model.proofs.CutSet.{cut-sent}
+use Rattle.model.proofs.Restore.{Ready, pieces-sent, sent-four}
+use Rattle.clocked.specs.Clock.{Clocked, registersOf, Placed, Running, runClocked, devicesIn, lastBoundary}
+use Rattle.clocked.specs.Cut.{CutClocked}
+use Rattle.clocked.proofs.Erase.{returned}
+use Rattle.clocked.proofs.Restored.{restored}
+use Rattle.clocked.proofs.Cut.{cut}
 use Rattle.claims.specs.Claims.{RowRestores, AnyRow, fourBanks, oneBank, ones}
 
-module _ (p : Part) (os : List Own) (ds : List Device) (edge : Command → Edge) (gap tail : Command → List Bool) (last : List Bool)
-    (some : 1 ≤ length ds) (few : length ds ≤ 1023) (ready : Pairwise (Ready p) os (registersIn ds)) where
-  short : length (registersIn ds) < 1024
-  short = omega (arith, length-map ds (λ (d : Device). d .registers))
-
-  all-restored : Pairwise RegistersHold os (registersIn (boundary ((runChain ds (piecesStates p os edge gap tail ++ lows last)) .0)))
-  all-restored =
-      rw (chain-append stepDevice ds (piecesStates p os edge gap tail) (lows last), ← pieces-run ds (piecesOf p os edge gap tail))
-      (restored p os edge gap tail ds last some short ready)
-
-  all-returned : (runChain ds (piecesStates p os edge gap tail ++ lows last)) .1 ≡ flatten (map clocked (returnsOf tail (registersIn ds)))
+module _ (p : Part) (os : List Own) (cs : List Clocked) (edge : Command → Edge) (gap tail : Command → List Bool) (last : List Bool)
+    (some : 1 ≤ length cs) (few : length cs ≤ 1023) (running : Running p) (ready : Pairwise (Ready p) os (registersIn (devicesIn cs))) (placed : All Placed cs) where
+  all-returned : (runClocked cs (piecesStates p os edge gap tail ++ lows last)) .1 ≡ flatten (map clocked (returnsOf tail (registersIn (devicesIn cs))))
   all-returned =
+      let ds : List Device = devicesIn cs in
+      let n : length ds ≡ length cs = length-map cs (λ (c : Clocked). c .device) in
+      let m : length (registersIn ds) ≡ length ds = length-map ds (λ (d : Device). d .registers) in
+      let one : 1 ≤ length ds = omega (arith, n, some) in
       let then : List Device = (runChain ds (piecesStates p os edge gap tail)) .0 in
-      rw (
+      returned cs (piecesStates p os edge gap tail ++ lows last)
+      ∙ rw (
         chain-append stepDevice ds (piecesStates p os edge gap tail) (lows last),
-        quiet-sends last then (rw (length-chain stepDevice ds (piecesStates p os edge gap tail)) some),
+        quiet-sends last then (rw (length-chain stepDevice ds (piecesStates p os edge gap tail)) one),
         append-nil,
-        pieces-sent ds (piecesOf p os edge gap tail) some,
-        sent-four p os edge gap tail ds some short ready,
+        pieces-sent ds (piecesOf p os edge gap tail) one,
+        sent-four p os edge gap tail ds one (omega (arith, n, m, few)) ready,
       )
 
-  all-cut : (k device : ℕ) (o : Own) (r : Registers) → 1 ≤ device → device ≤ length os
-      → CutFields (λ c. leb (statesUntil p os gap tail c device) k) (getD os (device - 1) o) (getD (registersIn ds) (device - 1) r)
-      (getD (registersIn ((runChain ds (take k (piecesStates p os edge gap tail ++ lows last))) .0)) (device - 1) r)
-  all-cut k device o r one within =
+  all-cut : (k device : ℕ) (o : Own) (z : Clocked) → 1 ≤ device → device ≤ length os → k ≤ length (piecesStates p os edge gap tail ++ lows last)
+      → let after : ℕ → Clocked = λ j. getD ((runClocked cs (take j (piecesStates p os edge gap tail ++ lows last))) .0) (device - 1) z in
+      CutClocked (λ c j. leb (statesUntil p os gap tail c device) j) k (lastBoundary after k) (getD os (device - 1) o) (registersOf (getD cs (device - 1) z))
+      (registersOf (after k))
+  all-cut k device o z one within l =
+      let after : ℕ → Clocked = λ j. getD ((runClocked cs (take j (piecesStates p os edge gap tail ++ lows last))) .0) (device - 1) z in
       let e : suc (device - 1) ≡ device = omega arith in
-      subst (λ (n : ℕ). CutFields (λ c. leb (statesUntil p os gap tail c n) k) (getD os (device - 1) o) (getD (registersIn ds) (device - 1) r)
-      (getD (registersIn ((runChain ds (take k (piecesStates p os edge gap tail ++ lows last))) .0)) (device - 1) r)) e
-      (cut-sent p os edge gap tail ds ready last k (device - 1) o r (omega arith))
+      subst (λ (n : ℕ). CutClocked (λ c j. leb (statesUntil p os gap tail c n) j) k (lastBoundary after k) (getD os (device - 1) o) (registersOf (getD cs (device - 1) z))
+      (registersOf (after k))) e
+      (cut p os edge gap tail last cs ready (device - 1) o z (omega arith) k l)
 
-  row-restores : RowRestores p os ds edge gap tail last
-  row-restores = record { restored = all-restored; returned = all-returned; cut = all-cut }
+  row-restores : RowRestores p os cs edge gap tail last
+  row-restores = record {
+    restored = restored p os edge gap tail cs some (omega arith) running ready placed last;
+    returned = all-returned;
+    cut = all-cut;
+  }
 
 ones-proper : (p : Part) → Wide p → OwnProper p (ones p)
 ones-proper p w =
@@ -68,12 +78,22 @@ ones-proper p w =
       individualLength = length-replicate (outputs p) 1 ∙ omega arith;
     }
 
+-- its four numbers of subframes are some
+four-running : Running fourBanks
+four-running configuration =
+    let k : ℕ = multiplex configuration + 2 * glb4 configuration in
+    let l : k < 4 = omega arith in
+    let n : 0 < subframes fourBanks configuration = ltb→lt 0 (subframes fourBanks configuration) (everyPlace-at (λ k n. ltb 0 n) (fourBanks .subframesBy) tt k l) in
+    let m : 0 < phaseCount configuration * 256 = omega arith in
+    mul-pos n m
+
 pub any-row : AnyRow
 any-row = record {
   restores = row-restores;
   frameOn = λ p configuration global h. frame-on p configuration global h;
   windowLead = λ p configuration global from w h. window-lead p configuration global h from w;
   madeUp = (ones-proper fourBanks (record { width = lit< tt; banks = lit< tt }), ones-proper oneBank (record { width = lit< tt; banks = lit< tt }));
+  running = (four-running, (λ p u configuration. frame-clocks-pos p u configuration));
   parts = usable;
   fifth = usable-row oneBank refl refl refl tt tt;
 }

@@ -1,5 +1,5 @@
--- The claims about the calls on a chain, and about one step: the model's devices, room, what calls keep, flags. Each is a law of link or turns
--- said of the claim's own terms. Assumes nothing.
+-- The claims about the calls on a chain, and about one step: the model's devices, room, what calls keep, flags, the phase that is lit now. Each is
+-- a law of link, turns or lit_now said of the claim's own terms. Assumes nothing.
 use mathlib.Core.Path.{_≡_, ap, _∙_}
 use mathlib.Core.Bool.{true, false}
 use mathlib.Core.List.{List, _∷_}
@@ -20,7 +20,11 @@ use Rattle.link.proofs.Device.{agree, keep}
 use Rattle.link.proofs.Calls.{Whole, own-refusal, whole-calls, whole-start, length-afterCalls, length-after}
 use Rattle.link.proofs.Modelled.{call-same}
 use Rattle.link.proofs.Flags.{flag-calls, flag-start}
-use Rattle.turns.proofs.Room.{surplus}
+use Rattle.turns.proofs.Room.{room-enough}
+use Rattle.parts.specs.Parts.{multiplex}
+use Rattle.lit_now.specs.LitNow.{deviceAt, litNowRefusal, litNow}
+use Rattle.lit_now.specs.declared.now.LitNow.{LitNow}
+use Rattle.lit_now.proofs.Answered.{accepted-call, lit-now-schedule, phase-mux0}
 use Rattle.claims.specs.Claims.{start, startPart, StepModelled, CallModelled, Room, Kept, Flags}
 
 pub step-modelled : StepModelled
@@ -35,7 +39,7 @@ pub room : Room
 unfolding refusalOf
 room ds ss out e =
     let a = accepted-run ds ss (length out) (eq-eqb (runRefusal ds ss (length out)) 0 e) in
-    (surplus ds ss (a .fit), a .enoughRoom)
+    (room-enough ds ss (a .fit), a .enoughRoom)
 
 -- a chain that was made fresh, and what was called since
 pub whole-premises : (p : ℕ) (records : List Device) (earlier : List Call) → refusalOf records (fresh p) ≡ 0 → Whole (startPart p records earlier) (start p records earlier)
@@ -61,3 +65,8 @@ pub flags : Flags
 unfolding afterCalls
 flags p records earlier device kind e one many small =
     flag-calls device kind one small (after records (fresh p)) earlier false (rw (length-after records (fresh p)) many) (flag-start p records device kind e)
+
+pub lit-mux0 : (ds : List Device) (device output : ℕ) → litNowRefusal ds device output ≡ 0 → multiplex (deviceAt ds device .registers .configuration) ≡ 0
+    → litNow ds device output .phase ≡ 0
+lit-mux0 ds device output e m =
+    ap (λ (a : LitNow). a .phase) (lit-now-schedule ds device output e .told) ∙ phase-mux0 (deviceAt ds device) (accepted-call ds device output e .fits) m

@@ -8,8 +8,11 @@ use Rattle.frame_laws.proofs.RoundTrip.{written-read, read-written}
 use Rattle.subframes.proofs.Claims as subframes
 use Rattle.schedule.proofs.Claims as light
 use Rattle.schedule.proofs.Lit.{lit-count}
+use Rattle.schedule.proofs.Visits.{visited}
 use Rattle.device_light.proofs.Claims as device-light
+use Rattle.lit_now.proofs.Answered.{lit-now-schedule}
 use Rattle.current.proofs.Closed.{closed-form}
+use Rattle.clocked.proofs.Lengths.{length-6972, length-6973, length-6974, length-6975}
 use Rattle.claims.specs.Claims as claim
 use Rattle.claims.proofs.Tables.{accepted-exactly}
 use Rattle.claims.proofs.Chains as chains
@@ -22,6 +25,7 @@ use Rattle.claims.proofs.Largest.{largest-totals}
 use Rattle.claims.proofs.AnyRow.{any-row}
 use Rattle.claims.proofs.Examples.{examples-hold}
 use Rattle.claims.proofs.EdgeExamples.{edge-examples-hold}
+use Rattle.claims.proofs.ClockExamples.{clock-examples-hold}
 
 pub acceptedExactly : claim.AcceptedExactly
 acceptedExactly = accepted-exactly
@@ -41,6 +45,9 @@ stepModelled = chains.step-modelled
 pub callModelled : claim.CallModelled
 callModelled = chains.call-modelled
 
+pub frameLength : claim.FrameLength
+frameLength = record { of6972 = length-6972; of6973 = length-6973; of6974 = length-6974; of6975 = length-6975 }
+
 pub risingEdge : claim.RisingEdge
 risingEdge = edges.rising-edge
 
@@ -55,6 +62,9 @@ counted = demand.counted
 
 pub restorable : claim.Restorable
 restorable = demand.restorable
+
+pub longestWait : claim.LongestWait
+longestWait = demand.longest-wait
 
 pub room : claim.Room
 room = chains.room
@@ -91,6 +101,9 @@ litClocks = record {
   deviceAnswered = device-light.device-clocks-accepted;
 }
 
+pub litAtPosition : claim.LitAtPosition
+litAtPosition = record { now = lit-now-schedule; mux0 = chains.lit-mux0; frame = visited }
+
 pub litCount : claim.LitCount
 litCount = lit-count
 
@@ -114,3 +127,6 @@ examplesHold = examples-hold
 
 pub edgeExamplesHold : claim.EdgeExamplesHold
 edgeExamplesHold = edge-examples-hold
+
+pub clockExamplesHold : claim.ClockExamplesHold
+clockExamplesHold = clock-examples-hold

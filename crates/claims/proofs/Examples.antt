@@ -16,7 +16,8 @@ use Rattle.parts.specs.Wire.{commandCount, header, frame, clockedAt}
 use Rattle.frames.specs.Frames.{frameBits, frameOf}
 use Rattle.frame_writer.specs.Writing.{writeRefusal, written, writtenOut}
 use Rattle.frame_reader.specs.Reading.{heldFields, readRefusal}
-use Rattle.machine.specs.Machine.{run, chain}
+use Rattle.machine.specs.Machine.{run, chain, clock}
+use Rattle.positions.specs.Positions.{ticked}
 use Rattle.device.specs.Run.{stepRecord}
 use Rattle.subframes.specs.Subframes.{howManyFrom}
 use Rattle.subframes.specs.Answers.{onAnswer, leadAnswer}
@@ -90,7 +91,7 @@ currents = (
 -- of the 16-output parts, l to s, and what follows
 sixteen : Each (drop 11 examples)
 unfolding bits number fields split padded bytesOf over commandCount header frame clockedAt frameBits frameOf
-    writeRefusal written writtenOut heldFields readRefusal threeStates chain run stepRecord howManyFrom onAnswer leadAnswer positionOver
+    writeRefusal written writtenOut heldFields readRefusal threeStates chain run clock ticked stepRecord howManyFrom onAnswer leadAnswer positionOver
 sixteen = (
   ((refl, refl, refl), tt),
   (
@@ -122,7 +123,7 @@ sixteen = (
 
 pub examples-hold : Each examples
 unfolding bits number fields split padded bytesOf over commandCount header frame clockedAt frameBits frameOf
-    writeRefusal written writtenOut heldFields readRefusal threeStates chain run stepRecord howManyFrom onAnswer leadAnswer
+    writeRefusal written writtenOut heldFields readRefusal threeStates chain run clock ticked stepRecord howManyFrom onAnswer leadAnswer
 examples-hold = (
   ((refl, refl, refl), tt),
   (

@@ -11,4 +11,5 @@ pub mod Largest
 pub mod AnyRow
 pub mod Examples
 pub mod EdgeExamples
+pub mod ClockExamples
 pub mod Claims

@@ -1,8 +1,8 @@
--- After a restore and a boundary a comparison says same: the chain then holds the set, and nothing refuses the comparison. The records are of
+-- After a restore and the wait a comparison says same: the chain then holds the set, and nothing refuses the comparison. The records are of
 -- the set's part, since no call of a restore, nor what settles after it, changes it.
 use mathlib.Core.Path.{_≡_, ap, sym, subst, _∙_}
 use mathlib.Core.Bool.{true, not}
-use mathlib.Core.List.{List, [], _∷_, _++_}
+use mathlib.Core.List.{List, _++_}
 use Prim.Native.Nat.{_≤_}
 use native.Mathlib.Omega.{arith}
 use lib.Dec.{ltb}
@@ -18,11 +18,11 @@ use Rattle.frames.specs.declared.told.Tail.{Tail}
 use Rattle.device.specs.Judgement.{fits}
 use Rattle.device.specs.declared.device.Device.{Device}
 use Rattle.calls.specs.Chain.{hasPart}
-use Rattle.calls.specs.History.{Call, boundary, afterCalls}
+use Rattle.calls.specs.History.{afterCalls}
 use Rattle.model.specs.Set.{Set}
 use Rattle.link.specs.Restore.{Writable}
 use Rattle.link.proofs.View.{Sound}
-use Rattle.link.proofs.Calls.{Whole, every-all, whole-runs, whole-settles, whole-boundary, length-afterCalls, calls-append}
+use Rattle.link.proofs.Calls.{Whole, every-all, whole-runs, whole-settles, length-afterCalls, calls-append}
 use Rattle.link.proofs.Frames.{accepted-writable, writable-proper}
 use Rattle.claims.proofs.Demand.{whole, devices, held}
 use Rattle.compare.specs.Compare.{compareTable, compareRefusal}
@@ -57,13 +57,10 @@ accepts s tail ds w h l =
     )
 
 pub restored-same : RestoredSame
-restored-same p records earlier during later s edge gap tail last b e r =
+restored-same p records earlier during later s edge gap tail last b e r t =
     let ds : List Device = start p records earlier in
-    let calls : List Call = during ++ (later ++ boundary ∷ []) in
-    let now : List Device = afterCalls ds calls in
+    let now : List Device = afterCalls ds (during ++ later) in
     let w = whole-runs (s .part) ds during (whole b) (b .runs) in
-    let v = whole-boundary (s .part) (afterCalls (afterCalls ds during) later) (whole-settles (s .part) (afterCalls ds during) later w r) in
-    let same : afterCalls (afterCalls (afterCalls ds during) later) (boundary ∷ []) ≡ now =
-    sym (calls-append ds during (later ++ boundary ∷ []) ∙ calls-append (afterCalls ds during) later (boundary ∷ [])) in
-    holds-same s now (accepts s tail now (b .writable) (subst (Whole (s .part)) same v) (devices b ∙ sym (length-afterCalls ds calls)))
-    (held b edge gap last e later r)
+    let v = whole-settles (s .part) (afterCalls ds during) later w r in
+    holds-same s now (accepts s tail now (b .writable) (subst (Whole (s .part)) (sym (calls-append ds during later)) v) (devices b ∙ sym (length-afterCalls ds (during ++ later))))
+    (held b edge gap last e later r t)

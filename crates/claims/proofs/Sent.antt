@@ -18,7 +18,7 @@ quietStates bs = map stateCode (lows bs)
 take-quiet : (k : ℕ) (bs : List Bool) → take k (quietStates bs) ≡ quietStates (take k bs)
 take-quiet k bs = take-map stateCode k (lows bs) ∙ ap (map stateCode) (take-map low k bs)
 
-length-quiet : (bs : List Bool) → length (quietStates bs) ≡ length bs
+pub length-quiet : (bs : List Bool) → length (quietStates bs) ≡ length bs
 length-quiet bs = length-map (lows bs) stateCode ∙ length-map bs low
 
 -- all of a list, and then some of the low clocks after it

@@ -25,8 +25,8 @@ use Rattle.return_reader.specs.declared.answer.ReturnRead.the-variants as R
 use Rattle.device.specs.Judgement.{judgement, stepRefusals, refusedWith}
 use Rattle.device.specs.declared.device.Device.{Device}
 use Rattle.device.specs.declared.device.Answer.{Answer}
-use Rattle.calls.specs.Calls.{freshRefusal, runTable, runRefusal, returned as chainReturned, boundaryRefusal, faultRefusal}
-use Rattle.calls.specs.History.{Call, fresh, run, boundary, fault, tableOf, refusalOf, effect, after}
+use Rattle.calls.specs.Calls.{freshRefusal, runTable, runRefusal, returned as chainReturned, faultRefusal}
+use Rattle.calls.specs.History.{Call, fresh, run, fault, tableOf, refusalOf, effect, after}
 use Rattle.model.specs.Set.{Set, Own, owned}
 use Rattle.link.proofs.Calls.{after-effect}
 use Rattle.cursor.specs.Answer.{ran}
@@ -34,6 +34,8 @@ use Rattle.cursor.specs.declared.entry.Ran.{Ran}
 use Rattle.subframes.specs.Answers.{onRows, leadRows, onAnswer, leadAnswer}
 use Rattle.schedule.specs.Answers.{litRows, litAnswer, litClocksAnswer}
 use Rattle.device_light.specs.OfDevice.{deviceRows, deviceAnswer, deviceClocksAnswer}
+use Rattle.lit_now.specs.LitNow.{refused as unlit, litNowTable, litNowRefusal, litNow}
+use Rattle.lit_now.specs.declared.now.LitNow.{LitNow}
 use Rattle.subframes.specs.declared.answer.Asked.the-variants as A
 use Rattle.subframes.specs.declared.answer.Lead.the-variants as D
 use Rattle.schedule.specs.declared.answer.Clocks.the-variants as K
@@ -146,23 +148,20 @@ packs-states states out =
 -- ---- calls
 
 table-refusal : (ds : List Device) (c : Call) → refusalOf ds c ≡ first (tableOf ds c)
-unfolding refusalOf freshRefusal runRefusal boundaryRefusal faultRefusal
+unfolding refusalOf freshRefusal runRefusal faultRefusal
 table-refusal ds (fresh part) = refl
 table-refusal ds (run ss out) = refl
-table-refusal ds boundary = refl
 table-refusal ds (fault device kind flag) = refl
 
 -- the numbers of each table rise
 table-rises : (ds : List Device) (c : Call) → rows.above 0 (tableOf ds c) ≡ true
 table-rises ds (fresh part) = refl
 table-rises ds (run ss out) = refl
-table-rises ds boundary = refl
 table-rises ds (fault device kind flag) = refl
 
 table-numbered : (ds : List Device) (c : Call) → rows.numbered (tableOf ds c) ≡ true
 table-numbered ds (fresh part) = refl
 table-numbered ds (run ss out) = refl
-table-numbered ds boundary = refl
 table-numbered ds (fault device kind flag) = refl
 
 calls : (ds : List Device) (c : Call) → claim.Calls ds c
@@ -226,7 +225,7 @@ gives-current s out =
 -- ---- all
 
 pub accepted-exactly : claim.AcceptedExactly
-unfolding onAnswer leadAnswer litAnswer litClocksAnswer deviceAnswer deviceClocksAnswer judged
+unfolding onAnswer leadAnswer litAnswer litClocksAnswer deviceAnswer deviceClocksAnswer litNowRefusal litNow judged
 accepted-exactly = record {
   writes = writes;
   reads = reads;
@@ -245,6 +244,7 @@ accepted-exactly = record {
   deviceLit = λ d output s clock phase. answers (deviceRows d output s clock phase) refl refl askedNumber A.Refused _ refl itself;
   litClocks = λ part configuration global value output s phase. answers (litRows part configuration value output s 0 phase) refl refl clocksNumber K.Refused _ refl itself;
   deviceLitClocks = λ d output s phase. answers (deviceRows d output s 0 phase) refl refl clocksNumber K.Refused _ refl itself;
+  litNow = λ ds device output. answers (litNowTable ds device output) refl refl (λ (a : LitNow). a .refusal) unlit _ refl itself;
   row = λ part number. answers (partRows part) refl refl (λ (a : RowAnswer). a .refusal) refused (accepted number) refl itself;
   arguments = λ part devices. answers (askedRows (parsed part) (parsed devices)) refl refl argumentsNumber B.Refused _ refl itself;
 }

@@ -4,15 +4,15 @@
 -- as their types say. docs/RULES.md fixes the terms.
 use Prim.Native.Nat.{ℕ, _+_, _-_, _*_, _/_, _^_, _<_, _≤_}
 use mathlib.Core.Path.{_≡_}
-use mathlib.Core.Bool.{Bool, true, false}
+use mathlib.Core.Bool.{Bool, true, false, cond}
 use mathlib.Core.List.{List, [], _∷_, _++_, map, flatten}
-use lib.Dec.{leb}
+use lib.Dec.{eqb, leb}
 use lib.IntN.{pos, negℤ}
 use lib.ListN.{length, take, getD, replicate}
 use lib.Signed.{_<ℤ_}
 use Rattle.bits.specs.Bits.{digit, bits, fields, bytesOf, bytesFor, over}
 use Rattle.bits.specs.Groups.{groupSize, inGroups, groupBytes}
-use Rattle.parts.specs.Parts.{Part, max6972, max6973, rows, known, partOf, outputs, subframes, phaseCount, frameClocks, period, periodFrames, sinkCurrent, restoreOrder, isCount, Usable}
+use Rattle.parts.specs.Parts.{Part, max6972, max6973, max6974, max6975, multiplex, glb4, rows, known, partOf, outputs, subframes, phaseCount, frameClocks, period, periodFrames, sinkCurrent, restoreOrder, isCount, Usable}
 use Rattle.tables.specs.Refusals.{first}
 use Rattle.parts.specs.Wire.{State, high, Edge, edgeAt, stateAt, stateCode, statesAt, statesOf, lows, clocked, header, frame}
 use Rattle.parts.specs.declared.command.Command.{Command}
@@ -30,23 +30,27 @@ use Rattle.frame_reader.specs.declared.answer.Read.the-variants as Q
 use Rattle.return_reader.specs.declared.answer.ReturnRead.the-variants as R
 use Rattle.frame_laws.specs.RoundTrip.{ReadBack, WrittenAgain, byteRead, bytesRead, valuesRead}
 use Rattle.phases.specs.Phases.{phaseOf, windowOf}
-use Rattle.device.specs.Step.{step, sliceLength}
+use Rattle.positions.specs.Positions.{lengthIn}
+use Rattle.device.specs.Step.{singleStep, sliceLength}
 use Rattle.device.specs.Judgement.{fits, judgement, stepRefusals, acceptedStep, refusedWith, stepAnswer}
 use Rattle.device.specs.declared.device.Device.{Device}
 use Rattle.device.specs.declared.device.Answer.{Answer}
 use Rattle.calls.specs.Chain.{blank}
-use Rattle.calls.specs.Calls.{roomFor, returned, runTable, runRoom}
-use Rattle.calls.specs.History.{Call, fresh, run, boundary, tableOf, refusalOf, effect, after, afterCalls, statesGiven, answered, answers, Runs, Settles}
+use Rattle.calls.specs.Calls.{roomFor, runDevices, returned, runTable, runRoom}
+use Rattle.calls.specs.History.{Call, fresh, run, tableOf, refusalOf, effect, after, afterCalls, statesGiven, answered, answers, Runs, Settles}
 use Rattle.calls.specs.Told.{partTold, flagIn, flagTold, ownTable}
 use Rattle.model.specs.Lists.{All, Pairwise}
-use Rattle.model.specs.Device.{faults, fault, counted, begun, stepDevice, registersIn}
+use Rattle.model.specs.Device.{faults, fault, counted, begun, registersIn}
 use Rattle.model.specs.Edge.{lowRun, RisesAs}
 use Rattle.model.specs.Device as model
 use Rattle.model.specs.Set.{Set, Own, OwnProper, owned}
-use Rattle.model.specs.Restore.{piecesStates, statesUntil, returnsOf, RegistersHold, CutFields}
+use Rattle.model.specs.Restore.{piecesStates, statesUntil, returnsOf, RegistersHold}
+use Rattle.clocked.specs.Clock.{Clocked, Placed, Running, stepClocked, runClocked, devicesIn, lastBoundary}
+use Rattle.clocked.specs.Clock as clock
+use Rattle.clocked.specs.Cut.{CutClocked}
 use Rattle.device.specs.Run.{stepRecord}
 use Rattle.device.specs.Run as stepping
-use Rattle.link.specs.View.{deviceOf, registersOf, Arrays, registersAt, registersAll, Holds}
+use Rattle.link.specs.View.{deviceOf, clockedOf, registersOf, Arrays, registersAt, registersAll, Holds}
 use Rattle.link.specs.Called.{called}
 use Rattle.link.specs.Restore.{Writable, framePart, restorePart, restoreStates, restoreThen, gapAfter, tailsOf, arrival}
 use Rattle.cursor.specs.Answer.{ran, runAnswer}
@@ -56,6 +60,10 @@ use Rattle.schedule.specs.Light.{total, isLit, litAt, inRun, litCount}
 use Rattle.subframes.specs.Answers.{onRows, leadRows, onAnswer, leadAnswer}
 use Rattle.schedule.specs.Answers.{litRows, litRun, litAnswer, litClocksAnswer}
 use Rattle.device_light.specs.OfDevice.{isShown, shownRun, deviceRows, deviceAnswer, deviceClocksAnswer}
+use Rattle.schedule.specs.Moments.{Visited}
+use Rattle.lit_now.specs.LitNow.{refused as unlit, shownNow, deviceAt, litNowTable, litNowRefusal, litNow}
+use Rattle.lit_now.specs.BySchedule.{BySchedule}
+use Rattle.lit_now.specs.declared.now.LitNow.{LitNow}
 use Rattle.subframes.specs.declared.answer.Asked.the-variants as A
 use Rattle.subframes.specs.declared.answer.Lead.the-variants as D
 use Rattle.schedule.specs.declared.answer.Clocks.the-variants as K
@@ -75,7 +83,7 @@ use Rattle.answers.specs.declared.answer.Answer.{Answer as RowAnswer}
 use Rattle.capi_bits.specs.PartAnswers.{partRows, ofPart}
 use Rattle.capi_frames.specs.FrameAnswers.{returnReadNumber}
 use Rattle.claims.specs.Tables.{Exactly, Answers, Leaves, convertedNumber, writtenNumber, readNumber, askedNumber, leadNumber, clocksNumber, argumentsNumber}
-use Rattle.claims.specs.Examples.{Each, examples, edgeExamples}
+use Rattle.claims.specs.Examples.{Each, examples, edgeExamples, clockExamples}
 
 -- each is a byte
 abbrev pub Bytes : List ℕ → Type 0
@@ -139,7 +147,7 @@ pub record AcceptedExactly : Type 0 where
   pub givesStates : (frame : List ℕ) (n edge : ℕ) (out : List ℕ) → GivesStates frame n edge out
   pub packsStates : (states out : List ℕ) → PacksStates states out
   pub judges : (d : Device) → Exactly (judgement d) (first (judgement d))
-  pub steps : (d : Device) (s : ℕ) → Answers (λ (a : Answer). a .refusal) (stepRefusals d s) (refusedWith d) (acceptedStep (step d s)) (stepAnswer d s)
+  pub steps : (d : Device) (s : ℕ) → Answers (λ (a : Answer). a .refusal) (stepRefusals d s) (refusedWith d) (acceptedStep (singleStep d s)) (stepAnswer d s)
   pub calls : (ds : List Device) (c : Call) → Calls ds c
   pub runs : (ds : List Device) (ss out : List ℕ) → RunAnswers ds ss out
   pub compares : (s : Set) (ds : List Device)
@@ -159,6 +167,8 @@ pub record AcceptedExactly : Type 0 where
       (litClocksAnswer part configuration global value output s phase)
   pub deviceLitClocks : (d : Device) (output s phase : ℕ)
       → Answers clocksNumber (deviceRows d output s 0 phase) K.Refused (shownRun (d .registers) output s phase) (deviceClocksAnswer d output s phase)
+  pub litNow : (ds : List Device) (device output : ℕ)
+      → Answers (λ (r : LitNow). r .refusal) (litNowTable ds device output) unlit (shownNow (deviceAt ds device .registers) output) (litNow ds device output)
   -- subframes per frame, or bits of a slice: `number` is the row's
   pub row : (part number : ℕ) → Answers (λ (a : RowAnswer). a .refusal) (partRows part) refused (accepted number) (ofPart part number)
   pub arguments : (part devices : List ℕ)
@@ -198,23 +208,32 @@ pub record InGroups : Type 0 where
       → frameOf (toldOf part devices Individual configuration) tail values
       ≡ bytesOf (header Individual 0) ++ (groupBytes (partOf part .width) (inGroups (partOf part .width) values) ++ bytesOf (tailBits tail))
 
--- ---- demand 2: registers. The device that reads like docs/RULES.md is model/specs/Device; a record is seen as one by link/specs/View
+-- ---- demand 2: registers. The device that reads like docs/RULES.md is model/specs/Device, its clock clocked/specs/Clock; a record is seen as one
+-- by link/specs/View
 
--- one line state: a record that fits steps as the model's device does, and still fits
+-- one line state: a record that fits takes the single step as the model's device does, and still fits
 abbrev pub StepModelled : Type 0
 StepModelled =
     (d : Device) (s : ℕ)
     → Arrays d
     → fits d ≡ true
-    → ((deviceOf ((stepRecord d s) .0), map stateAt ((stepRecord d s) .1)) ≡ stepDevice (deviceOf d) (stateAt s)) × (fits ((stepRecord d s) .0) ≡ true)
+    → ((clockedOf ((stepRecord d s) .0), map stateAt ((stepRecord d s) .1)) ≡ stepClocked (clockedOf d) (stateAt s)) × (fits ((stepRecord d s) .0) ≡ true)
 
--- a call: an accepted fresh, run, boundary or fault setting does to the records what it does to the model's devices, and a run returns the same
+-- a call: an accepted fresh, run or fault setting does to the records what it does to the model's devices and their clocks, and a run returns
+-- the same
 abbrev pub CallModelled : Type 0
 CallModelled =
     (ds : List Device) (c : Call)
     → All Arrays ds
     → refusalOf ds c ≡ 0
-    → _≡_ {A = List model.Device × List State} (map deviceOf (after ds c), map stateAt (answered ds c)) (called (map deviceOf ds) c)
+    → _≡_ {A = List Clocked × List State} (map clockedOf (after ds c), map stateAt (answered ds c)) (called (map clockedOf ds) c)
+
+-- a frame is 524,288 clocks, or 131,072 where GLB4 is set on a 6973 or a 6975
+pub record FrameLength : Type 0 where
+  pub of6972 : (configuration : ℕ) → frameClocks max6972 configuration ≡ 524288
+  pub of6973 : (configuration : ℕ) → frameClocks max6973 configuration ≡ cond (eqb (glb4 configuration) 1) 131072 524288
+  pub of6974 : (configuration : ℕ) → frameClocks max6974 configuration ≡ 524288
+  pub of6975 : (configuration : ℕ) → frameClocks max6975 configuration ≡ cond (eqb (glb4 configuration) 1) 131072 524288
 
 -- ---- where load rises: with SYNC's last bit, with the first command bit, or with the second
 
@@ -278,25 +297,34 @@ start p records earlier = afterCalls records (fresh p ∷ earlier)
 abbrev pub startPart : ℕ → List Device → List Call → ℕ
 startPart p records earlier = partTold (after records (fresh p)) p earlier
 
+-- a device's position next returns to 0 within n clocks
+abbrev pub ReturnsWithin : ℕ → Device → Type 0
+ReturnsWithin n d = lengthIn (d .registers) - d .registers .position ≤ n
+
+-- the states that calls gave a chain `now` after those of a restore are enough clocks for each position, as the last frame left it, to return to 0
+abbrev pub Waited : List Device → List ℕ → List Call → Type 0
+Waited now restore calls = All (ReturnsWithin (length (statesGiven now calls) - length restore)) (runDevices now restore)
+
 -- the fresh was accepted; then a set for as many devices and the part told last, which the writer accepts, and the calls of a restore
 pub record RestorePremises (p : ℕ) (records : List Device) (earlier during : List Call) (s : Set) (tail : Command → Tail) : Type 0 where
   pub accepted : refusalOf records (fresh p) ≡ 0
   pub writable : Writable s tail
   pub devices : s .devices ≡ length records
   pub part : s .part ≡ startPart p records earlier
-  -- until the fourth frame ends no boundary falls and no fault flag changes
+  -- until the fourth frame ends no fault flag changes
   pub runs : Runs (start p records earlier) during
 
 -- what holds of a chain `now`, as it stood before the restore, once the calls `during` gave the first k states of the set's restore
 pub record Outcome (now : List Device) (during : List Call) (s : Set) (edge : Command → Edge) (gap : Command → List Bool) (tail : Command → Tail)
     (last : List Bool) (k : ℕ) : Type 0 where
-  -- all four frames were given; then fault settings, runs of low states and calls that change nothing, and a boundary: each device's
-  -- registers in use hold the values of its own slices
+  -- all four frames were given; then fault settings, runs of low states and calls that change nothing, until each position has returned to 0:
+  -- each device's registers in use hold the values of its own slices
   pub restored :
       length (restoreStates s edge gap tail) ≤ k
       → (later : List Call)
       → Settles (afterCalls now during) later
-      → Pairwise Holds (owned s) (afterCalls now (during ++ (later ++ boundary ∷ [])))
+      → Waited now (restoreStates s edge gap tail) (during ++ later)
+      → Pairwise Holds (owned s) (afterCalls now (during ++ later))
   -- j frames were given, and of what follows them at most the clocks at low load: the runs wrote the first j returns, with the exact edge, and
   -- nothing else
   pub returned :
@@ -304,12 +332,16 @@ pub record Outcome (now : List Device) (during : List Call) (s : Set) (edge : Co
       → length (restorePart s edge gap tail j) ≤ k
       → k ≤ length (restorePart s edge gap tail j) + length (gapAfter gap last j)
       → answers now during ≡ flatten (map statesOf (take j (returnsOf (tailsOf tail) (registersAll now))))
-  -- in each device, 1 to N, each group is new exactly where its slice had fully arrived
+  -- in each device, 1 to N, each group is new exactly where its slice had fully arrived; what is active is what waited at the device's last
+  -- boundary in the restore, or the old active values where none fell
   pub cut :
       (device : ℕ) (o : Own)
       → 1 ≤ device
       → device ≤ s .devices
-      → CutFields (λ c. leb (arrival s gap tail c device) k) (getD (owned s) (device - 1) o) (registersAt now device) (registersAt (afterCalls now during) device)
+      → k ≤ length (restoreThen s edge gap tail last)
+      → let after : ℕ → Clocked = λ j. clockedOf (getD (runDevices now (take j (restoreThen s edge gap tail last))) (device - 1) blank) in
+      CutClocked (λ c j. leb (arrival s gap tail c device) j) k (lastBoundary after k) (getD (owned s) (device - 1) o) (registersAt now device)
+      (registersAt (afterCalls now during) device)
 
 -- any records made fresh, any calls, then the calls of a restore, whose runs gave the first k states of it, for any k and any edge of each frame
 abbrev pub DemandThree : Type 0
@@ -333,22 +365,33 @@ Counted =
     → statesGiven now during ≡ framePart s edge gap tail c ++ map stateCode (lows last)
     → returns.returnRead (s .part) (s .devices) c (tail c) (bytesOf (dataBits (answers now during))) ≡ R.Count (faults c (registersAll (start p records earlier)))
 
--- nothing above is empty: whatever was called since an accepted fresh, one run of the restore of any set for the chain is accepted, meets the
--- premises above, and with a boundary restores the set
+-- nothing above is empty: whatever was called since an accepted fresh, one run of the restore of any set for the chain and one of 524,288 low
+-- states are accepted, meet the premises above, and restore the set
 abbrev pub Restorable : Type 0
 Restorable =
-    (p : ℕ) (records : List Device) (earlier : List Call) (s : Set) (edge : Command → Edge) (gap : Command → List Bool) (tail : Command → Tail) (out : List ℕ)
+    (p : ℕ) (records : List Device) (earlier : List Call) (s : Set) (edge : Command → Edge) (gap : Command → List Bool) (tail : Command → Tail) (last : List Bool)
+    (out room : List ℕ)
     → refusalOf records (fresh p) ≡ 0
     → Writable s tail
     → s .devices ≡ length records
     → s .part ≡ startPart p records earlier
     → roomFor (length (restoreStates s edge gap tail)) ≤ length out
+    → length last ≡ 524288
+    → roomFor 524288 ≤ length room
     → let now : List Device = start p records earlier in
     let restore : Call = run (restoreStates s edge gap tail) out in
+    let wait : Call = run (map stateCode (lows last)) room in
     (refusalOf now restore ≡ 0)
+    × (refusalOf (afterCalls now (restore ∷ [])) wait ≡ 0)
     × RestorePremises p records earlier (restore ∷ []) s tail
     × (statesGiven now (restore ∷ []) ≡ restoreThen s edge gap tail [])
-    × Pairwise Holds (owned s) (afterCalls now (restore ∷ boundary ∷ []))
+    × Settles (afterCalls now (restore ∷ [])) (wait ∷ [])
+    × Waited now (restoreStates s edge gap tail) (restore ∷ wait ∷ [])
+    × Pairwise Holds (owned s) (afterCalls now (restore ∷ wait ∷ []))
+
+-- no wait is longer: whatever a device holds, its position returns to 0 within 524,288 clocks
+abbrev pub LongestWait : Type 0
+LongestWait = (d : Device) → ReturnsWithin 524288 d
 
 -- ---- the calls themselves
 
@@ -401,7 +444,8 @@ HoldsSame =
     → Pairwise Holds (owned s) ds
     → comparison s ds ≡ same
 
--- after a restore, whatever settles and a boundary: a comparison of that set and that chain is not refused, and says same
+-- after a restore, and whatever settles until each position has returned to 0: a comparison of that set and that chain is not refused, and says
+-- same
 abbrev pub RestoredSame : Type 0
 RestoredSame =
     (p : ℕ) (records : List Device) (earlier during later : List Call) (s : Set) (edge : Command → Edge) (gap : Command → List Bool) (tail : Command → Tail)
@@ -409,7 +453,8 @@ RestoredSame =
     → RestorePremises p records earlier during s tail
     → statesGiven (start p records earlier) during ≡ restoreThen s edge gap tail last
     → Settles (afterCalls (start p records earlier) during) later
-    → comparison s (afterCalls (start p records earlier) (during ++ (later ++ boundary ∷ []))) ≡ same
+    → Waited (start p records earlier) (restoreStates s edge gap tail) (during ++ later)
+    → comparison s (afterCalls (start p records earlier) (during ++ later)) ≡ same
 
 -- neither refused nor same: the first difference
 abbrev pub Named : Type 0
@@ -452,6 +497,20 @@ pub record LitClocks : Type 0 where
   pub deviceAnswered : (d : Device) (output s clock phase : ℕ)
       → first (deviceRows d output s clock phase) ≡ 0
       → first (deviceRows d output s 0 phase) ≡ 0
+
+-- lit now, of any lent chain: an accepted question is answered as the schedule says at the device's position; nonmultiplexed the phase is MUX0;
+-- and the clocks of one frame go through the schedule, each moment once, of any row
+pub record LitAtPosition : Type 0 where
+  pub now :
+      (ds : List Device) (device output : ℕ)
+      → litNowRefusal ds device output ≡ 0
+      → BySchedule (deviceAt ds device .registers) output (litNow ds device output)
+  pub mux0 :
+      (ds : List Device) (device output : ℕ)
+      → litNowRefusal ds device output ≡ 0
+      → multiplex (deviceAt ds device .registers .configuration) ≡ 0
+      → litNow ds device output .phase ≡ 0
+  pub frame : (p : Part) (configuration : ℕ) → Visited p configuration
 
 -- the lit clocks of an ON subframe are as many as the value has outside the edge zones, for an even output and for an odd one, of any row
 abbrev pub LitCount : Type 0
@@ -521,16 +580,21 @@ pub record Largest : Type 0 where
 
 -- ---- any row: nothing above is said of a number of banks or a width
 
--- what a restore does to devices of the model that have the row p, in any phases and with any registers, where os is each device's own
-pub record RowRestores (p : Part) (os : List Own) (ds : List model.Device) (edge : Command → Edge) (gap tail : Command → List Bool) (last : List Bool) : Type 0 where
-  pub restored : Pairwise RegistersHold os (registersIn (model.boundary ((model.runChain ds (piecesStates p os edge gap tail ++ lows last)) .0)))
-  pub returned : (model.runChain ds (piecesStates p os edge gap tail ++ lows last)) .1 ≡ flatten (map clocked (returnsOf tail (registersIn ds)))
+-- what a restore does to devices of the model that have the row p, in any phases, with any registers and at any positions, where os is each
+-- device's own
+pub record RowRestores (p : Part) (os : List Own) (cs : List Clocked) (edge : Command → Edge) (gap tail : Command → List Bool) (last : List Bool) : Type 0 where
+  pub restored :
+      All (clock.ReturnsWithin (length last)) ((runClocked cs (piecesStates p os edge gap tail)) .0)
+      → Pairwise RegistersHold os (registersIn (devicesIn ((runClocked cs (piecesStates p os edge gap tail ++ lows last)) .0)))
+  pub returned : (runClocked cs (piecesStates p os edge gap tail ++ lows last)) .1 ≡ flatten (map clocked (returnsOf tail (registersIn (devicesIn cs))))
   pub cut :
-      (k device : ℕ) (o : Own) (r : model.Registers)
+      (k device : ℕ) (o : Own) (z : Clocked)
       → 1 ≤ device
       → device ≤ length os
-      → CutFields (λ c. leb (statesUntil p os gap tail c device) k) (getD os (device - 1) o) (getD (registersIn ds) (device - 1) r)
-      (getD (registersIn ((model.runChain ds (take k (piecesStates p os edge gap tail ++ lows last))) .0)) (device - 1) r)
+      → k ≤ length (piecesStates p os edge gap tail ++ lows last)
+      → let after : ℕ → Clocked = λ j. getD ((runClocked cs (take j (piecesStates p os edge gap tail ++ lows last))) .0) (device - 1) z in
+      CutClocked (λ c j. leb (statesUntil p os gap tail c device) j) k (lastBoundary after k) (getD os (device - 1) o) (clock.registersOf (getD cs (device - 1) z))
+      (clock.registersOf (after k))
 
 -- a made-up row of four banks with values of 8 bits, and one of one bank with values of 10 bits
 abbrev pub fourBanks : Part
@@ -546,11 +610,13 @@ ones p = record { configuration = 0; calibration = replicate (p .banks) 1; globa
 -- demand 3 and the light of any row; a fifth row may have any number of banks and any width, and one that a record has room for is usable
 pub record AnyRow : Type 0 where
   pub restores :
-      (p : Part) (os : List Own) (ds : List model.Device) (edge : Command → Edge) (gap tail : Command → List Bool) (last : List Bool)
-      → 1 ≤ length ds
-      → length ds ≤ 1023
-      → Pairwise (λ o r. OwnProper p o × (r .part ≡ p)) os (registersIn ds)
-      → RowRestores p os ds edge gap tail last
+      (p : Part) (os : List Own) (cs : List Clocked) (edge : Command → Edge) (gap tail : Command → List Bool) (last : List Bool)
+      → 1 ≤ length cs
+      → length cs ≤ 1023
+      → Running p
+      → Pairwise (λ o r. OwnProper p o × (r .part ≡ p)) os (registersIn (devicesIn cs))
+      → All Placed cs
+      → RowRestores p os cs edge gap tail last
   pub frameOn :
       (p : Part) (configuration global : ℕ)
       → 1 ≤ subframes p configuration
@@ -560,6 +626,8 @@ pub record AnyRow : Type 0 where
       → 1 ≤ subframes p configuration
       → (negℤ (pos (subframes p configuration)) <ℤ leadOf p configuration global from w) × (leadOf p configuration global from w <ℤ pos (subframes p configuration))
   pub madeUp : OwnProper fourBanks (ones fourBanks) × OwnProper oneBank (ones oneBank)
+  -- the frames of a row have clocks
+  pub running : Running fourBanks × ((p : Part) → Usable p → Running p)
   pub parts : (part : ℕ) → Usable (partOf part)
   pub fifth : Usable oneBank
 
@@ -572,3 +640,7 @@ ExamplesHold = Each examples
 -- 2a to 2i hold
 abbrev pub EdgeExamplesHold : Type 0
 EdgeExamplesHold = Each edgeExamples
+
+-- 4a to 4i hold
+abbrev pub ClockExamplesHold : Type 0
+ClockExamplesHold = Each clockExamples

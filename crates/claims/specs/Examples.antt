@@ -1,5 +1,5 @@
--- The lettered examples of docs/RULES.md, a to z and, of where load rises, 2a to 2i, as lists in the order of their letters and with the
--- numbers given there.
+-- The lettered examples of docs/RULES.md, a to z, of where load rises 2a to 2i, and of a device's clock 4a to 4i, as lists in the order of their
+-- letters and with the numbers given there.
 use Prim.Native.Nat.{ℕ, zero, suc, _-_}
 use mathlib.Core.Path.{_≡_}
 use mathlib.Core.Bool.{Bool, true, false, _&&_}
@@ -22,9 +22,11 @@ use Rattle.frames.specs.declared.told.Tail.{Tail}
 use Rattle.frame_writer.specs.declared.answer.Written.the-variants as W
 use Rattle.phases.specs.Phases.{placeOf}
 use Rattle.phases.specs.declared.phase.Phase.{Phase}
-use Rattle.phases.specs.declared.phase.Phase.the-variants.{Opening, Lost}
-use Rattle.registers.specs.Held.{bankBytes}
-use Rattle.device.specs.Step.{faulted, freshDevice}
+use Rattle.phases.specs.declared.phase.Phase.the-variants.{Hunting, Opening, Lost}
+use Rattle.registers.specs.Held.{holding, showing, zeros, bankBytes}
+use Rattle.registers.specs.declared.registers.Registers.{Registers}
+use Rattle.positions.specs.Positions.{placedAt}
+use Rattle.device.specs.Step.{at, faulted, freshDevice}
 use Rattle.device.specs.Run.{run}
 use Rattle.device.specs.declared.device.Device.{Device}
 use Rattle.calls.specs.Calls.{returned}
@@ -59,6 +61,17 @@ threeStates bytes = statesOf (frame Calibration 0 (fields 8 (times 3 bytes)) (bi
 unfoldable pub twoStates : Edge → List ℕ
 twoStates edge = statesAt edge (frame Calibration 0 (fields 8 (1 ∷ 2 ∷ 3 ∷ 4 ∷ 5 ∷ 6 ∷ [])) [])
 
+-- a device of a part, by its configuration and its position; the global byte 7 waits and 9 is active
+abbrev pub placed : ℕ → ℕ → ℕ → Device
+placed part configuration position =
+    let r : Registers = zeros part in
+    let q : Registers = holding r configuration (r .calibration) 7 (r .waiting0) (r .waiting1) (r .slice) in
+    at (placedAt (showing q 0 0 9 (q .active0) (q .active1)) position) (Hunting 0)
+
+-- the 48 states of a frame for one device of three banks, of which the last stores these bytes
+unfoldable pub oneStates : Command → List ℕ → List ℕ
+oneStates command bytes = statesOf (frame command 0 (fields 8 bytes) [])
+
 -- ---- what an example says
 
 pub data Example : Type 0 where
@@ -86,6 +99,10 @@ pub data Example : Type 0 where
   holds : Edge → ℕ → List (List ℕ) → Example
   -- what the first of them sends on of it
   passes : Edge → List ℕ → Example
+  -- a chain that is given these states: its devices are at these positions, these global bytes wait, and these are active
+  stands : List Device → List ℕ → List ℕ → List ℕ → List ℕ → Example
+  -- a device that is given these states by the single step is at a position
+  steps : Device → List ℕ → ℕ → Example
 
 -- what is answered of every output of a parity with a value, at every clock of every ON subframe, in every phase that there is
 abbrev pub Lights : ℕ → ℕ → Bool → (ℕ → Bool) → Type 0
@@ -115,6 +132,11 @@ Says (draws part configuration bytes global values total average remainder) =
 Says (comes states phase) = (part : ℕ) → (run (freshDevice part) (map stateCode states)) .0 .place ≡ placeOf phase
 Says (holds edge states bytes) = map (λ d. bankBytes (d .registers)) ((through (freshDevice 6974 ∷ freshDevice 6974 ∷ []) (take states (twoStates edge))) .0) ≡ bytes
 Says (passes edge states) = (run (freshDevice 6974) (twoStates edge)) .1 ≡ states
+Says (stands ds states positions waiting active) =
+    (map (λ d. d .registers .position) ((through ds states) .0) ≡ positions)
+    × (map (λ d. d .registers .waiting) ((through ds states) .0) ≡ waiting)
+    × (map (λ d. d .registers .active) ((through ds states) .0) ≡ active)
+Says (steps d states position) = (run d states) .0 .registers .position ≡ position
 
 -- all that stands under one letter
 abbrev pub All-say : List Example → Type 0
@@ -201,4 +223,33 @@ edgeExamples =
     ∷ (g says stores early ++ (stores exact ++ stores late))
     ∷ (h says comes (lows (bits 9 0b111101000) ++ highs (bits 1 1)) (Opening 0b11) ∷ [])
     ∷ (i says passes early sentOn ∷ passes exact sentOn ∷ passes late sentOn ∷ [])
+    ∷ []
+
+-- of one device after that frame: its position, the global byte that waits, the active one
+abbrev comesTo : ℕ → ℕ → ℕ → Command → List ℕ → ℕ → ℕ → ℕ → Example
+comesTo part configuration from command bytes position waiting active =
+    stands (placed part configuration from ∷ []) (oneStates command bytes) (position ∷ []) (waiting ∷ []) (active ∷ [])
+
+-- 4a to 4i
+abbrev pub clockExamples : List Lettered
+clockExamples =
+    -- a return to 0 on the clock of a store: the old waiting values become active, the new ones wait
+    (a says comesTo 6974 0x00 524240 Global (replicate 3 5) 0 5 7 ∷ [])
+    -- two devices, a configuration frame of 72 states
+    ∷ (b says stands (freshDevice 6974 ∷ freshDevice 6974 ∷ []) (statesOf (frame Configuration 0 (fields 8 (replicate 6 0)) [])) (72 ∷ 72 ∷ []) (0 ∷ 0 ∷ []) (0 ∷ 0 ∷ []) ∷ [])
+    -- a 6975 at 200,001 when GLB4 is stored
+    ∷ (c says comesTo 6975 0x00 199953 Configuration (replicate 3 0x10) 68929 7 9 ∷ [])
+    -- at 131,072: 0, and nothing becomes active
+    ∷ (d says comesTo 6975 0x00 131024 Configuration (replicate 3 0x10) 0 7 9 ∷ [])
+    -- GLB4 cleared on the return from 131,071: a boundary
+    ∷ (e says comesTo 6975 0x10 131024 Configuration (replicate 3 0x00) 0 7 7 ∷ [])
+    -- one clock earlier, and then a low state: no boundary
+    ∷ (f says comesTo 6975 0x10 131023 Configuration (replicate 3 0x00) 131071 7 9
+    ∷ stands (placed 6975 0x10 131023 ∷ []) (oneStates Configuration (replicate 3 0x00) ++ 0 ∷ []) (131072 ∷ []) (7 ∷ []) (9 ∷ []) ∷ [])
+    -- copies that differ at 200,001
+    ∷ (g says comesTo 6975 0x00 199953 Configuration (0x10 ∷ 0x12 ∷ 0x10 ∷ []) 200001 7 9 ∷ [])
+    -- GLB4 on a 6974 at 200,001
+    ∷ (h says comesTo 6974 0x00 199953 Configuration (replicate 3 0x10) 200001 7 9 ∷ [])
+    -- the single step through the same configuration at 200,000
+    ∷ (i says steps (placed 6975 0x00 200000) (oneStates Configuration (replicate 3 0x10)) 68928 ∷ [])
     ∷ []

@@ -4,8 +4,9 @@ use Prim.Native.Nat.{ℕ, _+_, _*_, _/_, _%_}
 use mathlib.Core.Bool.{cond}
 use mathlib.Core.List.{List, [], _∷_, map, flatten}
 use lib.ListN.{getD}
-use Rattle.parts.specs.Parts.{Part, partOf, subframes, phaseCount, frameClocks, period, periodFrames, sinkCurrent}
+use Rattle.parts.specs.Parts.{Part, partOf, subframes, phaseCount, period, periodFrames, sinkCurrent}
 use Rattle.schedule.specs.Light.{total, isLit}
+use Rattle.schedule.specs.Moments.{subframeAt, phaseAt, clockAt}
 use Rattle.model.specs.Set.{Set, Own, owned}
 
 -- ---- one device, by what of a set is its own
@@ -34,21 +35,9 @@ drawn p o = total (λ frame. drawnInFrame p o) (periodFrames p (o .configuration
 
 -- ---- the same, clock after clock
 
--- the subframe of clock t, from 0
-abbrev pub subframeOf : Part → ℕ → ℕ → ℕ
-subframeOf p configuration t = t % frameClocks p configuration / (phaseCount configuration * p .clocks)
-
--- its phase: MUX0 in each subframe, and then MUX1
-abbrev pub phaseOf : Part → ℕ → ℕ → ℕ
-phaseOf p configuration t = t / p .clocks % phaseCount configuration
-
--- its clock in that subframe and phase
-abbrev pub clockOf : Part → ℕ → ℕ
-clockOf p t = t % p .clocks
-
 -- what the device draws in clock t
 abbrev pub drawnInClock : Part → Own → ℕ → ℕ
-drawnInClock p o t = drawnAt p o (subframeOf p (o .configuration) t) (phaseOf p (o .configuration) t) (clockOf p t)
+drawnInClock p o t = drawnAt p o (subframeAt p (o .configuration) t) (phaseAt p (o .configuration) t) (clockAt p t)
 
 -- ---- figures: a total, its average over 524,288 clocks rounded down, and the remainder
 

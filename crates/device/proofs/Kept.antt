@@ -1,7 +1,8 @@
--- A record that fits still fits after any line state, a frame boundary and a fault setting, and a fresh device fits: what a chain's records
--- were judged for once holds through a run. By cases on the phase; the next place is that of a phase whose numbers fit. Assumes nothing.
+-- A record that fits still fits after a single step, a clock and a fault setting, and a fresh device fits: what a chain's records were judged
+-- for once holds through a run. By cases on the phase; the next place is that of a phase whose numbers fit. The position is that of
+-- positions/proofs/Fits. Assumes nothing.
 use mathlib.Core.Path.{_≡_, refl, ap, _∙_}
-use mathlib.Core.Bool.{Bool, true, _&&_}
+use mathlib.Core.Bool.{Bool, true, false, cond, _&&_}
 use mathlib.Core.List.{List}
 use Prim.Native.Nat.{ℕ, _+_, _-_, _*_, _/_, _%_, _<_, _≤_}
 use native.Mathlib.Nat.{mod-lt, lt-of-lt-of-le}
@@ -12,9 +13,11 @@ use borrow.Author.Tests.{lt-ltb, ltb-true, le-leb, leb-true}
 use Rattle.parts.specs.Parts.{partOf, outputs, multiplex, limit, fieldWidth}
 use Rattle.parts.specs.declared.command.Command.{Command}
 use Rattle.phases.specs.Phases.{placeOf, phaseOf, windowOf, heard, rising, opened, opening, counting, samePlace}
-use Rattle.registers.specs.Held.{showing, zeros}
-use Rattle.device.specs.Step.{step, stepHigh, at, sliceLength, bounded, faulted, freshDevice}
-use Rattle.device.specs.Judgement.{phaseFits, placeFits, fits}
+use Rattle.registers.specs.Held.{showing, activated, zeros}
+use Rattle.device.specs.Step.{step, singleStep, tickedDevice, stepHigh, at, sliceLength, faulted, freshDevice}
+use Rattle.device.specs.Judgement.{phaseFits, placeFits, contentsFit, fits}
+use Rattle.positions.specs.Positions.{positionFits, placedAt, next, ticked}
+use Rattle.positions.proofs.Fits.{refit-fits, next-fits, zero-fits}
 use Rattle.widths.specs.Widths.{flagsFit, valuesFit}
 use Rattle.phases.specs.declared.phase.Phase.{Phase}
 use Rattle.phases.specs.declared.phase.Phase.the-variants.{Hunting, Opening, Counting, Slice, Passing, Lost}
@@ -26,6 +29,7 @@ use Rattle.parts.proofs.Laws.{usable}
 use Rattle.parts.proofs.Rows.{limit-pos, field-width-pos, slice-bits-pos, fields-used, field-of}
 use Rattle.widths.proofs.Below.{Fit, fit-zeros, below-drop, Below, below-of, of-below, stored-below, took-below, showing-below}
 use Rattle.device.proofs.Places.{place-fits}
+use Rattle.device.proofs.Position.{step-position}
 use Rattle.phases.proofs.Places.{Small, phase-small}
 use Rattle.phases.proofs.Rising.{rising-any}
 use Rattle.tables.proofs.Booleans.{and-both, both-and, cond-both}
@@ -39,7 +43,7 @@ Good r p = Small p × (phaseFits p r ≡ true)
 pub phase-good : (q : Place) (r : Registers) → placeFits q r ≡ true → Good r (phaseOf q)
 phase-good q r h = (phase-small q, and-both (samePlace (placeOf (phaseOf q)) q) (phaseFits (phaseOf q) r) h .1)
 
-pub device-fits : (r : Registers) (p : Phase) → Below r → Good r p → fits (at r p) ≡ true
+pub device-fits : (r : Registers) (p : Phase) → Below r → Good r p → contentsFit (at r p) ≡ true
 device-fits r p b g = both-and (placeFits (placeOf p) r) (flagsFit r && valuesFit r) (place-fits p r (g .0) (g .1)) (of-below r b)
 
 module _ (r : Registers) where
@@ -77,7 +81,7 @@ module _ (r : Registers) where
 -- ---- the step
 
 abbrev Fits : Stepped → Type 0
-Fits s = fits (s .device) ≡ true
+Fits s = contentsFit (s .device) ≡ true
 
 high-fits : (r : Registers) (p : Phase) (s : ℕ) → Below r → Good r p → Fits (stepHigh r p s)
 high-fits r (Hunting window) s b g = device-fits r (rising window (s % 2)) b (rising-good r window (s % 2) (mod-lt s (lit< tt)))
@@ -98,9 +102,9 @@ high-fits r (Slice c n t) s b g =
 high-fits r Passing s b g = device-fits r Passing b g
 high-fits r Lost s b g = device-fits r Lost b g
 
--- a record that fits is one that fits after any line state
-pub kept : (d : Device) (s : ℕ) → fits d ≡ true → fits (step d s .device) ≡ true
-kept d s h =
+-- contents that fit do so after any line state
+pub contents-kept : (d : Device) (s : ℕ) → contentsFit d ≡ true → contentsFit (step d s .device) ≡ true
+contents-kept d s h =
     let t = and-both (placeFits (d .place) (d .registers)) _ h in
     let b = below-of (d .registers) (t .1) in
     let g = phase-good (d .place) (d .registers) (t .0) in
@@ -123,27 +127,31 @@ showing-phase Lost r hot lit active active0 active1 = refl
 showing-fits : (d : Device) (hot lit active : ℕ) (active0 active1 : List ℕ)
     → placeFits (d .place) (d .registers) ≡ true
     → Below (showing (d .registers) hot lit active active0 active1)
-    → fits (record { registers = showing (d .registers) hot lit active active0 active1; place = d .place }) ≡ true
+    → contentsFit (record { registers = showing (d .registers) hot lit active active0 active1; place = d .place }) ≡ true
 showing-fits d hot lit active active0 active1 t b =
     let r = showing (d .registers) hot lit active active0 active1 in
     let e = showing-phase (phaseOf (d .place)) (d .registers) hot lit active active0 active1 in
     both-and (placeFits (d .place) r) (flagsFit r && valuesFit r)
     (ap (λ (x : Bool). samePlace (placeOf (phaseOf (d .place))) (d .place) && x) e ∙ t) (of-below r b)
 
-pub kept-bounded : (d : Device) → fits d ≡ true → fits (bounded d) ≡ true
-kept-bounded d h =
+-- a device whose waiting values became active
+abbrev pub bounded : Device → Device
+bounded d = record { registers = activated (d .registers); place = d .place }
+
+bounded-kept : (d : Device) → contentsFit d ≡ true → contentsFit (bounded d) ≡ true
+bounded-kept d h =
     let t = and-both (placeFits (d .place) (d .registers)) _ h in
     let b = below-of (d .registers) (t .1) in
     let r = d .registers in
     showing-fits d (r .overtemperature) (r .openled) (r .waiting) (r .waiting0) (r .waiting1) (t .0)
     (showing-below r _ _ _ _ _ b (b .hot) (b .lit) (b .waiting0s) (b .waiting1s))
 
-pub kept-faulted : (d : Device) (kind flag : ℕ) → flag < 2 → fits d ≡ true → fits (faulted d kind flag) ≡ true
-kept-faulted d kind flag l h =
+contents-faulted : (d : Device) (kind flag : ℕ) → flag < 2 → contentsFit d ≡ true → contentsFit (faulted d kind flag) ≡ true
+contents-faulted d kind flag l h =
     let t = and-both (placeFits (d .place) (d .registers)) _ h in
     let b = below-of (d .registers) (t .1) in
     let r = d .registers in
-    cond-both (λ (x : Registers). fits (record { registers = x; place = d .place }) ≡ true) (eqb kind 0)
+    cond-both (λ (x : Registers). contentsFit (record { registers = x; place = d .place }) ≡ true) (eqb kind 0)
     (showing r flag (r .openled) (r .active) (r .active0) (r .active1))
     (showing r (r .overtemperature) flag (r .active) (r .active0) (r .active1))
     (λ _. showing-fits d flag (r .openled) (r .active) (r .active0) (r .active1) (t .0)
@@ -151,8 +159,8 @@ kept-faulted d kind flag l h =
     (λ _. showing-fits d (r .overtemperature) flag (r .active) (r .active0) (r .active1) (t .0)
     (showing-below r _ _ _ _ _ b (b .hot) l (b .active0s) (b .active1s)))
 
-pub kept-fresh : (part : ℕ) → fits (freshDevice part) ≡ true
-kept-fresh part =
+contents-fresh : (part : ℕ) → contentsFit (freshDevice part) ≡ true
+contents-fresh part =
     let p = partOf part in
     let z : (n k : ℕ) → Fit n (limit p) (replicate k 0) = λ n k. fit-zeros n (limit p) k (limit-pos p) in
     device-fits (zeros part) (Hunting 0)
@@ -167,3 +175,66 @@ kept-fresh part =
       slices = z (2 * outputs p) 48;
     })
     (lit< tt, refl)
+
+-- ---- the whole record: its contents and its position
+
+-- what is judged of a record that fits
+pub parts-of : (d : Device) → fits d ≡ true → (contentsFit d ≡ true) × (positionFits (d .registers) ≡ true)
+parts-of d h = and-both (contentsFit d) (positionFits (d .registers)) h
+
+-- contents do not depend on the position
+placed-phase : (p : Phase) (r : Registers) (n : ℕ) → phaseFits p (placedAt r n) ≡ phaseFits p r
+placed-phase (Hunting window) r n = refl
+placed-phase (Opening read) r n = refl
+placed-phase (Counting c read) r n = refl
+placed-phase (Slice c count taken) r n = refl
+placed-phase Passing r n = refl
+placed-phase Lost r n = refl
+
+placed-contents : (d : Device) (n : ℕ) → contentsFit (record { registers = placedAt (d .registers) n; place = d .place }) ≡ contentsFit d
+placed-contents d n =
+    let r = d .registers in
+    ap (λ (x : Bool). (samePlace (placeOf (phaseOf (d .place))) (d .place) && x) && (flagsFit r && valuesFit r)) (placed-phase (phaseOf (d .place)) r n)
+
+-- a record that fits is one that fits after a single step
+pub kept : (d : Device) (s : ℕ) → fits d ≡ true → fits (singleStep d s .device) ≡ true
+kept d s h =
+    let t = parts-of d h in
+    let e : step d s .device .registers .position ≡ d .registers .position = step-position d s in
+    both-and (contentsFit (singleStep d s .device)) (positionFits (singleStep d s .device .registers))
+    (placed-contents (step d s .device) _ ∙ contents-kept d s (t .0))
+    (refit-fits (d .registers) (step d s .device .registers) e (t .1))
+
+-- after a clock
+pub kept-ticked : (d : Device) → fits d ≡ true → fits (tickedDevice d) ≡ true
+unfolding ticked
+kept-ticked d h = go (eqb (next (d .registers)) 0)
+  where
+    r : Registers
+    r = d .registers
+
+    go : (b : Bool) → fits (record { registers = placedAt (cond b (activated r) r) (next r); place = d .place }) ≡ true
+    go true =
+        both-and (contentsFit (record { registers = placedAt (activated r) (next r); place = d .place })) (positionFits (placedAt (activated r) (next r)))
+        (placed-contents (bounded d) (next r) ∙ bounded-kept d (parts-of d h .0)) (next-fits r)
+    go false =
+        both-and (contentsFit (record { registers = placedAt r (next r); place = d .place })) (positionFits (placedAt r (next r)))
+        (placed-contents d (next r) ∙ parts-of d h .0) (next-fits r)
+
+pub kept-faulted : (d : Device) (kind flag : ℕ) → flag < 2 → fits d ≡ true → fits (faulted d kind flag) ≡ true
+kept-faulted d kind flag l h =
+    let t = parts-of d h in
+    both-and (contentsFit (faulted d kind flag)) (positionFits (faulted d kind flag .registers)) (contents-faulted d kind flag l (t .0))
+    (flagged-position (eqb kind 0))
+  where
+    r : Registers
+    r = d .registers
+
+    flagged-position : (b : Bool)
+        → positionFits (cond b (showing r flag (r .openled) (r .active) (r .active0) (r .active1)) (showing r (r .overtemperature) flag (r .active) (r .active0) (r .active1))) ≡ true
+    flagged-position true = parts-of d h .1
+    flagged-position false = parts-of d h .1
+
+pub kept-fresh : (part : ℕ) → fits (freshDevice part) ≡ true
+kept-fresh part =
+    both-and (contentsFit (freshDevice part)) (positionFits (zeros part)) (contents-fresh part) (zero-fits (zeros part) refl)

@@ -6,8 +6,9 @@ use lib.Dec.{ltb, leb}
 use Rattle.parts.specs.Parts.{known}
 use Rattle.tables.specs.Refusals.{Row, _when_, first, answer}
 use Rattle.phases.specs.Phases.{placeOf, phaseOf, samePlace}
+use Rattle.positions.specs.Positions.{positionFits}
 use Rattle.widths.specs.Widths.{flagsFit, valuesFit}
-use Rattle.device.specs.Step.{step, sliceLength}
+use Rattle.device.specs.Step.{singleStep, sliceLength}
 use Rattle.phases.specs.declared.phase.Place.{Place}
 use Rattle.phases.specs.declared.phase.Phase.{Phase}
 use Rattle.phases.specs.declared.phase.Phase.the-variants.{Hunting, Opening, Counting, Slice, Passing, Lost}
@@ -30,9 +31,13 @@ phaseFits Lost r = true
 abbrev pub placeFits : Place → Registers → Bool
 placeFits q r = samePlace (placeOf (phaseOf q)) q && phaseFits (phaseOf q) r
 
--- number 13 does not apply to the record
+-- place, flags and values are ones that a device can come to
+abbrev pub contentsFit : Device → Bool
+contentsFit d = placeFits (d .place) (d .registers) && (flagsFit (d .registers) && valuesFit (d .registers))
+
+-- number 13 does not apply to the record: its contents fit, and its position is below the frame's length
 abbrev pub fits : Device → Bool
-fits d = placeFits (d .place) (d .registers) && (flagsFit (d .registers) && valuesFit (d .registers))
+fits d = contentsFit d && positionFits (d .registers)
 
 -- a record's own rows
 abbrev pub judgement : Device → List Row
@@ -52,4 +57,4 @@ refusedWith d n = record { refusal = n; device = d; sent = Nothing }
 
 -- what a judged step answers
 abbrev pub stepAnswer : Device → ℕ → Answer
-stepAnswer d s = answer (first (stepRefusals d s)) (refusedWith d) (acceptedStep (step d s))
+stepAnswer d s = answer (first (stepRefusals d s)) (refusedWith d) (acceptedStep (singleStep d s))

@@ -1,5 +1,5 @@
 -- One device, clock by clock: the step by one line state, and what it sends. That section of docs/RULES.md. Every record has a step: one
--- that does not fit (see Judgement) too. Then a frame boundary, a fault setting, and a fresh device.
+-- that does not fit (see Judgement) too. Then the single step with its position, a clock, a fault setting, and a fresh device.
 use Prim.Native.Nat.{ℕ, _+_, _/_, _%_}
 use mathlib.Core.Bool.{cond}
 use mathlib.Core.List.{List, [], _∷_}
@@ -8,7 +8,8 @@ use Rattle.parts.specs.Parts.{partOf, multiplex, fieldWidth, fieldLimit, sliceB
 use Rattle.parts.specs.Wire.{header, statesOf}
 use Rattle.parts.specs.declared.command.Command.{Command}
 use Rattle.phases.specs.Phases.{placeOf, phaseOf, heard, rising, opening, counting}
-use Rattle.registers.specs.Held.{took, fault, raised, activated, flagged, zeros}
+use Rattle.registers.specs.Held.{took, fault, raised, flagged, zeros}
+use Rattle.positions.specs.Positions.{ticked, refitted}
 use Rattle.storing.specs.Stored.{stored}
 use Rattle.phases.specs.declared.phase.Phase.{Phase}
 use Rattle.phases.specs.declared.phase.Phase.the-variants.{Hunting, Opening, Counting, Slice, Passing, Lost}
@@ -60,16 +61,26 @@ stepHigh r (Slice c count taken) s = collected r c count taken (s % 2)
 stepHigh r Passing s = sending r Passing (One s)
 stepHigh r Lost s = moved r Lost
 
--- one line state: the data bit plus twice the load bit
+-- what one line state does, the data bit plus twice the load bit; the position stays
 abbrev pub step : Device → ℕ → Stepped
 step d s =
     cond (ltb s 2) (moved (d .registers) (heard (phaseOf (d .place)) s)) (stepHigh (d .registers) (phaseOf (d .place)) s)
 
--- ---- what is not a clock
+-- the same device at its position in the frame that its registers say now, those before being r
+abbrev pub refitDevice : Registers → Device → Device
+refitDevice r d = record { registers = refitted r (d .registers); place = d .place }
 
--- a device after a frame boundary
-abbrev pub bounded : Device → Device
-bounded d = record { registers = activated (d .registers); place = d .place }
+-- the single step: a line state, and the position modulo the length of a frame that it shortens
+abbrev pub singleStep : Device → ℕ → Stepped
+singleStep d s = record { device = refitDevice (d .registers) (step d s .device); sent = step d s .sent }
+
+-- ---- a clock
+
+-- a device one clock later
+abbrev pub tickedDevice : Device → Device
+tickedDevice d = record { registers = ticked (d .registers); place = d .place }
+
+-- ---- what no line state changes
 
 -- a device with a fault flag set
 abbrev pub faulted : Device → ℕ → ℕ → Device

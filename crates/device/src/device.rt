@@ -1,8 +1,8 @@
 // The single step of a device, by value, and the events that are no clock.
 ghost use mathlib.Core.Path.{_≡_};
-ghost use Rattle.device.specs.Step.{sending, collected, stepHigh, step, bounded, faulted, freshDevice};
+ghost use Rattle.device.specs.Step.{sending, collected, stepHigh, step, singleStep, faulted, freshDevice};
 ghost use Rattle.tables.specs.Refusals.{first};
-ghost use Rattle.device.specs.Judgement.{fits, judgement, refusedWith, stepAnswer};
+ghost use Rattle.device.specs.Judgement.{contentsFit, fits, judgement, refusedWith, stepAnswer};
 use parts::Command;
 use phases::Phase;
 use phases::Place;
@@ -40,7 +40,7 @@ impl Device {
         if state >= 4 {
             return refused_with(self, 13);
         }
-        let next = self.advance(state);
+        let next = self.single_step(state);
         let device = next.device;
         let sent = next.sent;
         Answer {
@@ -50,17 +50,39 @@ impl Device {
         }
     }
 
+    // The step of any record: what `step` does once nothing is refused.
+    fn single_step(self, state: u8) -> Stepped
+        ensures { λ r. ⌜ r ≡ singleStep self state ⌝ }
+    {
+        let before = self.registers;
+        let next = self.act(state);
+        let sent = next.sent;
+        let place = next.device.place;
+        let registers = positions::refit(before, next.device.registers);
+        Stepped {
+            device: Device { registers, place },
+            sent,
+        }
+    }
+
     // Number 13 does not apply to the record.
     pub fn fits(self) -> bool
         ensures { λ r. ⌜ r ≡ fits self ⌝ }
+    {
+        self.contents_fit() && positions::position_fits(self.registers)
+    }
+
+    // Its place, flags and values are ones that a device can come to.
+    fn contents_fit(self) -> bool
+        ensures { λ r. ⌜ r ≡ contentsFit self ⌝ }
     {
         let registers = self.registers;
         let place = self.place;
         crate::judgement::place_fits(place, registers) && widths::registers_fit(registers)
     }
 
-    // The step of any record: what `step` does once nothing is refused.
-    pub fn advance(self, state: u8) -> Stepped
+    // What a line state does to any record, at its position.
+    pub fn act(self, state: u8) -> Stepped
         ensures { λ r. ⌜ r ≡ step self state ⌝ }
     {
         let registers = self.registers;
@@ -70,18 +92,6 @@ impl Device {
             sending(registers, phases::hear(phase, state), Sent::Nothing)
         } else {
             high(registers, phase, state)
-        }
-    }
-
-    // A frame boundary: waiting values become active.
-    pub fn boundary(self) -> Device
-        ensures { λ r. ⌜ r ≡ bounded self ⌝ }
-    {
-        let registers = self.registers;
-        let place = self.place;
-        Device {
-            registers: registers.activate(),
-            place,
         }
     }
 

@@ -17,6 +17,7 @@ use Rattle.parts.proofs.Rows.{limit-pos}
 use Rattle.widths.proofs.Below.{below-at, below-of}
 use Rattle.device.specs.declared.device.Device.{Device}
 use Rattle.device.specs.Judgement.{placeFits, fits, judgement}
+use Rattle.device.proofs.Kept.{parts-of}
 use Rattle.subframes.specs.declared.answer.Asked.the-variants as asked
 use Rattle.schedule.specs.declared.answer.Clocks.the-variants as clocks
 use Rattle.schedule.specs.Answers.{positionOver, litRows, litAnswer, litClocksAnswer}
@@ -38,7 +39,7 @@ activeValue-lt : (d : Device) (output phase : ℕ) → fits d ≡ true → activ
 activeValue-lt d output phase h =
     let r = d .registers in
     let m = limit (partOf (r .part)) in
-    let b = below-of r (and-both (placeFits (d .place) r) (flagsFit r && valuesFit r) h .1) in
+    let b = below-of r (and-both (placeFits (d .place) r) (flagsFit r && valuesFit r) (parts-of d h .0) .1) in
     cond-both (λ (x : ℕ). x < m) (eqb phase 0) (getD (r .active0) output 0) (getD (r .active1) output 0)
     (λ _. below-at (r .active0) m output (b .active0s .below) (limit-pos (partOf (r .part))))
     (λ _. below-at (r .active1) m output (b .active1s .below) (limit-pos (partOf (r .part))))

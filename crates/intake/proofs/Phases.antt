@@ -24,7 +24,7 @@ use Rattle.phases.specs.declared.phase.Sent.the-variants.{Nothing}
 use Rattle.registers.specs.declared.registers.Registers.{Registers}
 use Rattle.device.specs.declared.device.Device.{Device}
 use Rattle.device.specs.declared.device.Stepped.{Stepped}
-use Rattle.intake.specs.Intake.{stopped, highTaken, unlessSent, headedAll, highsEnd, oneTaken}
+use Rattle.intake.specs.Intake.{stopped, datedStep, stepIn, highTaken, unlessSent, headedAll, highsEnd, oneTaken}
 use Rattle.intake.specs.declared.taken.Taken.{Taken}
 use Rattle.intake.specs.declared.highs.Headed.{Headed}
 use Rattle.intake.proofs.Clauses.{drop-on}
@@ -53,25 +53,25 @@ high-none d i = refl
 
 pub high-low : (d : Device) (s : ℕ) (rest : List ℕ) (i : ℕ) → ltb s 2 ≡ true → highTaken d (s ∷ rest) i ≡ stopped d i Nothing
 unfolding highTaken
-high-low d s rest i e = ap (λ (t : Bool). cond t (stopped d i Nothing) (after (step d s) rest i)) e
+high-low d s rest i e = ap (λ (t : Bool). cond t (stopped d i Nothing) (after (stepIn (i + 1) d s) rest i)) e
 
 pub high-low-at : (d : Device) (ss : List ℕ) (i : ℕ) → i < length ss → getD ss i 0 < 2 → highTaken d (drop i ss) i ≡ stopped d i Nothing
 high-low-at d ss i h l =
     ap (λ (rest : List ℕ). highTaken d rest i) (drop-on ss i h) ∙ high-low d (getD ss i 0) (drop (i + 1) ss) i (lt-ltb (getD ss i 0) 2 l)
 
-pub high-cons : (d : Device) (s : ℕ) (rest : List ℕ) (i : ℕ) → ltb s 2 ≡ false → highTaken d (s ∷ rest) i ≡ after (step d s) rest i
+pub high-cons : (d : Device) (s : ℕ) (rest : List ℕ) (i : ℕ) → ltb s 2 ≡ false → highTaken d (s ∷ rest) i ≡ after (stepIn (i + 1) d s) rest i
 unfolding highTaken
-high-cons d s rest i e = ap (λ (t : Bool). cond t (stopped d i Nothing) (after (step d s) rest i)) e
+high-cons d s rest i e = ap (λ (t : Bool). cond t (stopped d i Nothing) (after (stepIn (i + 1) d s) rest i)) e
 
 pub high-at : (r : Registers) (p : Phase) (s : ℕ) (rest : List ℕ) (i : ℕ) → Small p → ltb s 2 ≡ false
-    → highTaken (at r p) (s ∷ rest) i ≡ after (stepHigh r p s) rest i
+    → highTaken (at r p) (s ∷ rest) i ≡ after (datedStep (i + 1) r (stepHigh r p s)) rest i
 high-at r p s rest i h e =
-    high-cons (at r p) s rest i e ∙ ap (λ (x : Stepped). after x rest i) (step-high r p s h e)
+    high-cons (at r p) s rest i e ∙ ap (λ (x : Stepped). after (datedStep (i + 1) r x) rest i) (step-high r p s h e)
 
 pub high-normal : (d : Device) (s : ℕ) (rest : List ℕ) (i : ℕ) → ltb s 2 ≡ false
     → highTaken d (s ∷ rest) i ≡ highTaken (at (d .registers) (phaseOf (d .place))) (s ∷ rest) i
 high-normal d s rest i e =
-    high-cons d s rest i e ∙ ap (λ (x : Stepped). after x rest i) (step-normal d s)
+    high-cons d s rest i e ∙ ap (λ (x : Stepped). after (datedStep (i + 1) (d .registers) x) rest i) (step-normal d s)
     ∙ sym (high-cons (at (d .registers) (phaseOf (d .place))) s rest i e)
 
 -- ---- the states of a header
@@ -109,7 +109,7 @@ headed-cons p s rest i o e = rw (o, e) refl
 high-headed-cons : (r : Registers) (p : Phase) (s : ℕ) (rest : List ℕ) (i : ℕ) → Small p → inHeader p ≡ true → ltb s 2 ≡ false
     → highTaken (at r p) (s ∷ rest) i ≡ highTaken (at r (headed p (s % 2))) rest (i + 1)
 high-headed-cons r p s rest i h o e =
-    high-at r p s rest i h e ∙ ap (λ (x : Stepped). after x rest i) (step-headed r p s o)
+    high-at r p s rest i h e ∙ ap (λ (x : Stepped). after (datedStep (i + 1) r x) rest i) (step-headed r p s o)
 
 -- the rest of a list after one more
 pub drop-tail : (ss : List ℕ) (i s : ℕ) (rest : List ℕ) → drop i ss ≡ s ∷ rest → drop (i + 1) ss ≡ rest
@@ -173,18 +173,18 @@ high-lost r (s ∷ rest) i = go (ltb s 2) refl (high-lost r rest (i + 1)) where
 
 -- a device whose next step sends
 high-sends : (r : Registers) (p : Phase) (rest : List ℕ) (i : ℕ) → Small p
-    → ((s : ℕ) → after (stepHigh r p s) (drop 1 rest) i ≡ stopped (stepHigh r p s .device) (i + 1) (stepHigh r p s .sent))
+    → ((s : ℕ) → after (datedStep (i + 1) r (stepHigh r p s)) (drop 1 rest) i ≡ stopped (datedStep (i + 1) r (stepHigh r p s) .device) (i + 1) (stepHigh r p s .sent))
     → highTaken (at r p) rest i ≡ oneTaken (at r p) rest i
 high-sends r p [] i h f = high-none (at r p) i
 high-sends r p (s ∷ rest) i h f = go (ltb s 2) refl where
   go : (t : Bool) → ltb s 2 ≡ t → highTaken (at r p) (s ∷ rest) i ≡ oneTaken (at r p) (s ∷ rest) i
   go true e =
       high-low (at r p) s rest i e
-      ∙ sym (ap (λ (t : Bool). cond t (stopped (at r p) i Nothing) (stopped (step (at r p) s .device) (i + 1) (step (at r p) s .sent))) e)
+      ∙ sym (ap (λ (t : Bool). cond t (stopped (at r p) i Nothing) (stopped (stepIn (i + 1) (at r p) s .device) (i + 1) (step (at r p) s .sent))) e)
   go false e =
       high-at r p s rest i h e ∙ f s
-      ∙ ap (λ (x : Stepped). stopped (x .device) (i + 1) (x .sent)) (sym (step-high r p s h e))
-      ∙ sym (ap (λ (t : Bool). cond t (stopped (at r p) i Nothing) (stopped (step (at r p) s .device) (i + 1) (step (at r p) s .sent))) e)
+      ∙ ap (λ (x : Stepped). stopped (datedStep (i + 1) r x .device) (i + 1) (x .sent)) (sym (step-high r p s h e))
+      ∙ sym (ap (λ (t : Bool). cond t (stopped (at r p) i Nothing) (stopped (stepIn (i + 1) (at r p) s .device) (i + 1) (step (at r p) s .sent))) e)
 
 pub high-passing : (r : Registers) (rest : List ℕ) (i : ℕ) → highTaken (at r Passing) rest i ≡ oneTaken (at r Passing) rest i
 high-passing r rest i = high-sends r Passing rest i (lit< tt) (λ s. refl)

@@ -23,9 +23,10 @@ use Rattle.parts.proofs.Rows.{field-width-pos, field-narrow, fields-le, field-o
 use Rattle.phases.specs.declared.phase.Phase.the-variants.{Slice, Passing}
 use Rattle.phases.specs.declared.phase.Sent.the-variants.{Header}
 use Rattle.registers.specs.declared.registers.Registers.{Registers}
-use Rattle.intake.specs.Intake.{highTaken, filled, least, collecting, full}
+use Rattle.intake.specs.Intake.{stopped, datedStep, highTaken, filled, least, collecting, full}
 use Rattle.intake.specs.declared.taken.Taken.{Taken}
 use Rattle.intake.specs.declared.slice.Filled.{Filled}
+use Rattle.intake.proofs.Dated.{dated-slice}
 use Rattle.intake.proofs.Clauses.{drop-on, filled-none, filled-end, filled-low, filled-on}
 use Rattle.intake.proofs.Phases.{after, high-at}
 
@@ -125,10 +126,10 @@ module _ (r : Registers) (c : Command) (n : ℕ) (ss : List ℕ) where
         now = withSlice r (pushedAt sl t (getD ss i 0))
 
         either : (b : Bool)
-            → after (cond b (moved now (Slice c n (t + 1))) (sending (stored now c) Passing (Header c (raised n (fault now c))))) (drop (i + 1) ss) i
+            → after (datedStep (i + 1) (withSlice r sl) (cond b (moved now (Slice c n (t + 1))) (sending (stored now c) Passing (Header c (raised n (fault now c)))))) (drop (i + 1) ss) i
             ≡ cond b (highTaken (at now (Slice c n (t + 1))) (drop (i + 1) ss) (i + 1)) (full r (pushedAt sl t (getD ss i 0)) c n (i + 1))
         either true = refl
-        either false = refl
+        either false = ap (λ (q : Registers). stopped (at q Passing) (i + 1) (Header c (raised n (fault now c)))) (dated-slice (i + 1) r sl (stored now c))
 
   -- once field k, of which t bits were taken with the slice up to i, is filled up to f
   abbrev pub went : List ℕ → ℕ → ℕ → ℕ → Filled → Taken

@@ -7,6 +7,7 @@ use lib.Dec.{ltb, leb}
 use Rattle.parts.specs.declared.command.Command.{Command}
 use Rattle.phases.specs.Phases.{pushed, inHeader, headed}
 use Rattle.registers.specs.Held.{withSlice, fault, raised}
+use Rattle.positions.specs.Running.{dated}
 use Rattle.storing.specs.Stored.{stored}
 use Rattle.device.specs.Step.{step, at}
 use Rattle.phases.specs.declared.phase.Phase.{Phase}
@@ -15,6 +16,7 @@ use Rattle.phases.specs.declared.phase.Sent.{Sent}
 use Rattle.phases.specs.declared.phase.Sent.the-variants.{Nothing, One, Header}
 use Rattle.registers.specs.declared.registers.Registers.{Registers}
 use Rattle.device.specs.declared.device.Device.{Device}
+use Rattle.device.specs.declared.device.Stepped.{Stepped}
 use Rattle.intake.specs.declared.taken.Taken.{Taken}
 use Rattle.intake.specs.declared.highs.Headed.{Headed}
 use Rattle.intake.specs.declared.slice.Filled.{Filled}
@@ -29,12 +31,26 @@ unlessSent Nothing on stop = on
 unlessSent (One s) on stop = stop
 unlessSent (Header c n) on stop = stop
 
--- high states until the device sends, a low state or the end
+-- what a state of clock t made of registers r is device d, and this is what it sent: a store is dated
+abbrev pub datedBy : Sent → ℕ → Registers → Device → Device
+datedBy Nothing t r d = d
+datedBy (One s) t r d = d
+datedBy (Header c n) t r d = record { registers = dated t r (d .registers); place = d .place }
+
+-- a step of clock t that was made of registers r
+abbrev pub datedStep : ℕ → Registers → Stepped → Stepped
+datedStep t r x = record { device = datedBy (x .sent) t r (x .device); sent = x .sent }
+
+-- a state of clock t
+abbrev pub stepIn : ℕ → Device → ℕ → Stepped
+stepIn t d s = datedStep t (d .registers) (step d s)
+
+-- high states until the device sends, a low state or the end; that at place i is of clock i + 1
 unfoldable pub highTaken : Device → List ℕ → ℕ → Taken
 highTaken d [] i = stopped d i Nothing
 highTaken d (s ∷ ss) i =
-    cond (ltb s 2) (stopped d i Nothing)
-    (unlessSent (step d s .sent) (highTaken (step d s .device) ss (i + 1)) (stopped (step d s .device) (i + 1) (step d s .sent)))
+    let x : Stepped = stepIn (i + 1) d s in
+    cond (ltb s 2) (stopped d i Nothing) (unlessSent (x .sent) (highTaken (x .device) ss (i + 1)) (stopped (x .device) (i + 1) (x .sent)))
 
 -- ---- the loops inside
 
@@ -63,7 +79,7 @@ least a b = cond (leb a b) a b
 -- one high state
 abbrev pub oneTaken : Device → List ℕ → ℕ → Taken
 oneTaken d [] i = stopped d i Nothing
-oneTaken d (s ∷ ss) i = cond (ltb s 2) (stopped d i Nothing) (stopped (step d s .device) (i + 1) (step d s .sent))
+oneTaken d (s ∷ ss) i = cond (ltb s 2) (stopped d i Nothing) (stopped (stepIn (i + 1) d s .device) (i + 1) (stepIn (i + 1) d s .sent))
 
 -- within a slice, whose fields so far are sl; and once it is full
 abbrev pub collecting : Registers → List ℕ → Command → ℕ → ℕ → Device
@@ -72,4 +88,4 @@ collecting r sl c n t = at (withSlice r sl) (Slice c n t)
 -- the last bit of a slice has come: stored, and the header is sent on
 abbrev pub full : Registers → List ℕ → Command → ℕ → ℕ → Taken
 full r sl c n i =
-    stopped (at (stored (withSlice r sl) c) Passing) i (Header c (raised n (fault (withSlice r sl) c)))
+    stopped (at (dated i r (stored (withSlice r sl) c)) Passing) i (Header c (raised n (fault (withSlice r sl) c)))

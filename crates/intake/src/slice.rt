@@ -2,7 +2,6 @@
 ghost use mathlib.Core.Path.{_≡_};
 ghost use Prim.Native.Nat.{_-_, _<_, _≤_};
 ghost use lib.ListN.{length, drop};
-ghost use Rattle.registers.specs.Held.{withSlice};
 ghost use Rattle.device.specs.Step.{at, sliceLength};
 ghost use Rattle.phases.specs.declared.phase.Phase.the-variants.{Slice};
 ghost use Rattle.phases.specs.declared.phase.Sent.the-variants.{Nothing};
@@ -109,15 +108,18 @@ fn part_of(
     }
 }
 
-// The last bit of a slice came.
+// The last bit of a slice came, in the clock of its place: what waited before it may have become active.
 fn whole(registers: Registers, slice: [u16; 48], command: Command, count: u16, from: usize) -> Taken
     ensures { λ r. ⌜ r ≡ full registers slice command count from ⌝ }
 {
     let raised = registers::raise(count, registers.fault_of(command));
-    let stored = storing::store(registers, slice, command);
+    let length = positions::length_in(registers);
+    let position = positions::position_by(registers, from);
+    let shown = positions::show_by(registers, from);
+    let stored = storing::store(shown, slice, command);
     Taken {
         device: Device {
-            registers: stored,
+            registers: positions::date(stored, length, position, from),
             place: phases::place_of(Phase::Passing),
         },
         at: from,

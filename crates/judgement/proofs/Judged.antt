@@ -54,3 +54,14 @@ pub same-found : (ds : List Device) → judgedFrom unjudged ds .same ≡ samePar
 unfolding judgedFrom
 same-found [] = refl
 same-found (d ∷ ds) = same-after (judgedWith unjudged d) ds refl
+
+-- the first record's part stays
+part-after : (j : Judged) (ds : List Device) → j .some ≡ true → judgedFrom j ds .part ≡ j .part
+unfolding judgedFrom
+part-after j [] e = refl
+part-after j (d ∷ ds) e = part-after (judgedWith j d) ds refl ∙ ap (λ (b : Bool). cond b (j .part) (d .registers .part)) e
+
+pub part-found : (ds : List Device) → judgedFrom unjudged ds .part ≡ getD ds 0 blank .registers .part
+unfolding judgedFrom
+part-found [] = refl
+part-found (d ∷ ds) = part-after (judgedWith unjudged d) ds refl

@@ -1,4 +1,4 @@
--- The arrays of a record keep the lengths that their types say: a fresh device has them, and a step, a boundary and a fault setting keep them.
+-- The arrays of a record keep the lengths that their types say: a fresh device has them, and a step, a clock and a fault setting keep them.
 -- By cases on the step. Assumes nothing.
 use mathlib.Core.Path.{_≡_, refl, _∙_}
 use native.Mathlib.Omega.{arith}
@@ -16,7 +16,8 @@ use Rattle.parts.specs.declared.command.Command.the-variants.{Individual, Calib
 use Rattle.phases.specs.Phases.{phaseOf}
 use Rattle.registers.specs.Held.{holding, showing, took}
 use Rattle.storing.specs.Stored.{strided, sliceBytes, stored, copies}
-use Rattle.device.specs.Step.{freshDevice, bounded, faulted, sliceLength, stepHigh}
+use Rattle.positions.specs.Positions.{placedAt, next, ticked}
+use Rattle.device.specs.Step.{tickedDevice, freshDevice, faulted, sliceLength, stepHigh}
 use Rattle.phases.specs.declared.phase.Phase.{Phase}
 use Rattle.phases.specs.declared.phase.Phase.the-variants.{Hunting, Opening, Counting, Slice, Passing, Lost}
 use Rattle.registers.specs.declared.registers.Registers.{Registers}
@@ -38,6 +39,10 @@ showing-sizes : {r : Registers} {overtemperature openled active : ℕ} {active0 
     → Sizes (showing r overtemperature openled active active0 active1)
 showing-sizes h a0 a1 =
     record { calibration = h .calibration; waiting0 = h .waiting0; waiting1 = h .waiting1; active0 = a0; active1 = a1; slice = h .slice }
+
+-- another position
+placed-sizes : {r : Registers} {n : ℕ} → Sizes r → Sizes (placedAt r n)
+placed-sizes h = record { calibration = h .calibration; waiting0 = h .waiting0; waiting1 = h .waiting1; active0 = h .active0; active1 = h .active1; slice = h .slice }
 
 -- ---- a step
 
@@ -76,12 +81,15 @@ high-sizes r Lost s h = h
 pub step-arrays : (d : Device) (s : ℕ) → Arrays d → Arrays ((stepRecord d s) .0)
 unfolding stepRecord
 step-arrays d s h =
-    cond-both (λ (x : Stepped). Sizes (x .device .registers)) (ltb s 2) _ _ (λ _. h) (λ _. high-sizes (d .registers) (phaseOf (d .place)) s h)
+    placed-sizes (cond-both (λ (x : Stepped). Sizes (x .device .registers)) (ltb s 2) _ _ (λ _. h) (λ _. high-sizes (d .registers) (phaseOf (d .place)) s h))
+
+-- ---- a clock
+
+pub tick-arrays : (d : Device) → Arrays d → Arrays (tickedDevice d)
+unfolding ticked
+tick-arrays d h = placed-sizes (cond-both Sizes (eqb (next (d .registers)) 0) _ _ (λ _. showing-sizes h (h .waiting0) (h .waiting1)) (λ _. h))
 
 -- ---- what is not a clock
-
-pub bounded-arrays : (d : Device) → Arrays d → Arrays (bounded d)
-bounded-arrays d h = showing-sizes h (h .waiting0) (h .waiting1)
 
 pub faulted-arrays : (d : Device) (kind flag : ℕ) → Arrays d → Arrays (faulted d kind flag)
 faulted-arrays d kind flag h = cond-both Sizes (eqb kind 0) _ _ (λ _. showing-sizes h (h .active0) (h .active1)) (λ _. showing-sizes h (h .active0) (h .active1))

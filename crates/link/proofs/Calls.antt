@@ -1,12 +1,11 @@
--- Calls on records: a chain that was made fresh stays one that no call is refused for, whatever is called (`whole-calls`); a boundary of the
--- records is a boundary of the model; the calls of a restore are one run of what they were given (`ran`). By induction on the
--- calls. Assumes nothing.
+-- Calls on records: a chain that was made fresh stays one that no call is refused for, whatever is called (`whole-calls`); the calls of a
+-- restore are one run of what they were given (`ran`). By induction on the calls. Assumes nothing.
 use mathlib.Core.Path.{_≡_, refl, sym, ap, _∙_}
 use mathlib.Core.Bool.{Bool, true, false, cond}
-use mathlib.Core.List.{List, [], _∷_, _++_, map}
+use mathlib.Core.List.{List, [], _∷_, _++_}
 use Prim.Native.Nat.{ℕ, zero, suc, _-_, _≤_}
 use lib.Dec.{eqb, ltb, leb}
-use lib.ListN.{length, length-map, getD, set, length-set, length-replicate, take}
+use lib.ListN.{length, getD, set, length-set, length-replicate, take}
 use borrow.Author.Tests.{leb-true, le-leb, eq-eqb, eqb-true, eqb-false, ne-eqb, not-false}
 use Rattle.bits.specs.Bits.{digit, over}
 use Rattle.bits.proofs.Laws.{take-over, digit-lt}
@@ -14,30 +13,24 @@ use Rattle.tables.specs.Lists.{allBelow, every}
 use Rattle.parts.specs.Parts.{known, isCount}
 use Rattle.tables.specs.Refusals.{first, content}
 use Rattle.tables.proofs.Rows.{clear}
-use Rattle.registers.specs.Held.{showing, activated}
-use Rattle.phases.specs.Phases.{phaseOf}
-use Rattle.device.specs.Step.{freshDevice, bounded, faulted}
+use Rattle.device.specs.Step.{tickedDevice, freshDevice, faulted}
 use Rattle.device.specs.Judgement.{fits}
-use Rattle.phases.specs.declared.phase.Phase.{Phase}
-use Rattle.phases.specs.declared.phase.Phase.the-variants.{Hunting, Opening, Counting, Slice, Passing, Lost}
 use Rattle.registers.specs.declared.registers.Registers.{Registers}
 use Rattle.device.specs.declared.device.Device.{Device}
 use Rattle.tables.proofs.Booleans.{and-both, and-true, cond-both}
-use Rattle.device.proofs.Kept.{kept-bounded, kept-faulted, kept-fresh}
-use Rattle.calls.specs.Chain.{hasPart, allKnown, sameParts, allFit, blank}
-use Rattle.calls.specs.Calls.{freshTable, freshRefusal, freshDevices, runRefusal, runDevices, returned, boundaryRefusal, boundaryDevices, faultRefusal, faultDevices}
-use Rattle.calls.specs.History.{Call, fresh, run, boundary, fault, refusalOf, effect, after, afterCalls, given, answered, statesGiven, answers, RunOrKeeps, Runs, FaultOrLow, Settles}
+use Rattle.device.proofs.Kept.{kept-faulted, kept-fresh}
+use Rattle.calls.specs.Chain.{through, hasPart, allKnown, sameParts, allFit, blank}
+use Rattle.calls.specs.Calls.{freshTable, freshRefusal, freshDevices, runRefusal, runDevices, returned, faultRefusal, faultDevices}
+use Rattle.calls.specs.History.{Call, fresh, run, fault, refusalOf, effect, after, afterCalls, given, answered, statesGiven, answers, RunOrKeeps, Runs, FaultOrLow, Settles}
 use Rattle.calls.specs.Told.{partBy, partTold, ownTable}
 use Rattle.model.specs.Lists.{All}
-use Rattle.machine.specs.Machine.{chain}
-use Rattle.model.specs.Device as model
+use Rattle.machine.specs.Machine.{clock}
 use Rattle.model.proofs.Lists.{All-replicate}
-use Rattle.machine.proofs.Machine.{chain-append, chain-nil, chain-holds, length-chain}
+use Rattle.machine.proofs.Machine.{run-nil, run-append, length-clocks}
 use Rattle.device.specs.Run.{stepRecord}
-use Rattle.link.specs.View.{phaseIn, deviceOf}
 use Rattle.link.proofs.View.{Sound}
-use Rattle.link.proofs.Arrays.{bounded-arrays, faulted-arrays, fresh-arrays}
-use Rattle.link.proofs.Device.{step-part, chain-keep}
+use Rattle.link.proofs.Arrays.{faulted-arrays, fresh-arrays}
+use Rattle.link.proofs.Device.{through-part, through-keep}
 
 -- ---- what an accepted call leaves
 
@@ -45,7 +38,6 @@ pub after-effect : (ds : List Device) (c : Call) → after ds c ≡ content (ref
 unfolding after refusalOf
 after-effect ds (fresh part) = refl
 after-effect ds (run ss out) = refl
-after-effect ds boundary = refl
 after-effect ds (fault device kind flag) = refl
 
 -- ---- a chain that no call is refused for
@@ -76,38 +68,14 @@ whole-count p ds w = rw (le-leb 1 (length ds) (w .someDevice), le-leb (length ds
 
 -- its calls are refused for what they say, never for the records
 pub own-refusal : (p : ℕ) (ds : List Device) (c : Call) → Whole p ds → refusalOf ds c ≡ first (ownTable (length ds) c)
-unfolding refusalOf freshRefusal runRefusal boundaryRefusal faultRefusal
+unfolding refusalOf freshRefusal runRefusal faultRefusal
 own-refusal p ds (fresh q) w = refl
 own-refusal p ds (run ss out) w =
     rw (whole-known p ds w, whole-count p ds w, same-all p ds (w .onePart), whole-fit ds (w .sound), and-true (allBelow ss 4))
-own-refusal p ds boundary w = rw (whole-known p ds w, whole-count p ds w, same-all p ds (w .onePart), whole-fit ds (w .sound))
 own-refusal p ds (fault device kind flag) w =
     rw (whole-known p ds w, whole-count p ds w, same-all p ds (w .onePart), whole-fit ds (w .sound), and-true (ltb kind 2))
 
--- ---- a boundary of the records is a boundary of the model
-
--- a change of flags and active values leaves the phase
-pub showing-phase : (r : Registers) (overtemperature openled active : ℕ) (active0 active1 : List ℕ) (p : Phase)
-    → phaseIn (showing r overtemperature openled active active0 active1) p ≡ phaseIn r p
-showing-phase r overtemperature openled active active0 active1 (Hunting w) = refl
-showing-phase r overtemperature openled active active0 active1 (Opening read) = refl
-showing-phase r overtemperature openled active active0 active1 (Counting c read) = refl
-showing-phase r overtemperature openled active active0 active1 (Slice c n t) = refl
-showing-phase r overtemperature openled active active0 active1 Passing = refl
-showing-phase r overtemperature openled active active0 active1 Lost = refl
-
-activated-phase : (r : Registers) (p : Phase) → phaseIn (activated r) p ≡ phaseIn r p
-activated-phase r p = showing-phase r (r .overtemperature) (r .openled) (r .waiting) (r .waiting0) (r .waiting1) p
-
-pub boundary-same : (ds : List Device) → map deviceOf (boundaryDevices ds) ≡ model.boundary (map deviceOf ds)
-unfolding model.boundary deviceOf model.activated
-boundary-same [] = refl
-boundary-same (d ∷ ds) = rw (activated-phase (d .registers) (phaseOf (d .place)), boundary-same ds)
-
 -- ---- a whole chain stays whole
-
-bounded-sound : (d : Device) → Sound d → Sound (bounded d)
-bounded-sound d o = record { fit = kept-bounded d (o .fit); arrays = bounded-arrays d (o .arrays) }
 
 faulted-part : (d : Device) (kind flag : ℕ) → (faulted d kind flag) .registers .part ≡ d .registers .part
 faulted-part d kind flag = cond-both (λ (r : Registers). r .part ≡ d .registers .part) (eqb kind 0) _ _ (λ _. refl) (λ _. refl)
@@ -119,11 +87,7 @@ faulted-sound kind flag d o =
 fresh-sound : (p : ℕ) → Sound (freshDevice p)
 fresh-sound p = record { fit = kept-fresh p; arrays = fresh-arrays p }
 
--- every record, of a list made by a change of each, or of one
-map-All : (P : Device → Type 0) (f : Device → Device) → ((d : Device) → P d → P (f d)) → (ds : List Device) → All P ds → All P (map f ds)
-map-All P f k [] h = tt
-map-All P f k (d ∷ ds) h = (k d (h .0), map-All P f k ds (h .1))
-
+-- every record of a list in which one is changed
 set-All : (P : Device → Type 0) (f : Device → Device) → ((d : Device) → P d → P (f d)) → (ds : List Device) (i : ℕ) (z : Device) → All P ds → All P (set ds i (f (getD ds i z)))
 set-All P f k [] i z h = tt
 set-All P f k (d ∷ ds) zero z h = (k d (h .0), h .1)
@@ -148,8 +112,7 @@ whole-fresh q ds a =
 
 sound-effect : (ds : List Device) (c : Call) → All Sound ds → All Sound (effect ds c)
 sound-effect ds (fresh q) h = All-replicate Sound (length ds) (freshDevice q) (fresh-sound q)
-sound-effect ds (run ss out) h = chain-keep ds ss h
-sound-effect ds boundary h = map-All Sound bounded bounded-sound ds h
+sound-effect ds (run ss out) h = through-keep ds ss h
 sound-effect ds (fault device kind flag) h = set-All Sound (λ d. faulted d kind (digit flag)) (faulted-sound kind flag) ds (device - 1) blank h
 
 whole-from : (p : ℕ) (ds es : List Device) → Whole p ds → length es ≡ length ds → All (λ d. d .registers .part ≡ p) es → All Sound es → Whole p es
@@ -158,11 +121,7 @@ whole-from p ds es w l a o = record { someDevice = rw l (w .someDevice); fewDevi
 whole-effect : (p : ℕ) (ds : List Device) (c : Call) → Whole p ds → refusalOf ds c ≡ 0 → Whole (partBy ds p c) (effect ds c)
 whole-effect p ds (fresh q) w a = rw (eq-eqb (refusalOf ds (fresh q)) 0 a) (whole-fresh q ds a)
 whole-effect p ds (run ss out) w a =
-    whole-from p ds ((chain stepRecord ds ss) .0) w (length-chain stepRecord ds ss)
-    (chain-holds stepRecord (λ d. d .registers .part ≡ p) (λ d s h. step-part d s ∙ h) ds ss (w .onePart)) (sound-effect ds (run ss out) (w .sound))
-whole-effect p ds boundary w a =
-    whole-from p ds (boundaryDevices ds) w (length-map ds bounded) (map-All (λ d. d .registers .part ≡ p) bounded (λ d h. h) ds (w .onePart))
-    (sound-effect ds boundary (w .sound))
+    whole-from p ds (runDevices ds ss) w (length-clocks stepRecord tickedDevice ds ss) (through-part p ds ss (w .onePart)) (sound-effect ds (run ss out) (w .sound))
 whole-effect p ds (fault device kind flag) w a =
     whole-from p ds (faultDevices ds device kind flag) w (length-set ds (device - 1) _)
     (set-All (λ d. d .registers .part ≡ p) (λ d. faulted d kind (digit flag)) (λ d h. faulted-part d kind (digit flag) ∙ h) ds (device - 1) blank (w .onePart))
@@ -171,7 +130,6 @@ whole-effect p ds (fault device kind flag) w a =
 refused-part : (ds : List Device) (p : ℕ) (c : Call) → (refusalOf ds c ≡ 0 → ⊥) → partBy ds p c ≡ p
 refused-part ds p (fresh q) e = rw (ne-eqb (refusalOf ds (fresh q)) 0 e)
 refused-part ds p (run ss out) e = refl
-refused-part ds p boundary e = refl
 refused-part ds p (fault device kind flag) e = refl
 
 -- whatever is called, the chain stays one that no call is refused for
@@ -193,8 +151,7 @@ whole-start p ds e = rw (after-effect ds (fresh p), eq-eqb (refusalOf ds (fresh 
 -- no call changes the number of records
 length-effect : (ds : List Device) (c : Call) → length (effect ds c) ≡ length ds
 length-effect ds (fresh q) = length-replicate (length ds) (freshDevice q)
-length-effect ds (run ss out) = length-chain stepRecord ds ss
-length-effect ds boundary = length-map ds bounded
+length-effect ds (run ss out) = length-clocks stepRecord tickedDevice ds ss
 length-effect ds (fault device kind flag) = length-set ds (device - 1) _
 
 pub length-after : (ds : List Device) (c : Call) → length (after ds c) ≡ length ds
@@ -207,35 +164,37 @@ length-afterCalls ds (c ∷ cs) = length-afterCalls (after ds c) cs ∙ length-a
 
 -- ---- runs, and calls that leave the records as they are
 
+through-nil : (ds : List Device) → through ds [] ≡ (ds, [])
+through-nil ds = run-nil (clock stepRecord tickedDevice) ds
+
 -- a run, accepted or refused, is a run of what it was given
 pub ran-one : (ds : List Device) (ss out : List ℕ)
-    → _≡_ {A = List Device × List ℕ} (after ds (run ss out), answered ds (run ss out)) (chain stepRecord ds (given ds (run ss out)))
+    → _≡_ {A = List Device × List ℕ} (after ds (run ss out), answered ds (run ss out)) (through ds (given ds (run ss out)))
 unfolding after
 ran-one ds ss out = go (eqb (runRefusal ds ss (length out)) 0) refl
   where
     go : (b : Bool) → eqb (runRefusal ds ss (length out)) 0 ≡ b
         → _≡_ {A = List Device × List ℕ} (cond b (runDevices ds ss) ds, cond b (take (length (returned ds ss)) (cond b (over (returned ds ss) out) out)) [])
-        (chain stepRecord ds (cond b ss []))
+        (through ds (cond b ss []))
     go true e = rw (take-over (returned ds ss) out)
-    go false e = rw (chain-nil stepRecord ds)
+    go false e = rw (through-nil ds)
 
-run-one : (ds : List Device) (c : Call) → RunOrKeeps ds c → _≡_ {A = List Device × List ℕ} (after ds c, answered ds c) (chain stepRecord ds (given ds c))
-run-one ds (fresh p) h = rw (h, chain-nil stepRecord ds)
+run-one : (ds : List Device) (c : Call) → RunOrKeeps ds c → _≡_ {A = List Device × List ℕ} (after ds c, answered ds c) (through ds (given ds c))
+run-one ds (fresh p) h = rw (h, through-nil ds)
 run-one ds (run ss out) h = ran-one ds ss out
-run-one ds boundary h = rw (h, chain-nil stepRecord ds)
-run-one ds (fault device kind flag) h = rw (h, chain-nil stepRecord ds)
+run-one ds (fault device kind flag) h = rw (h, through-nil ds)
 
 -- the calls of a restore are one run of what they were given
-pub ran : (ds : List Device) (cs : List Call) → Runs ds cs → _≡_ {A = List Device × List ℕ} (afterCalls ds cs, answers ds cs) (chain stepRecord ds (statesGiven ds cs))
+pub ran : (ds : List Device) (cs : List Call) → Runs ds cs → _≡_ {A = List Device × List ℕ} (afterCalls ds cs, answers ds cs) (through ds (statesGiven ds cs))
 unfolding afterCalls answers statesGiven
-ran ds [] r = rw (chain-nil stepRecord ds)
-ran ds (c ∷ cs) r = rw (chain-append stepRecord ds (given ds c) (statesGiven (after ds c) cs), ← run-one ds c (r .0), ← ran (after ds c) cs (r .1))
+ran ds [] r = rw (through-nil ds)
+ran ds (c ∷ cs) r =
+    rw (run-append (clock stepRecord tickedDevice) ds (given ds c) (statesGiven (after ds c) cs), ← run-one ds c (r .0), ← ran (after ds c) cs (r .1))
 
 -- during a restore and after it the part stays, and with it all that no call is refused for
 whole-ran : (p : ℕ) (ds : List Device) (c : Call) → Whole p ds → RunOrKeeps ds c → Whole p (after ds c)
 whole-ran p ds (fresh q) w r = rw r w
 whole-ran p ds (run ss out) w r = whole-after p ds (run ss out) w
-whole-ran p ds boundary w r = rw r w
 whole-ran p ds (fault device kind flag) w r = rw r w
 
 pub whole-runs : (p : ℕ) (ds : List Device) (cs : List Call) → Whole p ds → Runs ds cs → Whole p (afterCalls ds cs)
@@ -246,17 +205,12 @@ whole-runs p ds (c ∷ cs) w r = whole-runs p (after ds c) cs (whole-ran p ds c 
 pub whole-settled : (p : ℕ) (ds : List Device) (c : Call) → Whole p ds → FaultOrLow ds c → Whole p (after ds c)
 whole-settled p ds (fresh q) w r = rw r w
 whole-settled p ds (run ss out) w r = whole-after p ds (run ss out) w
-whole-settled p ds boundary w r = rw r w
 whole-settled p ds (fault device kind flag) w r = whole-after p ds (fault device kind flag) w
 
 pub whole-settles : (p : ℕ) (ds : List Device) (cs : List Call) → Whole p ds → Settles ds cs → Whole p (afterCalls ds cs)
 unfolding afterCalls
 whole-settles p ds [] w r = w
 whole-settles p ds (c ∷ cs) w r = whole-settles p (after ds c) cs (whole-settled p ds c w (r .0)) (r .1)
-
-pub whole-boundary : (p : ℕ) (ds : List Device) → Whole p ds → Whole p (afterCalls ds (boundary ∷ []))
-unfolding afterCalls
-whole-boundary p ds w = whole-after p ds boundary w
 
 pub calls-append : (ds : List Device) (cs es : List Call) → afterCalls ds (cs ++ es) ≡ afterCalls (afterCalls ds cs) es
 unfolding afterCalls

@@ -1,8 +1,9 @@
--- The law of the link, `agree`: one step of a record that fits is one step of the model's device, and `keep`: it still fits. By cases on
--- the phase. Chains of records follow by `chain-view`. Assumes nothing.
+-- The law of the link, `agree`: the single step of a record that fits is that of the model's device, and `keep`: it still fits. By cases on
+-- the phase; the position by the lengths of the two frames, which are the same in both. One clock is `agree-tick`. Chains of records follow by
+-- `clocks-view`. Assumes nothing.
 use mathlib.Core.Path.{_≡_, refl, sym, ap, _∙_}
 use mathlib.Core.Bool.{Bool, true, false, cond}
-use mathlib.Core.List.{List, [], _∷_, map}
+use mathlib.Core.List.{List, [], _∷_, map, map-id}
 use Prim.Native.Nat.{ℕ, zero, suc, _+_, _*_, _/_, _%_, _≤_, _<_}
 use native.Mathlib.Nat.{mod-lt}
 use native.Mathlib.Omega.{arith}
@@ -14,10 +15,11 @@ use Rattle.parts.specs.Wire.{State, low, high, stateAt, stateCode, header, cloc
 use Rattle.parts.specs.declared.command.Command.{Command}
 use Rattle.parts.specs.declared.command.Command.the-variants.{Individual, Calibration, Global, Configuration}
 use Rattle.phases.specs.Phases.{phaseOf, windowOf, heard, rising, opening, counting}
-use Rattle.registers.specs.Held.{holding, took}
+use Rattle.registers.specs.Held.{holding, took, activated}
+use Rattle.positions.specs.Positions.{lengthIn, placedAt, next, ticked, refit}
 use Rattle.storing.specs.Stored.{stored, copies}
-use Rattle.device.specs.Step.{moved, sentStates, sliceLength, step, stepHigh}
-use Rattle.device.specs.Judgement.{placeFits, fits}
+use Rattle.device.specs.Step.{moved, sentStates, sliceLength, step, stepHigh, singleStep, tickedDevice}
+use Rattle.device.specs.Judgement.{placeFits}
 use Rattle.phases.specs.declared.phase.Phase.{Phase}
 use Rattle.phases.specs.declared.phase.Phase.the-variants.{Hunting, Opening, Counting, Slice, Passing, Lost}
 use Rattle.phases.specs.declared.phase.Sent.the-variants.{Nothing, One}
@@ -26,20 +28,23 @@ use Rattle.device.specs.declared.device.Device.{Device}
 use Rattle.device.specs.declared.device.Stepped.{Stepped}
 use Rattle.phases.proofs.Rising.{rising-small, opening-small, counting-small}
 use Rattle.tables.proofs.Booleans.{and-both, cond-both}
-use Rattle.device.proofs.Kept.{Good, phase-good, kept}
+use Rattle.device.proofs.Kept.{bounded, Good, phase-good, parts-of, kept, kept-ticked}
+use Rattle.device.proofs.Position.{step-position}
 use Rattle.widths.proofs.Below.{Below, below-of}
 use Rattle.model.specs.Lists.{All}
-use Rattle.machine.specs.Machine.{chain}
+use Rattle.calls.specs.Calls.{runDevices, returned}
 use Rattle.model.specs.Device.{slice, stepDevice}
 use Rattle.model.specs.Device as model
-use Rattle.machine.proofs.Machine.{run-view, run-sends, chain-view, chain-holds, chain-sends}
+use Rattle.machine.proofs.Machine.{run-view, run-sends, clocks-view, clocks-hold, clocks-keep, clocks-send}
+use Rattle.clocked.specs.Clock.{Clocked, lengthOf, tick, stepClocked, runClocked}
+use Rattle.clocked.specs.Clock as clock
 use Rattle.model.proofs.Lists.{all-below}
 use Rattle.model.proofs.Wire.{codes-below, map-stateCode-stateAt, map-stateAt-stateCode}
 use Rattle.link.proofs.Numbers.{digit-bit}
 use Rattle.device.specs.Run.{stepRecord, run}
-use Rattle.link.specs.View.{phaseIn, viewed, deviceOf}
-use Rattle.link.proofs.View.{Sound, seen, seen-sending}
-use Rattle.link.proofs.Arrays.{step-arrays}
+use Rattle.link.specs.View.{registersOf, phaseIn, viewed, deviceOf, clockedOf}
+use Rattle.link.proofs.View.{Sound, seen, seen-sending, showing-phase, device-placed}
+use Rattle.link.proofs.Arrays.{step-arrays, tick-arrays}
 use Rattle.link.proofs.Header.{rising-same, opening-same, counting-same}
 use Rattle.link.proofs.Slice.{slice-same}
 
@@ -87,10 +92,10 @@ high-same r (Slice c n t) s h e b g =
 high-same r Passing s h e b g = seen-sending r Passing (One s) (lit< tt) ∙ rw (stateAt-high s h) (passing-same r (eqb (s % 2) 1))
 high-same r Lost s h e b g = seen-sending r Lost Nothing (lit< tt) ∙ lost-same r (eqb (s % 2) 1)
 
--- The law of the link
-pub agree : (d : Device) (s : ℕ) → Sound d → (deviceOf ((stepRecord d s) .0), map stateAt ((stepRecord d s) .1)) ≡ stepDevice (deviceOf d) (stateAt s)
-unfolding deviceOf stepRecord seen
-agree d s o = go (ltb s 2) refl
+-- a line state, but for the position
+step-same : (d : Device) (s : ℕ) → Sound d → seen (step d s) ≡ stepDevice (deviceOf d) (stateAt s)
+unfolding deviceOf
+step-same d s o = go (ltb s 2) refl
   where
     go : (b : Bool) → ltb s 2 ≡ b
         → seen (cond b (moved (d .registers) (heard (phaseOf (d .place)) s)) (stepHigh (d .registers) (phaseOf (d .place)) s))
@@ -98,9 +103,44 @@ agree d s o = go (ltb s 2) refl
     go true e = rw (stateAt-low s (ltb-true s 2 e)) (low-same (d .registers) (phaseOf (d .place)) s (ltb-true s 2 e))
     go false e =
         let l = ltb-false s 2 e in
-        let t = and-both (placeFits (d .place) (d .registers)) _ (o .fit) in
+        let t = and-both (placeFits (d .place) (d .registers)) _ (parts-of d (o .fit) .0) in
         rw (stateAt-high s l)
         (high-same (d .registers) (phaseOf (d .place)) s l (o .arrays .slice) (below-of (d .registers) (t .1)) (phase-good (d .place) (d .registers) (t .0)))
+
+device-agree : (d : Device) (s : ℕ) → Sound d → (deviceOf ((stepRecord d s) .0), map stateAt ((stepRecord d s) .1)) ≡ stepDevice (deviceOf d) (stateAt s)
+unfolding stepRecord seen
+device-agree d s o = rw (device-placed (step d s .device) (singleStep d s .device .registers .position)) (step-same d s o)
+
+-- the frame's length is that of the model's device
+length-same : (d : Device) → lengthOf (clockedOf d) ≡ lengthIn (d .registers)
+unfolding deviceOf clock.lengthIn
+length-same d = refl
+
+-- the position of a single step
+position-agree : (d : Device) (s : ℕ) → Sound d
+    → (stepRecord d s) .0 .registers .position ≡ refit (lengthOf (clockedOf d)) (clock.lengthIn ((stepDevice (deviceOf d) (stateAt s)) .0 .registers)) (d .registers .position)
+unfolding stepRecord seen
+position-agree d s o =
+    let e : deviceOf (step d s .device) ≡ (stepDevice (deviceOf d) (stateAt s)) .0 = ap (λ (x : model.Device × List State). x .0) (step-same d s o) in
+    rw (← e, length-same d, length-same (step d s .device), step-position d s)
+
+-- The law of the link
+pub agree : (d : Device) (s : ℕ) → Sound d → (clockedOf ((stepRecord d s) .0), map stateAt ((stepRecord d s) .1)) ≡ stepClocked (clockedOf d) (stateAt s)
+unfolding stepClocked
+agree d s o = rw (position-agree d s o, ← device-agree d s o)
+
+-- one clock
+pub agree-tick : (d : Device) → clockedOf (tickedDevice d) ≡ tick (clockedOf d)
+unfolding tick ticked deviceOf clock.lengthIn model.activated
+agree-tick d = go (eqb (next (d .registers)) 0)
+  where
+    r : Registers
+    r = d .registers
+
+    go : (b : Bool) → clockedOf (record { registers = placedAt (cond b (activated r) r) (next r); place = d .place })
+        ≡ record { device = model.at (cond b (model.activated (registersOf r)) (registersOf r)) (deviceOf d .phase); position = next r }
+    go true = rw (device-placed (bounded d) (next r), showing-phase r (r .overtemperature) (r .openled) (r .waiting) (r .waiting0) (r .waiting1) (phaseOf (d .place)))
+    go false = rw (device-placed d (next r))
 
 -- ---- a record that fits still does
 
@@ -108,11 +148,15 @@ pub keep : (d : Device) (s : ℕ) → Sound d → Sound ((stepRecord d s) .0)
 unfolding stepRecord
 keep d s o = record { fit = kept d s (o .fit); arrays = step-arrays d s (o .arrays) }
 
--- ---- what no slice touches, no step changes
+keep-tick : (d : Device) → Sound d → Sound (tickedDevice d)
+keep-tick d o = record { fit = kept-ticked d (o .fit); arrays = tick-arrays d (o .arrays) }
+
+-- ---- what no slice touches and no boundary, no clock changes
 
 module _ {A : Type 0} (f : Registers → A)
     (untouched : (r : Registers) (configuration : ℕ) (calibration : List ℕ) (waiting : ℕ) (waiting0 waiting1 slots : List ℕ)
-    → f (holding r configuration calibration waiting waiting0 waiting1 slots) ≡ f r) where
+    → f (holding r configuration calibration waiting waiting0 waiting1 slots) ≡ f r)
+    (anywhere : (r : Registers) (position : ℕ) → f (placedAt r position) ≡ f r) (bounded-same : (r : Registers) → f (activated r) ≡ f r) where
   abbrev Same : Registers → Registers → Type 0
   Same r q = f q ≡ f r
 
@@ -133,12 +177,32 @@ module _ {A : Type 0} (f : Registers → A)
   high-keeps r Passing s = refl
   high-keeps r Lost s = refl
 
-  pub step-keeps : (d : Device) (s : ℕ) → f ((stepRecord d s) .0 .registers) ≡ f (d .registers)
+  step-keeps : (d : Device) (s : ℕ) → f ((stepRecord d s) .0 .registers) ≡ f (d .registers)
   unfolding stepRecord
-  step-keeps d s = cond-both (λ (x : Stepped). Same (d .registers) (x .device .registers)) (ltb s 2) _ _ (λ _. refl) (λ _. high-keeps (d .registers) (phaseOf (d .place)) s)
+  step-keeps d s =
+      anywhere (step d s .device .registers) _
+      ∙ cond-both (λ (x : Stepped). Same (d .registers) (x .device .registers)) (ltb s 2) _ _ (λ _. refl) (λ _. high-keeps (d .registers) (phaseOf (d .place)) s)
 
-pub step-part : (d : Device) (s : ℕ) → (stepRecord d s) .0 .registers .part ≡ d .registers .part
-step-part d s = step-keeps (λ r. r .part) (λ r configuration calibration waiting waiting0 waiting1 slots. refl) d s
+  tick-keeps : (d : Device) → f (tickedDevice d .registers) ≡ f (d .registers)
+  unfolding ticked
+  tick-keeps d =
+      anywhere _ (next (d .registers))
+      ∙ cond-both (Same (d .registers)) (eqb (next (d .registers)) 0) _ _ (λ _. bounded-same (d .registers)) (λ _. refl)
+
+  pub run-keeps : (ds : List Device) (ss : List ℕ) → map (λ d. f (d .registers)) (runDevices ds ss) ≡ map (λ d. f (d .registers)) ds
+  run-keeps ds ss = clocks-keep stepRecord tickedDevice (λ d. f (d .registers)) step-keeps tick-keeps ds ss
+
+-- every record stays of its part
+pub through-part : (p : ℕ) (ds : List Device) (ss : List ℕ) → All (λ d. d .registers .part ≡ p) ds → All (λ d. d .registers .part ≡ p) (runDevices ds ss)
+through-part p ds ss h =
+    clocks-hold stepRecord stepRecord tickedDevice tickedDevice (λ d. d) (λ s. s) (λ d. d .registers .part ≡ p) (λ d s e. step-part d s ∙ e) (λ d s e. rw map-id)
+    (λ d e. tick-part d ∙ e) (λ d e. refl) ds ss h
+  where
+    step-part : (d : Device) (s : ℕ) → (stepRecord d s) .0 .registers .part ≡ d .registers .part
+    step-part d s = step-keeps (λ r. r .part) (λ r configuration calibration waiting waiting0 waiting1 slots. refl) (λ r position. refl) (λ r. refl) d s
+
+    tick-part : (d : Device) → tickedDevice d .registers .part ≡ d .registers .part
+    tick-part d = tick-keeps (λ r. r .part) (λ r configuration calibration waiting waiting0 waiting1 slots. refl) (λ r position. refl) (λ r. refl) d
 
 -- ---- what is sent
 
@@ -162,7 +226,7 @@ sent-below d s h = cond-both Sends (ltb s 2) _ _ (λ _. tt) (λ _. high-sends (d
 -- ---- one record, and chains of records
 
 pub run-agree : (d : Device) (ss : List ℕ) → Sound d → (deviceOf ((run d ss) .0), map stateAt ((run d ss) .1)) ≡ model.runDevice (deviceOf d) (map stateAt ss)
-run-agree d ss o = run-view stepDevice stepRecord deviceOf stateAt Sound keep agree d ss o
+run-agree d ss o = run-view stepDevice stepRecord deviceOf stateAt Sound keep device-agree d ss o
 
 -- its states are those of the model's device, number for number
 pub run-sent : (d : Device) (ls : List State) → Sound d → (run d (map stateCode ls)) .1 ≡ map stateCode ((model.runDevice (deviceOf d) ls) .1)
@@ -172,16 +236,16 @@ run-sent d ls o =
     sym (map-stateCode-stateAt ((run d ss) .1) a)
     ∙ ap (λ (x : model.Device × List State). map stateCode (x .1)) (rw map-stateAt-stateCode at (run-agree d ss o))
 
-pub chain-agree : (ds : List Device) (ss : List ℕ) → All Sound ds
-    → (map deviceOf ((chain stepRecord ds ss) .0), map stateAt ((chain stepRecord ds ss) .1)) ≡ model.runChain (map deviceOf ds) (map stateAt ss)
-chain-agree ds ss o = chain-view stepDevice stepRecord deviceOf stateAt Sound keep agree ds ss o
+pub through-agree : (ds : List Device) (ss : List ℕ) → All Sound ds
+    → (map clockedOf (runDevices ds ss), map stateAt (returned ds ss)) ≡ runClocked (map clockedOf ds) (map stateAt ss)
+through-agree ds ss o = clocks-view stepClocked stepRecord tick tickedDevice clockedOf stateAt Sound keep agree keep-tick (λ d s. agree-tick d) ds ss o
 
-pub chain-sent : (ds : List Device) (ls : List State) → All Sound ds → (chain stepRecord ds (map stateCode ls)) .1 ≡ map stateCode ((model.runChain (map deviceOf ds) ls) .1)
-chain-sent ds ls o =
+pub through-sent : (ds : List Device) (ls : List State) → All Sound ds → returned ds (map stateCode ls) ≡ map stateCode ((runClocked (map clockedOf ds) ls) .1)
+through-sent ds ls o =
     let ss : List ℕ = map stateCode ls in
-    let a = chain-sends stepRecord (λ x. x < 4) sent-below ds ss (all-below 4 ss (codes-below ls)) in
-    sym (map-stateCode-stateAt ((chain stepRecord ds ss) .1) a)
-    ∙ ap (λ (x : List model.Device × List State). map stateCode (x .1)) (rw map-stateAt-stateCode at (chain-agree ds ss o))
+    let a = clocks-send stepRecord (λ x. x < 4) sent-below tickedDevice ds ss (all-below 4 ss (codes-below ls)) in
+    sym (map-stateCode-stateAt (returned ds ss) a)
+    ∙ ap (λ (x : List Clocked × List State). map stateCode (x .1)) (rw map-stateAt-stateCode at (through-agree ds ss o))
 
-pub chain-keep : (ds : List Device) (ss : List ℕ) → All Sound ds → All Sound ((chain stepRecord ds ss) .0)
-chain-keep ds ss o = chain-holds stepRecord Sound keep ds ss o
+pub through-keep : (ds : List Device) (ss : List ℕ) → All Sound ds → All Sound (runDevices ds ss)
+through-keep ds ss o = clocks-hold stepClocked stepRecord tick tickedDevice clockedOf stateAt Sound keep agree keep-tick (λ d s. agree-tick d) ds ss o

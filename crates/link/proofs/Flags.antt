@@ -16,13 +16,10 @@ use Rattle.device.specs.Step.{freshDevice, faulted}
 use Rattle.device.specs.declared.device.Device.{Device}
 use Rattle.tables.proofs.Booleans.{and-both, cond-both}
 use Rattle.calls.specs.Chain.{allFit, blank}
-use Rattle.calls.specs.Calls.{freshDevices, runDevices, boundaryDevices, faultTable, faultRefusal, faultDevices}
-use Rattle.calls.specs.History.{Call, fresh, run, boundary, fault, refusalOf, after, afterCalls}
+use Rattle.calls.specs.Calls.{freshDevices, runDevices, faultTable, faultRefusal, faultDevices}
+use Rattle.calls.specs.History.{Call, fresh, run, fault, refusalOf, after, afterCalls}
 use Rattle.calls.specs.Told.{flagIn, flagBy, flagTold}
-use Rattle.machine.specs.Machine.{chain}
-use Rattle.machine.proofs.Machine.{chain-keeps}
-use Rattle.device.specs.Run.{stepRecord}
-use Rattle.link.proofs.Device.{step-keeps}
+use Rattle.link.proofs.Device.{run-keeps}
 use Rattle.link.proofs.Calls.{after-effect, length-after}
 
 module _ (kind : ℕ) where
@@ -30,19 +27,12 @@ module _ (kind : ℕ) where
   abbrev flagOf : Device → ℕ
   flagOf d = flagIn (d .registers) kind
 
-  step-flag : (d : Device) (s : ℕ) → flagOf ((stepRecord d s) .0) ≡ flagOf d
-  step-flag d s = step-keeps (λ r. flagIn r kind) (λ r configuration calibration waiting waiting0 waiting1 slots. refl) d s
-
   -- in a record of a list whose flags are those of another list
   at-same : (ds es : List Device) (i : ℕ) → map flagOf es ≡ map flagOf ds → flagOf (getD es i blank) ≡ flagOf (getD ds i blank)
   at-same ds es i e = sym (List·getD-map flagOf es i blank) ∙ ap (λ (l : List ℕ). getD l i (flagOf blank)) e ∙ List·getD-map flagOf ds i blank
 
   run-flags : (ds : List Device) (ss : List ℕ) → map flagOf (runDevices ds ss) ≡ map flagOf ds
-  run-flags ds ss = chain-keeps stepRecord flagOf step-flag ds ss
-
-  boundary-flags : (ds : List Device) → map flagOf (boundaryDevices ds) ≡ map flagOf ds
-  boundary-flags [] = refl
-  boundary-flags (d ∷ ds) = rw (boundary-flags ds)
+  run-flags ds ss = run-keeps (λ r. flagIn r kind) (λ r configuration calibration waiting waiting0 waiting1 slots. refl) (λ r position. refl) (λ r. refl) ds ss
 
   fresh-flag : (q n i : ℕ) → flagOf (getD (replicate n (freshDevice q)) i blank) ≡ 0
   fresh-flag q zero i = cond-both (λ (f : ℕ). f ≡ 0) (eqb kind 0) _ _ (λ _. refl) (λ _. refl)
@@ -107,11 +97,6 @@ module _ (device kind : ℕ) (one : 1 ≤ device) (small : kind < 2) where
     where
       go : (b : Bool) → flagAt (cond b (runDevices ds ss) ds) ≡ digit old
       go true = at-same kind ds (runDevices ds ss) (device - 1) (run-flags kind ds ss) ∙ h
-      go false = h
-  flag-after ds boundary old l h = rw (after-effect ds boundary) (go (eqb (refusalOf ds boundary) 0))
-    where
-      go : (b : Bool) → flagAt (cond b (boundaryDevices ds) ds) ≡ digit old
-      go true = at-same kind ds (boundaryDevices ds) (device - 1) (boundary-flags kind ds) ∙ h
       go false = h
   flag-after ds (fault n k flag) old l h = rw (after-effect ds (fault n k flag)) (go (eqb (refusalOf ds (fault n k flag)) 0) refl)
     where

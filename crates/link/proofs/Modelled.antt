@@ -1,5 +1,5 @@
--- What is not a clock, seen in the model: a fresh device, a frame boundary, a fault setting; then every accepted call on a chain. By cases on
--- the call: a run is `chain-agree`, the others change registers that no phase looks at. Assumes nothing.
+-- What is not a clock, seen in the model: a fresh device, a fault setting; then every accepted call on a chain. By cases on the call: a run is
+-- `through-agree`, a fault setting changes registers that no phase looks at. Assumes nothing.
 use mathlib.Core.Path.{_≡_, refl, ap, _∙_}
 use mathlib.Core.Bool.{Bool, true, false, cond}
 use mathlib.Core.List.{List, [], _∷_, map}
@@ -21,19 +21,18 @@ use Rattle.registers.specs.declared.registers.Registers.{Registers}
 use Rattle.device.specs.declared.device.Device.{Device}
 use Rattle.tables.proofs.Booleans.{and-both, cond-both}
 use Rattle.calls.specs.Chain.{allFit, blank}
-use Rattle.calls.specs.Calls.{runRefusal}
+use Rattle.calls.specs.Calls.{runRefusal, runDevices, returned}
 use Rattle.calls.proofs.Accepted.{accepted-run}
-use Rattle.calls.specs.History.{Call, fresh, run, boundary, fault, refusalOf, effect, after, given, answered}
+use Rattle.calls.specs.History.{Call, fresh, run, fault, refusalOf, effect, after, given, answered}
 use Rattle.model.specs.Lists.{All}
 use Rattle.model.proofs.Lists.{take-replicate}
-use Rattle.machine.specs.Machine.{chain}
 use Rattle.model.specs.Device as model
-use Rattle.device.specs.Run.{stepRecord}
-use Rattle.link.specs.View.{registersOf, phaseIn, deviceOf, Arrays}
-use Rattle.link.specs.Called.{called}
-use Rattle.link.proofs.View.{Sound}
-use Rattle.link.proofs.Device.{chain-agree}
-use Rattle.link.proofs.Calls.{after-effect, showing-phase, boundary-same, ran-one}
+use Rattle.clocked.specs.Clock.{Clocked}
+use Rattle.link.specs.View.{registersOf, phaseIn, deviceOf, clockedOf, Arrays}
+use Rattle.link.specs.Called.{flagSet, called}
+use Rattle.link.proofs.View.{Sound, showing-phase}
+use Rattle.link.proofs.Device.{through-agree}
+use Rattle.link.proofs.Calls.{after-effect, ran-one}
 
 one-digit : (b : Bool) → isOne (digit b) ≡ b
 one-digit true = refl
@@ -54,7 +53,7 @@ replicate-map f (suc n) x = rw (replicate-map f n x)
 
 -- ---- a fault setting
 
-pub flagged-registers : (r : Registers) (kind : ℕ) (flag : Bool) → registersOf (flagged r kind (digit flag)) ≡ model.flagged kind flag (registersOf r)
+flagged-registers : (r : Registers) (kind : ℕ) (flag : Bool) → registersOf (flagged r kind (digit flag)) ≡ model.flagged kind flag (registersOf r)
 flagged-registers r kind flag = go (eqb kind 0)
   where
     go : (b : Bool)
@@ -77,9 +76,17 @@ flagged-phase r kind flag p =
     (λ _. showing-phase r flag (r .openled) (r .active) (r .active0) (r .active1) p)
     (λ _. showing-phase r (r .overtemperature) flag (r .active) (r .active0) (r .active1) p)
 
-fault-same : (d : Device) (kind : ℕ) (flag : Bool) → deviceOf (faulted d kind (digit flag)) ≡ model.faulted kind flag (deviceOf d)
+flagged-position : (r : Registers) (kind flag : ℕ) → (flagged r kind flag) .position ≡ r .position
+flagged-position r kind flag = cond-both (λ (q : Registers). q .position ≡ r .position) (eqb kind 0) _ _ (λ _. refl) (λ _. refl)
+
+pub fault-same : (d : Device) (kind : ℕ) (flag : Bool) → clockedOf (faulted d kind (digit flag)) ≡ flagSet kind flag (clockedOf d)
 unfolding deviceOf
-fault-same d kind flag = rw (flagged-registers (d .registers) kind flag, flagged-phase (d .registers) kind (digit flag) (phaseOf (d .place)))
+fault-same d kind flag =
+    rw (
+      flagged-registers (d .registers) kind flag,
+      flagged-phase (d .registers) kind (digit flag) (phaseOf (d .place)),
+      flagged-position (d .registers) kind (digit flag),
+    )
 
 set-map : {A B : Type 0} (f : A → B) (xs : List A) (i : ℕ) (x : A) → map f (set xs i x) ≡ set (map f xs) i (f x)
 set-map f [] i x = refl
@@ -105,20 +112,19 @@ accepted-after : (ds : List Device) (c : Call) → refusalOf ds c ≡ 0 → afte
 accepted-after ds c e = after-effect ds c ∙ rw (eq-eqb (refusalOf ds c) 0 e)
 
 pub call-same : (ds : List Device) (c : Call) → All Arrays ds → refusalOf ds c ≡ 0
-    → _≡_ {A = List model.Device × List State} (map deviceOf (after ds c), map stateAt (answered ds c)) (called (map deviceOf ds) c)
+    → _≡_ {A = List Clocked × List State} (map clockedOf (after ds c), map stateAt (answered ds c)) (called (map clockedOf ds) c)
 call-same ds (fresh part) a e =
-    rw (accepted-after ds (fresh part) e, length-map, replicate-map deviceOf (length ds) (freshDevice part), fresh-same part)
+    rw (accepted-after ds (fresh part) e, length-map, replicate-map clockedOf (length ds) (freshDevice part), fresh-same part)
 call-same ds (run ss out) a e =
     let f = accepted-given ds ss out e in
     let x = ran-one ds ss out in
-    ap (λ (y : List Device × List ℕ). (map deviceOf (y .0), map stateAt (y .1))) x
-    ∙ ap (λ (zs : List ℕ). (map deviceOf ((chain stepRecord ds zs) .0), map stateAt ((chain stepRecord ds zs) .1))) f
-    ∙ chain-agree ds ss (all-sound ds (accepted-fit ds ss out e) a)
-call-same ds boundary a e = rw (accepted-after ds boundary e, boundary-same ds)
+    ap (λ (y : List Device × List ℕ). (map clockedOf (y .0), map stateAt (y .1))) x
+    ∙ ap (λ (zs : List ℕ). (map clockedOf (runDevices ds zs), map stateAt (returned ds zs))) f
+    ∙ through-agree ds ss (all-sound ds (accepted-fit ds ss out e) a)
 call-same ds (fault device kind flag) a e =
     rw (
       accepted-after ds (fault device kind flag) e,
-      set-map deviceOf ds (device - 1) (faulted (getD ds (device - 1) blank) kind (digit flag)),
+      set-map clockedOf ds (device - 1) (faulted (getD ds (device - 1) blank) kind (digit flag)),
       fault-same (getD ds (device - 1) blank) kind flag,
-      List·getD-map deviceOf ds (device - 1) blank,
+      List·getD-map clockedOf ds (device - 1) blank,
     )

@@ -1,12 +1,16 @@
 -- A record that the model's laws speak of, a step of it as the model sees it, and one bit of a field in the model. Assumes nothing.
-use mathlib.Core.Path.{_≡_, ap}
+use mathlib.Core.Path.{_≡_, refl, ap}
 use mathlib.Core.Bool.{Bool, true}
 use mathlib.Core.List.{List, [], _∷_, _++_, map}
 use Prim.Native.Nat.{ℕ, suc}
 use Rattle.parts.specs.Wire.{State, high, stateAt}
-use Rattle.device.specs.Step.{sentStates, at, sending, step}
+use Rattle.device.specs.Step.{sentStates, sending}
 use Rattle.device.specs.Judgement.{fits}
+use Rattle.phases.specs.Phases.{phaseOf}
 use Rattle.phases.specs.declared.phase.Phase.{Phase}
+use Rattle.phases.specs.declared.phase.Phase.the-variants.{Hunting, Opening, Counting, Slice, Passing, Lost}
+use Rattle.positions.specs.Positions.{placedAt}
+use Rattle.registers.specs.Held.{showing}
 use Rattle.phases.specs.declared.phase.Sent.{Sent}
 use Rattle.registers.specs.declared.registers.Registers.{Registers}
 use Rattle.device.specs.declared.device.Device.{Device}
@@ -14,7 +18,7 @@ use Rattle.device.specs.declared.device.Stepped.{Stepped}
 use Rattle.phases.proofs.Places.{Small, phase-place}
 use Rattle.model.specs.Device.{taking, finish, stepDevice}
 use Rattle.model.specs.Device as model
-use Rattle.link.specs.View.{viewed, deviceOf, Arrays}
+use Rattle.link.specs.View.{phaseIn, viewed, deviceOf, Arrays}
 
 -- a record that fits, whose arrays have the lengths that their types say
 pub record Sound (d : Device) : Type 0 where
@@ -31,6 +35,32 @@ seen s = (deviceOf (s .device), map stateAt (sentStates (s .sent)))
 pub seen-sending : (r : Registers) (p : Phase) (x : Sent) → Small p → seen (sending r p x) ≡ (viewed r p, map stateAt (sentStates x))
 unfolding seen deviceOf
 seen-sending r p x h = ap (λ (q : Phase). (viewed r q, map stateAt (sentStates x))) (phase-place p h)
+
+-- ---- what no phase looks at
+
+-- flags and active values
+pub showing-phase : (r : Registers) (overtemperature openled active : ℕ) (active0 active1 : List ℕ) (p : Phase)
+    → phaseIn (showing r overtemperature openled active active0 active1) p ≡ phaseIn r p
+showing-phase r overtemperature openled active active0 active1 (Hunting w) = refl
+showing-phase r overtemperature openled active active0 active1 (Opening read) = refl
+showing-phase r overtemperature openled active active0 active1 (Counting c read) = refl
+showing-phase r overtemperature openled active active0 active1 (Slice c n t) = refl
+showing-phase r overtemperature openled active active0 active1 Passing = refl
+showing-phase r overtemperature openled active active0 active1 Lost = refl
+
+-- the position
+placed-phase : (r : Registers) (n : ℕ) (p : Phase) → phaseIn (placedAt r n) p ≡ phaseIn r p
+placed-phase r n (Hunting w) = refl
+placed-phase r n (Opening read) = refl
+placed-phase r n (Counting c read) = refl
+placed-phase r n (Slice c k t) = refl
+placed-phase r n Passing = refl
+placed-phase r n Lost = refl
+
+-- the device is the same at any position
+pub device-placed : (d : Device) (n : ℕ) → deviceOf (record { registers = placedAt (d .registers) n; place = d .place }) ≡ deviceOf d
+unfolding deviceOf
+device-placed d n = rw (placed-phase (d .registers) n (phaseOf (d .place)))
 
 -- ---- fields of bits
 

@@ -1,17 +1,22 @@
--- The four calls on a chain of the model's devices: what an accepted one makes of them, and what the last device sends.
-use Prim.Native.Nat.{_-_}
+-- The three calls on a chain of the model's devices, each with its clock: what an accepted one makes of them, and what the last device sends.
+use Prim.Native.Nat.{ℕ, _-_}
+use mathlib.Core.Bool.{Bool}
 use mathlib.Core.List.{List, [], map}
 use lib.ListN.{length, getD, set, replicate}
 use Rattle.parts.specs.Parts.{partOf}
 use Rattle.parts.specs.Wire.{State, stateAt}
 use Rattle.calls.specs.Chain.{blank}
-use Rattle.calls.specs.History.{Call, fresh, run, boundary, fault}
-use Rattle.model.specs.Device as model
-use Rattle.link.specs.View.{deviceOf}
+use Rattle.calls.specs.History.{Call, fresh, run, fault}
+use Rattle.model.specs.Device.{freshDevice, faulted}
+use Rattle.clocked.specs.Clock.{Clocked, runClocked}
+use Rattle.link.specs.View.{clockedOf}
 
--- fresh devices of the part told; a run of the states; a frame boundary for all; the flag of one device, counted from 1
-abbrev pub called : List model.Device → Call → List model.Device × List State
-called ds (fresh part) = (replicate (length ds) (model.freshDevice (partOf part)), [])
-called ds (run ss out) = model.runChain ds (map stateAt ss)
-called ds boundary = (model.boundary ds, [])
-called ds (fault device kind flag) = (set ds (device - 1) (model.faulted kind flag (getD ds (device - 1) (deviceOf blank))), [])
+-- a device whose flag of a kind is set, at its position
+abbrev pub flagSet : ℕ → Bool → Clocked → Clocked
+flagSet kind flag c = record { device = faulted kind flag (c .device); position = c .position }
+
+-- fresh devices of the part told, at position 0; a run of the states; the flag of one device, counted from 1
+abbrev pub called : List Clocked → Call → List Clocked × List State
+called cs (fresh part) = (replicate (length cs) (record { device = freshDevice (partOf part); position = 0 }), [])
+called cs (run ss out) = runClocked cs (map stateAt ss)
+called cs (fault device kind flag) = (set cs (device - 1) (flagSet kind flag (getD cs (device - 1) (clockedOf blank))), [])

@@ -1,5 +1,6 @@
--- A record seen as a device of the model: what its part uses of its registers, field by field, its phase with the bits that have come as a list. A record keeps the
--- command bits and the count bits as a number after a leading one, and the bits of a slice in the slice's fields.
+-- A record seen as a device of the model: what its part uses of its registers, field by field, its phase with the bits that have come as a list,
+-- and its position. A record keeps the command bits and the count bits as a number after a leading one, and the bits of a slice in the slice's
+-- fields.
 use mathlib.Core.Path.{_≡_}
 use mathlib.Core.Bool.{Bool, cond}
 use mathlib.Core.List.{List, [], _∷_, _++_, map}
@@ -20,6 +21,7 @@ use Rattle.model.specs.Device.{hunting, lost, taking, passing, command, count, 
 use Rattle.model.specs.Device as model
 use Rattle.model.specs.Set.{Own}
 use Rattle.model.specs.Restore.{RegistersHold}
+use Rattle.clocked.specs.Clock.{Clocked}
 
 -- ---- bits as a record keeps them
 
@@ -60,9 +62,13 @@ phaseIn r Lost = lost
 abbrev pub viewed : Registers → Phase → model.Device
 viewed r p = model.at (registersOf r) (phaseIn r p)
 
--- the whole record
+-- the whole record but for its position
 unfoldable pub deviceOf : Device → model.Device
 deviceOf d = viewed (d .registers) (phaseOf (d .place))
+
+-- the whole record
+abbrev pub clockedOf : Device → Clocked
+clockedOf d = record { device = deviceOf d; position = d .registers .position }
 
 -- arrays with the lengths that their types say
 pub record Sizes (r : Registers) : Type 0 where

@@ -70,7 +70,7 @@ piece-law ds rs p l e h f =
     let m : (0 + faults (p .kind) rs) % 1024 ≡ faults (p .kind) rs = omega (arith, howMany-le (fault (p .kind)) rs) in
     rw (rw (q, m) at (framed-all (p .edge) (p .kind) a 0 (p .slices) (p .tail) (rw length-chain l) (omega arith) (rw q f)), return-states)
 
-registers-passings : (rs : List Registers) → registersIn (passings rs) ≡ rs
+pub registers-passings : (rs : List Registers) → registersIn (passings rs) ≡ rs
 registers-passings [] = refl
 registers-passings (r ∷ rs) = rw (registers-passings rs)
 
@@ -83,14 +83,14 @@ length-load c [] rs = refl
 length-load c (s ∷ ss) [] = refl
 length-load c (s ∷ ss) (r ∷ rs) = ap suc (length-load c ss rs)
 
-overtemperature-kept : (c : Command) (s : List Bool) (r : Registers) → (load c s r) .overtemperature ≡ r .overtemperature
+pub overtemperature-kept : (c : Command) (s : List Bool) (r : Registers) → (load c s r) .overtemperature ≡ r .overtemperature
 unfolding load
 overtemperature-kept Individual s r = refl
 overtemperature-kept Calibration s r = refl
 overtemperature-kept Global s r = refl
 overtemperature-kept Configuration s r = refl
 
-openled-kept : (c : Command) (s : List Bool) (r : Registers) → (load c s r) .openled ≡ r .openled
+pub openled-kept : (c : Command) (s : List Bool) (r : Registers) → (load c s r) .openled ≡ r .openled
 unfolding load
 openled-kept Individual s r = refl
 openled-kept Calibration s r = refl
@@ -123,7 +123,7 @@ Calibrated w o r = Configured w o r × (r .calibration ≡ o .calibration)
 abbrev pub GlobalWaiting : Part → Own → Registers → Type 0
 GlobalWaiting w o r = Calibrated w o r × (r .waiting .global ≡ o .global)
 
-abbrev AllWaiting : Part → Own → Registers → Type 0
+abbrev pub AllWaiting : Part → Own → Registers → Type 0
 AllWaiting w o r = GlobalWaiting w o r × InUse (multiplexed (o .configuration)) (o .individual) (r .waiting .mux0) (r .waiting .mux1)
 
 -- a device's own slice has the length that its registers ask for
@@ -208,7 +208,7 @@ pieces-then : (ds : List Device) (p : Piece) (ps : List Piece) {t u : List Devic
 unfolding sendPieces
 pieces-then ds p ps e f = rw (e, f)
 
-to-holds : (w : Part) (o : Own) (r : Registers) → AllWaiting w o r → RegistersHold o (activated r)
+pub to-holds : (w : Part) (o : Own) (r : Registers) → AllWaiting w o r → RegistersHold o (activated r)
 unfolding activated
 to-holds w o r h = record { configuration = h .0 .0 .0 .1; calibration = h .0 .0 .1; global = h .0 .1; individual = h .1 }
 
@@ -229,7 +229,7 @@ module _ (w : Part) (os : List Own) (rs : List Registers) (b : Pairwise (Ready w
   pub stage3 : Pairwise (GlobalWaiting w) os (afterFrame w os Global (afterFrame w os Calibration (afterFrame w os Configuration rs)))
   stage3 = pairwise-load w Global (Calibrated w) (GlobalWaiting w) (to-global w) os _ stage2
 
-  stage4 : Pairwise (AllWaiting w) os (afterFour w os rs)
+  pub stage4 : Pairwise (AllWaiting w) os (afterFour w os rs)
   stage4 = pairwise-load w Individual (GlobalWaiting w) (AllWaiting w) (to-all w) os _ stage3
 
 module _ (w : Part) (os : List Own) (edge : Command → Edge) (gap tail : Command → List Bool) where

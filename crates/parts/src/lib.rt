@@ -16,6 +16,7 @@ pub use part::Max6973;
 pub use part::Max6974;
 pub use part::Max6975;
 pub use part::constants_of;
+pub use part::frame_clocks;
 pub use part::is_known;
 pub use part::outputs_of;
 pub use part::row_of;

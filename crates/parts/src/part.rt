@@ -1,6 +1,6 @@
 // Each part carries its own constants. A number that is no part's is read as the last row's; `is_known` tells them apart.
 ghost use mathlib.Core.Path.{_≡_};
-ghost use Rattle.parts.specs.Parts.{known, partOf, rowIndex, outputs, limit, subframes, constantsOf};
+ghost use Rattle.parts.specs.Parts.{known, partOf, rowIndex, outputs, limit, subframes, frameClocks, constantsOf};
 
 pub struct Max6972;
 
@@ -197,4 +197,13 @@ pub fn subframes_of(part: u16, configuration: u8) -> u16
     } else {
         Max6975::SUBFRAMES[column]
     }
+}
+
+// Clocks of a frame.
+pub fn frame_clocks(part: u16, configuration: u8) -> u32
+    ensures { λ r. ⌜ r ≡ frameClocks (partOf part) configuration ⌝ }
+{
+    let subframes = subframes_of(part, configuration) as u32;
+    let phases = 1 + (configuration % 2) as u32;
+    subframes * (phases * (constants_of(part).clocks as u32))
 }

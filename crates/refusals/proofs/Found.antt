@@ -6,19 +6,19 @@ use mathlib.Core.List.{List, [], _∷_, _++_}
 use Prim.Native.Nat.{ℕ, _+_, _-_, _<_, _≤_}
 use native.Mathlib.Omega.{arith}
 use lib.Dec.{ltb, leb}
-use lib.ListN.{length}
+use lib.ListN.{length, getD}
 use borrow.Author.Tests.{ltb-true, ltb-false, lt-ltb, le-ltb}
-use Rattle.parts.specs.Parts.{known, isCount}
+use Rattle.parts.specs.Parts.{known, partOf, outputs, isCount}
 use Rattle.tables.specs.Refusals.{Row, _when_, first}
 use Rattle.tables.specs.Lists.{allBelow}
 use Rattle.device.specs.Judgement.{fits}
 use Rattle.device.specs.declared.device.Device.{Device}
-use Rattle.calls.specs.Chain.{allKnown, sameParts, allFit}
-use Rattle.calls.specs.Calls.{roomFor, chainRows, freshTable, freshRefusal, runRefusal, boundaryRefusal, faultRefusal}
+use Rattle.calls.specs.Chain.{allKnown, sameParts, allFit, blank}
+use Rattle.calls.specs.Calls.{roomFor, chainRows, freshTable, freshRefusal, runRefusal, faultRefusal}
 use Rattle.judgement.specs.Judging.{unjudged, judgedFrom}
-use Rattle.refusals.specs.Rows.{judgedRows, runRows, boundaryRows, isDevice, faultRows}
+use Rattle.refusals.specs.Rows.{judgedRows, runRows, isDevice, faultRows, outputRows}
 use Rattle.tables.proofs.Booleans.{and-assoc}
-use Rattle.judgement.proofs.Judged.{known-found, fits-found, same-found}
+use Rattle.judgement.proofs.Judged.{known-found, fits-found, same-found, part-found}
 
 -- a table with the rows of a chain's records before a call's own
 abbrev rowsWith : Bool → Bool → ℕ → List Row → List Row
@@ -39,16 +39,24 @@ pub run-refusal-found : (ds : List Device) (ss : List ℕ) (room : ℕ) → firs
 unfolding runRefusal
 run-refusal-found ds ss room = rows-found ds (λ b. (5 when ltb room (roomFor (length ss))) ∷ (13 when not (allBelow ss 4 && b)) ∷ [])
 
-pub boundary-refusal-found : (ds : List Device) → first (boundaryRows (judgedFrom unjudged ds) (length ds)) ≡ boundaryRefusal ds
-unfolding boundaryRefusal
-boundary-refusal-found ds = rows-found ds (λ b. (13 when not b) ∷ [])
-
 pub fault-refusal-found : (ds : List Device) (device kind : ℕ)
     → first (faultRows (judgedFrom unjudged ds) (length ds) device kind) ≡ faultRefusal ds device kind
 unfolding faultRefusal
 fault-refusal-found ds device kind =
     rows-found ds (λ b. (13 when not (isDevice (length ds) device && (ltb kind 2 && b))) ∷ [])
     ∙ ap (λ (b : Bool). first (chainRows ds ++ (13 when not b) ∷ [])) (and-assoc (leb 1 device) (leb device (length ds)) (ltb kind 2 && allFit ds))
+
+-- the rows of a question about an output, with the first record's part
+pub output-refusal-found : (ds : List Device) (device output : ℕ)
+    → first (outputRows (judgedFrom unjudged ds) (length ds) device output)
+    ≡ first (chainRows ds
+    ++ (13 when not (leb 1 device && (leb device (length ds) && (ltb output (outputs (partOf (getD ds 0 blank .registers .part))) && allFit ds)))) ∷ [])
+output-refusal-found ds device output =
+    rows-found ds (λ b. (13 when not (isDevice (length ds) device && (ltb output (outputs (partOf (judgedFrom unjudged ds .part))) && b))) ∷ [])
+    ∙ ap (λ (n : ℕ). first (chainRows ds ++ (13 when not (isDevice (length ds) device && (ltb output (outputs (partOf n)) && allFit ds))) ∷ []))
+    (part-found ds)
+    ∙ ap (λ (b : Bool). first (chainRows ds ++ (13 when not b) ∷ []))
+    (and-assoc (leb 1 device) (leb device (length ds)) (ltb output (outputs (partOf (getD ds 0 blank .registers .part))) && allFit ds))
 
 -- ---- room for n + 23, with no sum
 

@@ -5,7 +5,7 @@ use mathlib.Core.Bool.{Bool, not, _&&_}
 use mathlib.Core.List.{List, [], _∷_, _++_}
 use lib.Dec.{ltb, leb}
 use lib.ListN.{length}
-use Rattle.parts.specs.Parts.{isCount}
+use Rattle.parts.specs.Parts.{partOf, outputs, isCount}
 use Rattle.tables.specs.Refusals.{Row, _when_}
 use Rattle.tables.specs.Lists.{allBelow}
 use Rattle.calls.specs.Calls.{roomFor}
@@ -19,10 +19,6 @@ judgedRows j n = (1 when not (j .known)) ∷ (2 when not (isCount n)) ∷ (4 whe
 abbrev pub runRows : Judged → ℕ → List ℕ → ℕ → List Row
 runRows j n ss room = judgedRows j n ++ (5 when ltb room (roomFor (length ss))) ∷ (13 when not (allBelow ss 4 && j .fits)) ∷ []
 
--- the rows of a frame boundary
-abbrev pub boundaryRows : Judged → ℕ → List Row
-boundaryRows j n = judgedRows j n ++ (13 when not (j .fits)) ∷ []
-
 -- devices are numbered from 1
 abbrev pub isDevice : ℕ → ℕ → Bool
 isDevice n device = leb 1 device && leb device n
@@ -30,3 +26,7 @@ isDevice n device = leb 1 device && leb device n
 -- the rows of a fault setting
 abbrev pub faultRows : Judged → ℕ → ℕ → ℕ → List Row
 faultRows j n device kind = judgedRows j n ++ (13 when not (isDevice n device && (ltb kind 2 && j .fits))) ∷ []
+
+-- the rows of a question about an output, of which the first record's part says how many there are
+abbrev pub outputRows : Judged → ℕ → ℕ → ℕ → List Row
+outputRows j n device output = judgedRows j n ++ (13 when not (isDevice n device && (ltb output (outputs (partOf (j .part))) && j .fits))) ∷ []

@@ -5,7 +5,8 @@ ghost use lib.Dec.{ltb};
 ghost use Rattle.tables.specs.Lists.{allBelow};
 ghost use Rattle.tables.specs.Refusals.{first};
 ghost use Rattle.calls.specs.Calls.{freshTable, roomFor};
-ghost use Rattle.refusals.specs.Rows.{judgedRows, runRows, boundaryRows, isDevice, faultRows};
+ghost use Rattle.parts.specs.Parts.{partOf, outputs};
+ghost use Rattle.refusals.specs.Rows.{judgedRows, runRows, isDevice, faultRows, outputRows};
 use judgement::Judged;
 
 // A run.
@@ -32,17 +33,6 @@ pub fn fresh_refusal(part: u16, n: usize) -> u8
     if parts::is_count(n) { 0 } else { 2 }
 }
 
-// A frame boundary.
-pub fn boundary_refusal(judged: Judged, n: usize) -> u8
-    ensures { λ r. ⌜ r ≡ first (boundaryRows judged n) ⌝ }
-{
-    let number = part_refusal(judged, n);
-    if number != 0 {
-        return number;
-    }
-    if judged.fits { 0 } else { 13 }
-}
-
 // A fault setting.
 pub fn fault_refusal(judged: Judged, n: usize, device: usize, kind: u8) -> u8
     ensures { λ r. ⌜ r ≡ first (faultRows judged n device kind) ⌝ }
@@ -52,6 +42,21 @@ pub fn fault_refusal(judged: Judged, n: usize, device: usize, kind: u8) -> u8
         return number;
     }
     if fault_fits(judged, n, device, kind) {
+        0
+    } else {
+        13
+    }
+}
+
+// A question about an output.
+pub fn output_refusal(judged: Judged, n: usize, device: usize, output: u32) -> u8
+    ensures { λ r. ⌜ r ≡ first (outputRows judged n device output) ⌝ }
+{
+    let number = part_refusal(judged, n);
+    if number != 0 {
+        return number;
+    }
+    if output_fits(judged, n, device, output) {
         0
     } else {
         13
@@ -93,6 +98,13 @@ fn fault_fits(judged: Judged, n: usize, device: usize, kind: u8) -> bool
     ensures { λ r. ⌜ r ≡ (isDevice n device && (ltb kind 2 && judged .fits)) ⌝ }
 {
     is_device(n, device) && (kind < 2 && judged.fits)
+}
+
+// There is such a device, and such an output.
+fn output_fits(judged: Judged, n: usize, device: usize, output: u32) -> bool
+    ensures { λ r. ⌜ r ≡ (isDevice n device && (ltb output (outputs (partOf (judged .part))) && judged .fits)) ⌝ }
+{
+    is_device(n, device) && ((output as usize) < parts::outputs_of(judged.part) && judged.fits)
 }
 
 fn is_device(n: usize, device: usize) -> bool

@@ -1,4 +1,4 @@
--- What a device holds: its registers, a bit going into the slice, the count sent on, a frame boundary, a fault setting, and the registers of
+-- What a device holds: its registers, a bit going into the slice, the count sent on, waiting values that become active, a fault setting, and the registers of
 -- a fresh device.
 use Prim.Native.Nat.{ℕ, _+_, _%_}
 use mathlib.Core.Bool.{cond}
@@ -27,6 +27,7 @@ holding r configuration calibration waiting waiting0 waiting1 slice =
       active0 = r .active0;
       active1 = r .active1;
       slice = slice;
+      position = r .position;
     }
 
 -- the registers with another slice coming in
@@ -56,7 +57,7 @@ fault r Configuration = r .openled
 abbrev pub raised : ℕ → ℕ → ℕ
 raised count flag = cond (eqb flag 0) (count % 1024) ((count + 1) % 1024)
 
--- ---- what is not a clock
+-- ---- what no line state changes
 
 -- the registers with new fault flags and active values, and all else as it was
 abbrev pub showing : Registers → ℕ → ℕ → ℕ → List ℕ → List ℕ → Registers
@@ -74,9 +75,10 @@ showing r overtemperature openled active active0 active1 =
       active0 = active0;
       active1 = active1;
       slice = r .slice;
+      position = r .position;
     }
 
--- a frame boundary: waiting values become active
+-- waiting values become active
 abbrev pub activated : Registers → Registers
 activated r = showing r (r .overtemperature) (r .openled) (r .waiting) (r .waiting0) (r .waiting1)
 
@@ -102,4 +104,5 @@ zeros part =
       active0 = replicate 24 0;
       active1 = replicate 24 0;
       slice = replicate 48 0;
+      position = 0;
     }

@@ -21,6 +21,8 @@ pub struct Registers {
     pub active1: [u16; 24],
     // The slice that is coming in, field by field.
     pub slice: [u16; 48],
+    // Its position in the frame, in clocks.
+    pub position: u64,
 }
 
 // The count sent on.
@@ -85,7 +87,7 @@ impl Registers {
         }
     }
 
-    // A frame boundary: waiting values become active.
+    // Waiting values become active.
     pub fn activate(self) -> Registers
         ensures { λ r. ⌜ r ≡ activated self ⌝ }
     {
@@ -128,6 +130,7 @@ impl Registers {
             active0: [0u16; 24],
             active1: [0u16; 24],
             slice: [0u16; 48],
+            position: 0,
         }
     }
 }

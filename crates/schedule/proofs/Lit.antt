@@ -12,6 +12,8 @@ use Rattle.bits.specs.Bits.{digit}
 use Rattle.parts.specs.Parts.{Part, outputs, subframes, multiplex}
 use Rattle.subframes.specs.Subframes.{howManyFrom, isOn}
 use Rattle.schedule.specs.Answers.{positionOver}
+use Rattle.schedule.specs.Moments.{InSchedule}
+use Rattle.schedule.specs.declared.moments.Moment.{Moment}
 use Rattle.schedule.specs.Light.{total, nameNumber, litAt, litBy, isEven, inRun, litFrom, litTo, litCount, isLit, litFirst, litEnd}
 use Rattle.schedule.proofs.Sums.{total-same, total-count}
 use Rattle.tables.proofs.Booleans.{or-none, and-false, and-assoc, or-second}
@@ -167,6 +169,18 @@ position-within p configuration output subframe clock phase e =
     let g = or-none (leb (subframes p configuration) subframe) (leb (p .clocks) clock || ltb (multiplex configuration) phase) (f .1) in
     let h = or-none (leb (p .clocks) clock) (ltb (multiplex configuration) phase) (g .1) in
     (leb-false (outputs p) output (f .0), leb-false (subframes p configuration) subframe (g .0), leb-false (p .clocks) clock (h .0), ltb-false (multiplex configuration) phase (h .1))
+
+-- an output of the part at a moment of the schedule is not over
+pub moment-over :
+    (p : Part) (configuration output : ℕ) (m : Moment)
+    → output < outputs p
+    → InSchedule p configuration m
+    → positionOver p configuration output (m .subframe) (m .clock) (m .phase) ≡ false
+unfolding positionOver
+moment-over p configuration output m h i =
+    or-second (lt-leb (outputs p) output h)
+    (or-second (lt-leb (subframes p configuration) (m .subframe) (i .subframe))
+    (or-second (lt-leb (p .clocks) (m .clock) (i .clock)) (le-ltb (multiplex configuration) (m .phase) (omega (arith, i .phase)))))
 
 -- a subframe that has a clock has clock 0
 pub position-zero :

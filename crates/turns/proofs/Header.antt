@@ -19,7 +19,6 @@ use Rattle.parts.specs.declared.command.Command.{Command}
 use Rattle.parts.specs.declared.command.Command.the-variants.{Individual, Calibration, Global, Configuration}
 use Rattle.phases.specs.Phases.{phaseOf, placeOf, windowOf, pushed}
 use Rattle.device.specs.Step.{step, stepHigh, at}
-use Rattle.device.specs.Run.{stepRecord, run}
 use Rattle.phases.specs.declared.phase.Phase.{Phase}
 use Rattle.phases.specs.declared.phase.Phase.the-variants.{Opening, Counting, Slice}
 use Rattle.phases.proofs.Rising.{rising-exact}
@@ -27,6 +26,7 @@ use Rattle.registers.specs.declared.registers.Registers.{Registers}
 use Rattle.device.specs.declared.device.Device.{Device}
 use Rattle.turns.specs.Front.{sliceStart}
 use Rattle.turns.proofs.LeavingStates.{bitStates, header-parts}
+use Rattle.turns.proofs.Timed.{Timed, stamped, stepPlain, runPlain, runTimed, quiet-run}
 
 -- ---- SYNC and the command
 
@@ -43,17 +43,17 @@ eight : (w : ℕ) → synced w % 512 % 256 ≡ 0xE8
 eight w = omega arith
 
 -- SYNC, and the first command bit with the exact edge
-opens : (d : Device) (b : ℕ) (xs : List ℕ) → b < 2 → run d (1 ∷ 1 ∷ 1 ∷ 0 ∷ 1 ∷ 0 ∷ 0 ∷ 0 ∷ (2 + b) ∷ xs) ≡ run (at (d .registers) (Opening (2 + b))) xs
-unfolding machine.run stepRecord
-opens d zero xs h = ap (λ (p : Phase). run (at (d .registers) p) xs) (sym (rising-exact (synced (windowOf (phaseOf (d .place))) % 512) 0 (eight (windowOf (phaseOf (d .place))))))
-opens d (suc zero) xs h = ap (λ (p : Phase). run (at (d .registers) p) xs) (sym (rising-exact (synced (windowOf (phaseOf (d .place))) % 512) 1 (eight (windowOf (phaseOf (d .place))))))
+opens : (d : Device) (b : ℕ) (xs : List ℕ) → b < 2 → runPlain d (1 ∷ 1 ∷ 1 ∷ 0 ∷ 1 ∷ 0 ∷ 0 ∷ 0 ∷ (2 + b) ∷ xs) ≡ runPlain (at (d .registers) (Opening (2 + b))) xs
+unfolding machine.run stepPlain
+opens d zero xs h = ap (λ (p : Phase). runPlain (at (d .registers) p) xs) (sym (rising-exact (synced (windowOf (phaseOf (d .place))) % 512) 0 (eight (windowOf (phaseOf (d .place))))))
+opens d (suc zero) xs h = ap (λ (p : Phase). runPlain (at (d .registers) p) xs) (sym (rising-exact (synced (windowOf (phaseOf (d .place))) % 512) 1 (eight (windowOf (phaseOf (d .place))))))
 opens d (suc (suc b)) xs h = absurd (omega arith)
 
 commanded : (d : Device) (c : Command) (xs : List ℕ)
     → let high = code c / 2 % 2 + 2 in
     let low = code c / 1 % 2 + 2 in
-    run d (1 ∷ 1 ∷ 1 ∷ 0 ∷ 1 ∷ 0 ∷ 0 ∷ 0 ∷ high ∷ low ∷ high ∷ low ∷ high ∷ low ∷ xs) ≡ run (at (d .registers) (Counting c 1)) xs
-unfolding machine.run stepRecord
+    runPlain d (1 ∷ 1 ∷ 1 ∷ 0 ∷ 1 ∷ 0 ∷ 0 ∷ 0 ∷ high ∷ low ∷ high ∷ low ∷ high ∷ low ∷ xs) ≡ runPlain (at (d .registers) (Counting c 1)) xs
+unfolding machine.run stepPlain
 commanded d Individual xs = opens d 0 (2 ∷ 2 ∷ 2 ∷ 2 ∷ 2 ∷ xs) (omega arith)
 commanded d Calibration xs = opens d 0 (3 ∷ 2 ∷ 3 ∷ 2 ∷ 3 ∷ xs) (omega arith)
 commanded d Global xs = opens d 1 (2 ∷ 3 ∷ 2 ∷ 3 ∷ 2 ∷ xs) (omega arith)
@@ -77,8 +77,8 @@ high-load r p b e = let h : 2 ≤ b + 2 = omega arith in rw (le-ltb (b + 2) 2 h,
 module _ (r : Registers) (c : Command) (n : ℕ) where
   -- the count bits that are left, after m
   counted : (k m v : ℕ) → v ≡ m * 2 ^ suc k + n % 2 ^ suc k → 1024 ≤ v → v < 2048
-      → run (at r (Counting c m)) (bitStates (suc k) n) ≡ (at r (Slice c (v % 1024) 0), [])
-  unfolding machine.run stepRecord bitStates
+      → runPlain (at r (Counting c m)) (bitStates (suc k) n) ≡ (at r (Slice c (v % 1024) 0), [])
+  unfolding machine.run stepPlain bitStates
   counted zero m v e l u =
       let b : n / 2 ^ 0 % 2 < 2 = mod-lt (n / 2 ^ 0) (lit< tt) in
       let f : v ≡ m * 2 + n / 2 ^ 0 % 2 = omega arith in
@@ -102,7 +102,16 @@ all-count n h = omega arith
 low-count : (n : ℕ) → n < 1024 → (1024 + n) % 1024 ≡ n
 low-count n h = omega arith
 
-pub run-header : (d : Device) (c : Command) (n : ℕ) → n < 1024 → run d (statesOf (header c n)) ≡ (sliceStart d c n, [])
-run-header d c n h =
-    ap (λ (ss : List ℕ). run d ss) (header-parts c n) ∙ commanded d c (bitStates 10 n)
+plain-header : (d : Device) (c : Command) (n : ℕ) → n < 1024 → runPlain d (statesOf (header c n)) ≡ (sliceStart d c n, [])
+plain-header d c n h =
+    ap (λ (ss : List ℕ). runPlain d ss) (header-parts c n) ∙ commanded d c (bitStates 10 n)
     ∙ (rw (low-count n h) at (counted (d .registers) c n 9 1 (1024 + n) (all-count n h) (omega arith) (omega arith)))
+
+-- a device that sent nothing
+abbrev quietly : Device → Device × List Timed
+quietly d = (d, [])
+
+pub run-header : (d : Device) (c : Command) (n t : ℕ) → n < 1024 → runTimed d (stamped t (statesOf (header c n))) ≡ (sliceStart d c n, [])
+run-header d c n t h =
+    let e = plain-header d c n h in
+    quiet-run d (statesOf (header c n)) t (ap (λ (x : Device × List ℕ). x .1) e) ∙ ap quietly (ap (λ (x : Device × List ℕ). x .0) e)

@@ -8,9 +8,9 @@ use native.Mathlib.Nat.{mod-lt}
 use native.Mathlib.Omega.{arith}
 use lib.Dec.{eqb, ltb, lit<}
 use lib.ListN.{length, getD, drop, drop-of-length-le}
-use borrow.Author.Tests.{eqb-true, ne-eqb}
+use borrow.Author.Tests.{eqb-true, eq-eqb, ne-eqb, lt-ltb, le-ltb}
 use Rattle.parts.specs.Parts.{commandAt}
-use Rattle.phases.specs.Phases.{phaseOf, windowOf, heard, opened, inHeader, headed}
+use Rattle.phases.specs.Phases.{pushed, phaseOf, windowOf, heard, opened, inHeader, headed}
 use Rattle.device.specs.Step.{step, stepHigh, moved, at}
 use Rattle.phases.specs.declared.phase.Phase.{Phase}
 use Rattle.phases.specs.declared.phase.Phase.the-variants.{Hunting, Opening, Counting, Slice, Passing, Lost}
@@ -20,8 +20,9 @@ use Rattle.phases.proofs.Places.{Small, phase-place}
 use Rattle.phases.proofs.Rising.{rising-any}
 use Rattle.tables.proofs.Booleans.{cond-both}
 use Rattle.intake.proofs.Clauses.{drop-on}
-use Rattle.intake.proofs.Phases.{step-high, headed-small}
-use Rattle.turns.specs.Front.{isPassing, isLost, passes, phaseOnly, phaseStep, phaseRun}
+use Rattle.intake.proofs.Phases.{step-high, headed-small, drop-tail}
+use Rattle.turns.specs.Front.{isPassing, isLost, passes, phaseOnly, phaseStep, phaseRun, hearAll, huntsOn}
+use Rattle.turns.specs.declared.front.Heard.{Heard}
 use Rattle.turns.specs.declared.front.PhaseRun.{PhaseRun}
 
 -- ---- a passing record, by its number
@@ -124,6 +125,77 @@ unfolding phaseRun
 phaseRun-next p ss i k h e =
     ap (λ (xs : List ℕ). phaseRun p xs k) (drop-on ss i h)
     ∙ ap (λ (t : Bool). cond t (phaseRun (phaseStep p (getD ss i 0)) (drop (i + 1) ss) (k + 1)) (record { phase = p; at = k })) e
+
+-- ---- low states first
+
+hear-low : (w s : ℕ) (ss : List ℕ) (i : ℕ) → ltb s 2 ≡ true → hearAll w (s ∷ ss) i ≡ hearAll (pushed w s 512) ss (i + 1)
+unfolding hearAll
+hear-low w s ss i e = rw e refl
+
+hear-high : (w s : ℕ) (ss : List ℕ) (i : ℕ) → ltb s 2 ≡ false → hearAll w (s ∷ ss) i ≡ record { window = w; at = i }
+unfolding hearAll
+hear-high w s ss i e = rw e refl
+
+pub hear-end : (w : ℕ) (ss : List ℕ) (i k : ℕ) → length ss ≤ i → hearAll w (drop i ss) k ≡ record { window = w; at = k }
+unfolding hearAll
+hear-end w ss i k h = rw (drop-of-length-le ss h) refl
+
+pub hear-stop : (w : ℕ) (ss : List ℕ) (i k : ℕ) → i < length ss → 2 ≤ getD ss i 0 → hearAll w (drop i ss) k ≡ record { window = w; at = k }
+hear-stop w ss i k h l = ap (λ (xs : List ℕ). hearAll w xs k) (drop-on ss i h) ∙ hear-high w (getD ss i 0) (drop (i + 1) ss) k (le-ltb (getD ss i 0) 2 l)
+
+pub hear-next : (w : ℕ) (ss : List ℕ) (i k : ℕ) → i < length ss → getD ss i 0 < 2 → hearAll w (drop i ss) k ≡ hearAll (pushed w (getD ss i 0) 512) (drop (i + 1) ss) (k + 1)
+hear-next w ss i k h l = ap (λ (xs : List ℕ). hearAll w xs k) (drop-on ss i h) ∙ hear-low w (getD ss i 0) (drop (i + 1) ss) k (lt-ltb (getD ss i 0) 2 l)
+
+-- it goes on
+hear-far : (w : ℕ) (ss : List ℕ) (i : ℕ) → i ≤ hearAll w ss i .at
+unfolding hearAll
+hear-far w [] i = omega arith
+hear-far w (s ∷ ss) i =
+    let next : i + 1 ≤ hearAll (pushed w s 512) ss (i + 1) .at = hear-far (pushed w s 512) ss (i + 1) in
+    cond-both (λ (h : Heard). i ≤ h .at) (ltb s 2) (hearAll (pushed w s 512) ss (i + 1)) (record { window = w; at = i }) (λ _. omega (arith, next)) (λ _. omega arith)
+
+module _ (ss : List ℕ) where
+  -- a hunting device hears low states, and then goes on
+  hunting-on : (rest : List ℕ) (w i : ℕ) → drop i ss ≡ rest → let h : Heard = hearAll w rest i in phaseRun (Hunting w) rest i ≡ phaseRun (Hunting (h .window)) (drop (h .at) ss) (h .at)
+  unfolding hearAll
+  hunting-on [] w i e = ap (λ (xs : List ℕ). phaseRun (Hunting w) xs i) (sym e)
+  hunting-on (s ∷ rest) w i e = go (ltb s 2) refl (hunting-on rest (pushed w s 512) (i + 1) (drop-tail ss i s rest e))
+    where
+      go : (b : Bool) → ltb s 2 ≡ b
+          → (let h : Heard = hearAll (pushed w s 512) rest (i + 1) in phaseRun (Hunting (pushed w s 512)) rest (i + 1) ≡ phaseRun (Hunting (h .window)) (drop (h .at) ss) (h .at))
+          → let h : Heard = hearAll w (s ∷ rest) i in phaseRun (Hunting w) (s ∷ rest) i ≡ phaseRun (Hunting (h .window)) (drop (h .at) ss) (h .at)
+      go true f ih =
+          phaseRun-low (Hunting w) s rest i f ∙ ih
+          ∙ ap (λ (h : Heard). phaseRun (Hunting (h .window)) (drop (h .at) ss) (h .at)) (sym (hear-low w s rest i f))
+      go false f ih =
+          ap (λ (xs : List ℕ). phaseRun (Hunting w) xs i) (sym e) ∙ ap (λ (h : Heard). phaseRun (Hunting (h .window)) (drop (h .at) ss) (h .at)) (sym (hear-high w s rest i f))
+
+  -- and so does any
+  phase-on : (rest : List ℕ) (p : Phase) (i : ℕ) → drop i ss ≡ rest
+      → let h : Heard = hearAll (windowOf p) rest i in phaseRun p rest i ≡ phaseRun (huntsOn p i h) (drop (h .at) ss) (h .at)
+  unfolding hearAll
+  phase-on [] p i e =
+      ap (λ (xs : List ℕ). phaseRun p xs i) (sym e) ∙ ap (λ (b : Bool). phaseRun (cond b p (Hunting (windowOf p))) (drop i ss) i) (sym (eq-eqb i i refl))
+  phase-on (s ∷ rest) p i e = go (ltb s 2) refl
+    where
+      by : Heard → PhaseRun
+      by h = phaseRun (huntsOn p i h) (drop (h .at) ss) (h .at)
+
+      go : (b : Bool) → ltb s 2 ≡ b → phaseRun p (s ∷ rest) i ≡ by (hearAll (windowOf p) (s ∷ rest) i)
+      go true f =
+          let w : ℕ = pushed (windowOf p) s 512 in
+          let h : Heard = hearAll w rest (i + 1) in
+          let far : i + 1 ≤ h .at = hear-far w rest (i + 1) in
+          phaseRun-low p s rest i f ∙ hunting-on rest w (i + 1) (drop-tail ss i s rest e)
+          ∙ ap (λ (b : Bool). phaseRun (cond b p (Hunting (h .window))) (drop (h .at) ss) (h .at)) (sym (ne-eqb (h .at) i (λ z. omega (arith, far, z))))
+          ∙ ap by (sym (hear-low (windowOf p) s rest i f))
+      go false f =
+          ap (λ (xs : List ℕ). phaseRun p xs i) (sym e)
+          ∙ ap (λ (b : Bool). phaseRun (cond b p (Hunting (windowOf p))) (drop i ss) i) (sym (eq-eqb i i refl))
+          ∙ ap by (sym (hear-high (windowOf p) s rest i f))
+
+  pub heard-on : (p : Phase) (i : ℕ) → let h : Heard = hearAll (windowOf p) (drop i ss) i in phaseRun p (drop i ss) i ≡ phaseRun (huntsOn p i h) (drop (h .at) ss) (h .at)
+  heard-on p i = phase-on (drop i ss) p i refl
 
 -- it stays within the states
 pub record Along (ss : List ℕ) (i : ℕ) (q : PhaseRun) : Type 0 where

@@ -3,7 +3,7 @@
 -- that is not passing sends begins with a low state, and after a low state no device has a surplus.
 use mathlib.Core.Path.{_≡_, refl, subst}
 use mathlib.Core.Bool.{Bool, true, false, _&&_}
-use mathlib.Core.List.{List, [], _∷_, _++_}
+use mathlib.Core.List.{List, [], _∷_, _++_, map}
 use Prim.Native.Nat.{ℕ, suc, _+_, _-_, _*_, _/_, _%_, _^_, _<_, _≤_}
 use native.Mathlib.Nat.{lt-of-lt-of-le, lt-of-not-le, not-le-of-lt, pow-suc}
 use native.Mathlib.Omega.{arith}
@@ -13,7 +13,7 @@ use lib.Ieee.Digits.{size-lt, size-le}
 use lib.ListN.{length, length-append}
 use lib.Pow.{pow-mono}
 use borrow.Author.Tests.{ltb-true, ltb-false}
-use Rattle.machine.specs.Machine.{chain}
+use Rattle.machine.specs.Machine.{chain, All}
 use Rattle.machine.specs.Machine as machine
 use Rattle.machine.proofs.Machine.{run-nil}
 use Rattle.parts.specs.Parts.{partOf, multiplex, fieldWidth, fieldLimit}
@@ -24,9 +24,10 @@ use Rattle.parts.proofs.Laws.{usable, command-code}
 use Rattle.phases.specs.Phases.{phaseOf, placeOf, heard, rising, opened, opening, counting, samePlace}
 use Rattle.registers.specs.Held.{took, fault, raised}
 use Rattle.device.specs.Step.{step, stepHigh, moved, sliceLength, sentStates, at}
-use Rattle.device.specs.Judgement.{phaseFits, placeFits, fits}
+use Rattle.device.specs.Judgement.{phaseFits, placeFits, contentsFit, fits}
 use Rattle.widths.specs.Widths.{flagsFit, valuesFit}
-use Rattle.device.specs.Run.{stepRecord, run}
+use Rattle.device.proofs.Shown.{shown}
+use Rattle.device.proofs.Kept.{parts-of}
 use Rattle.phases.specs.declared.phase.Phase.{Phase}
 use Rattle.phases.specs.declared.phase.Phase.the-variants.{Hunting, Opening, Counting, Slice, Passing, Lost}
 use Rattle.registers.specs.declared.registers.Registers.{Registers}
@@ -36,11 +37,12 @@ use Rattle.parts.proofs.Rows.{slice-bits-some}
 use Rattle.phases.proofs.Rising.{rising-any}
 use Rattle.tables.proofs.Booleans.{and-both, cond-both}
 use Rattle.calls.specs.Chain.{through, allFit}
-use Rattle.calls.proofs.Accepted.{Accepted}
 use Rattle.turns.specs.Front.{isPassing, passes}
 use Rattle.turns.proofs.LeavingStates.{header-is, length-header-states}
 use Rattle.turns.proofs.Taking.{passer, Fine, on, ends, passes-at, fine-low, fine-step}
 use Rattle.turns.proofs.Turns.{no-way}
+use Rattle.turns.proofs.Timed.{stepPlain, runPlain, passPlain}
+use Rattle.turns.proofs.Plain.{bare, sent-plain}
 
 -- ---- bits read of a command or a count
 
@@ -136,11 +138,11 @@ step-credit : (d : Device) (s : ℕ) → Owes (credit (d .registers) (phaseOf (d
 step-credit d s =
     cond-both (Owes (credit (d .registers) (phaseOf (d .place)))) (ltb s 2) _ _ (λ _. omega arith) (λ _. high-credit (d .registers) (phaseOf (d .place)) s)
 
-run-credit : (d : Device) (xs : List ℕ) → length (run d xs .1) ≤ length xs + credit (d .registers) (phaseOf (d .place))
-unfolding machine.run stepRecord
+run-credit : (d : Device) (xs : List ℕ) → length (runPlain d xs .1) ≤ length xs + credit (d .registers) (phaseOf (d .place))
+unfolding machine.run stepPlain
 run-credit d [] = omega arith
 run-credit d (s ∷ xs) =
-    omega (arith, step-credit d s, run-credit (step d s .device) xs, length-append (sentStates (step d s .sent)) (run (step d s .device) xs .1))
+    omega (arith, step-credit d s, run-credit (step d s .device) xs, length-append (sentStates (step d s .sent)) (runPlain (step d s .device) xs .1))
 
 -- ---- what a device that is not passing sends begins with a low state
 data LowFirst : List ℕ → Type 0 where
@@ -151,42 +153,42 @@ header-low : (c : Command) (n : ℕ) (ys : List ℕ) → LowFirst (statesOf (hea
 header-low c n ys = subst (λ (xs : List ℕ). LowFirst (xs ++ ys)) (header-is c n) (low refl)
 
 abbrev outOf : Stepped → List ℕ → List ℕ
-outOf st xs = sentStates (st .sent) ++ run (st .device) xs .1
+outOf st xs = sentStates (st .sent) ++ runPlain (st .device) xs .1
 
-fine-out : (st : Stepped) (xs : List ℕ) → Fine st → ((d : Device) → passes d ≡ false → LowFirst (run d xs .1)) → LowFirst (outOf st xs)
+fine-out : (st : Stepped) (xs : List ℕ) → Fine st → ((d : Device) → passes d ≡ false → LowFirst (runPlain d xs .1)) → LowFirst (outOf st xs)
 fine-out _ xs (on {r} p e) rec = rec (at r p) (passes-at r p e)
-fine-out _ xs (ends {r} {c} {n} h) rec = header-low c n (run (passer r) xs .1)
+fine-out _ xs (ends {r} {c} {n} h) rec = header-low c n (runPlain (passer r) xs .1)
 
-quiet-out : (d : Device) (xs : List ℕ) → passes d ≡ false → LowFirst (run d xs .1)
-unfolding machine.run stepRecord
+quiet-out : (d : Device) (xs : List ℕ) → passes d ≡ false → LowFirst (runPlain d xs .1)
+unfolding machine.run stepPlain
 quiet-out d [] e = none
 quiet-out d (s ∷ xs) e = fine-out (step d s) xs (fine-step d s e) (λ d′ e′. quiet-out d′ xs e′)
 
 -- after a low state any device
-low-out : (d : Device) (s : ℕ) (xs : List ℕ) → ltb s 2 ≡ true → LowFirst (run d (s ∷ xs) .1)
-unfolding machine.run stepRecord
+low-out : (d : Device) (s : ℕ) (xs : List ℕ) → ltb s 2 ≡ true → LowFirst (runPlain d (s ∷ xs) .1)
+unfolding machine.run stepPlain
 low-out d s xs e = fine-out (step d s) xs (fine-low d s e) (λ d′ e′. quiet-out d′ xs e′)
 
 -- ---- no surplus after a low state; 23 at most before it
-low-credit : (d : Device) (s : ℕ) (xs : List ℕ) → ltb s 2 ≡ true → length (run d (s ∷ xs) .1) ≤ suc (length xs)
-unfolding machine.run stepRecord
+low-credit : (d : Device) (s : ℕ) (xs : List ℕ) → ltb s 2 ≡ true → length (runPlain d (s ∷ xs) .1) ≤ suc (length xs)
+unfolding machine.run stepPlain
 low-credit d s xs e = rw e (omega (arith, run-credit (at (d .registers) (heard (phaseOf (d .place)) s)) xs))
 
 record Tame (xs ys : List ℕ) : Type 0 where
   pub first : LowFirst ys
   pub short : length ys ≤ length xs
 
-tame : (d : Device) (xs : List ℕ) → LowFirst xs → Tame xs (run d xs .1)
-tame d [] none = rw (run-nil stepRecord d) (record { first = none; short = omega arith })
+tame : (d : Device) (xs : List ℕ) → LowFirst xs → Tame xs (runPlain d xs .1)
+tame d [] none = rw (run-nil stepPlain d) (record { first = none; short = omega arith })
 tame d (s ∷ xs) (low e) = record { first = low-out d s xs e; short = low-credit d s xs e }
 
-low-through : (ds : List Device) (xs : List ℕ) → LowFirst xs → length (through ds xs .1) ≤ length xs
+low-through : (ds : List Device) (xs : List ℕ) → LowFirst xs → length (passPlain ds xs .1) ≤ length xs
 unfolding chain
 low-through [] xs h = omega arith
-low-through (d ∷ ds) xs h = let t : Tame xs (run d xs .1) = tame d xs h in omega (arith, t .short, low-through ds (run d xs .1) (t .first))
+low-through (d ∷ ds) xs h = let t : Tame xs (runPlain d xs .1) = tame d xs h in omega (arith, t .short, low-through ds (runPlain d xs .1) (t .first))
 
 -- 23 where the record fits: of its slice a bit is left to come
-place-credit : (d : Device) → fits d ≡ true → credit (d .registers) (phaseOf (d .place)) ≤ 23
+place-credit : (d : Device) → contentsFit d ≡ true → credit (d .registers) (phaseOf (d .place)) ≤ 23
 place-credit d h =
     let p : placeFits (d .place) (d .registers) ≡ true = and-both (placeFits (d .place) (d .registers)) (flagsFit (d .registers) && valuesFit (d .registers)) h .0 in
     phase-credit (d .registers) (phaseOf (d .place)) (and-both (samePlace (placeOf (phaseOf (d .place))) (d .place)) (phaseFits (phaseOf (d .place)) (d .registers)) p .1)
@@ -207,17 +209,35 @@ passing-credit r (Slice c n t) e = absurd (no-way e)
 passing-credit r Passing e = omega arith
 passing-credit r Lost e = omega arith
 
-pub surplus : (ds : List Device) (xs : List ℕ) → allFit ds ≡ true → length (through ds xs .1) ≤ length xs + 23
+-- a record of which a bit of its slice, if it is in one, is left to come
+abbrev Modest : Device → Type 0
+Modest d = credit (d .registers) (phaseOf (d .place)) ≤ 23
+
+surplus : (ds : List Device) (xs : List ℕ) → All Modest ds → length (passPlain ds xs .1) ≤ length xs + 23
 unfolding chain
 surplus [] xs e = omega arith
-surplus (d ∷ ds) xs e = go (surplus ds (run d xs .1) (and-both (fits d) (allFit ds) e .1)) (passes d) refl
+surplus (d ∷ ds) xs e = go (surplus ds (runPlain d xs .1) (e .1)) (passes d) refl
   where
-    go : length (through ds (run d xs .1) .1) ≤ length (run d xs .1) + 23 → (u : Bool) → passes d ≡ u → length (through ds (run d xs .1) .1) ≤ length xs + 23
+    go : length (passPlain ds (runPlain d xs .1) .1) ≤ length (runPlain d xs .1) + 23 → (u : Bool) → passes d ≡ u → length (passPlain ds (runPlain d xs .1) .1) ≤ length xs + 23
     go rest true h = omega (arith, rest, run-credit d xs, passing-credit (d .registers) (phaseOf (d .place)) h)
-    go rest false h = omega (arith, low-through ds (run d xs .1) (quiet-out d xs h), run-credit d xs, place-credit d (and-both (fits d) (allFit ds) e .0))
+    go rest false h = omega (arith, low-through ds (runPlain d xs .1) (quiet-out d xs h), run-credit d xs, e .0)
 
 -- ---- an accepted run
 
--- an accepted run has room for what it returns
-pub room-enough : (ds : List Device) (ss : List ℕ) (room : ℕ) → Accepted ds ss room → length (through ds ss .1) ≤ room
-room-enough ds ss room h = omega (arith, h .enoughRoom, surplus ds ss (h .fit))
+bare-credit : (r : Registers) (p : Phase) → credit (shown 0 [] [] 0 r) p ≡ credit r p
+bare-credit r (Hunting w) = refl
+bare-credit r (Opening a) = refl
+bare-credit r (Counting c a) = refl
+bare-credit r (Slice c n t) = refl
+bare-credit r Passing = refl
+bare-credit r Lost = refl
+
+modest : (ds : List Device) → allFit ds ≡ true → All Modest (map bare ds)
+modest [] e = tt
+modest (d ∷ ds) e =
+    let b = and-both (fits d) (allFit ds) e in
+    (rw (bare-credit (d .registers) (phaseOf (d .place))) (place-credit d (parts-of d (b .0) .0)), modest ds (b .1))
+
+-- what a run returns: at most 23 states more than it is given
+pub room-enough : (ds : List Device) (ss : List ℕ) → allFit ds ≡ true → length (through ds ss .1) ≤ length ss + 23
+room-enough ds ss f = rw (sent-plain ds ss) (surplus (map bare ds) ss (modest ds f))

@@ -1,8 +1,8 @@
--- A run by its front is the plain chain: each turn leaves what is still to come as it was. Between turns the devices are those before the
+-- A run by its front is the run that knows each state's clock: each turn leaves what is still to come as it was. Between turns the devices are those before the
 -- front, which pass, and the rest; what the first ones send of the states left, after a header under way, goes into the rest.
 use mathlib.Core.Path.{_≡_, refl, ap, sym, _∙_, subst}
 use mathlib.Core.Bool.{Bool, true, false, cond, true≢false}
-use mathlib.Core.List.{List, [], _∷_, _++_, append-assoc}
+use mathlib.Core.List.{List, [], _∷_, _++_, append-assoc, map-append}
 use Prim.Native.Nat.{ℕ, zero, suc, _+_, _<_, _≤_}
 use native.Mathlib.Omega.{arith}
 use lib.Dec.{ltb, leb}
@@ -10,13 +10,12 @@ use lib.ListN.{length, getD, set, take, drop, length-append, take-append-drop}
 use lib.Seq.{set-at, set-getD, getD-at, drop-drop, drop-append-seam, length-take-le}
 use borrow.Author.Tests.{ltb-true, ltb-false, leb-true, leb-false}
 use Rattle.machine.specs.Machine.{chain}
-use Rattle.machine.proofs.Machine.{run-nil, run-then, chain-nil, chain-devices}
+use Rattle.machine.proofs.Machine.{run-nil, run-then, chain-empty, chain-nil, chain-devices}
 use Rattle.parts.specs.Wire.{header, statesOf}
 use Rattle.parts.specs.declared.command.Command.{Command}
 use Rattle.phases.specs.Phases.{phaseOf, placeOf}
 use Rattle.device.specs.Step.{sentStates}
-use Rattle.device.specs.Judgement.{fits, placeFits}
-use Rattle.device.specs.Run.{stepRecord, run}
+use Rattle.device.specs.Judgement.{contentsFit, fits, placeFits}
 use Rattle.phases.specs.declared.phase.Place.{Place}
 use Rattle.phases.specs.declared.phase.Phase.{Phase}
 use Rattle.phases.specs.declared.phase.Phase.the-variants.{Hunting, Opening, Counting, Slice, Passing, Lost}
@@ -27,18 +26,19 @@ use Rattle.device.specs.declared.device.Device.{Device}
 use Rattle.device.proofs.Places.{place-phase}
 use Rattle.intake.specs.Intake.{stopped, highTaken}
 use Rattle.intake.specs.declared.taken.Taken.{Taken}
-use Rattle.calls.specs.Chain.{through, allFit, blank}
+use Rattle.calls.specs.Chain.{allFit, blank}
 use Rattle.cursor.specs.declared.cursor.Cursor.{Cursor}
 use Rattle.cursor.specs.Cursor.{indexOf, cursor, turnByState, nextTurn}
 use Rattle.turns.specs.Front.{isPassing, passes, phaseRun, phaseTaken, frontTaken, sliceStart, deviceTaken, putAll, putEnd, highCount, frontAfter, leaveCursor, leaveOut, deviceTurn, turnedOut, Running, turning, turns, started, enough, frontRun, Turned}
 use Rattle.turns.proofs.LeavingStates.{put-full, length-put, put-append, highCount-fit, length-header-states}
+use Rattle.turns.proofs.Timed.{Timed, stamped, timed, states, stepTimed, runTimed, passOn, timed-none, timed-append, states-timed, states-stamped}
 use Rattle.turns.proofs.Header.{run-header}
 use Rattle.turns.proofs.Taking.{High, AllPass, none, also, passer, through-high, Takes, takes-none, takes, takes-low, Ending, quiet, sent, endings, ending-low}
 use Rattle.turns.proofs.Turns.{no-way, owed, low-front, leaveTurn, turnWithin, turned-is, turned-out-is, Good, measure, good-start, good-next, nearer-next, turns-on, turns-stop, near-start, under, IsNext}
 use Rattle.tables.proofs.Booleans.{and-left, and-both, cond-both}
 
 abbrev Whole : Type 0
-Whole = List Device × List ℕ
+Whole = List Device × List Timed
 
 -- what is written, and where it ends
 abbrev wrote : List ℕ → ℕ → List ℕ → List ℕ × ℕ
@@ -47,51 +47,58 @@ wrote ws w xs = (putAll ws w xs, putEnd (length ws) w (length xs))
 abbrev headerStates : Command → ℕ → List ℕ
 headerStates c n = statesOf (header c n)
 
--- the states of a header that is under way
-abbrev underWay : Sent → List ℕ
-underWay Nothing = []
-underWay (One b) = []
-underWay (Header c n) = headerStates c n
+-- the states of a header that is under way, sent in clock t
+abbrev underWay : ℕ → Sent → List Timed
+underWay t Nothing = []
+underWay t (One b) = []
+underWay t (Header c n) = stamped t (headerStates c n)
 
 -- the devices a has run; what it sent, after q, goes into qs
-abbrev joined : Whole → List Device → List ℕ → Whole
-joined a qs q = (a .0 ++ through qs (q ++ a .1) .0, through qs (q ++ a .1) .1)
+abbrev joined : Whole → List Device → List Timed → Whole
+joined a qs q = (a .0 ++ passOn qs (q ++ a .1) .0, passOn qs (q ++ a .1) .1)
 
-abbrev mid : Whole → Device → List ℕ → List Device → Whole
-mid a e q qs = (a .0 ++ (run e (a .1) .0 ∷ through qs (q ++ run e (a .1) .1) .0), through qs (q ++ run e (a .1) .1) .1)
+abbrev mid : Whole → Device → List Timed → List Device → Whole
+mid a e q qs = (a .0 ++ (runTimed e (a .1) .0 ∷ passOn qs (q ++ runTimed e (a .1) .1) .0), passOn qs (q ++ runTimed e (a .1) .1) .1)
 
 here : (a : Whole) (e : Device) (qs : List Device) → joined a (e ∷ qs) [] ≡ mid a e [] qs
 unfolding chain
 here a e qs = refl
 
-one-device : (e : Device) (ss : List ℕ) → through (e ∷ []) ss ≡ (run e ss .0 ∷ [], run e ss .1)
+one-device : (e : Device) (ss : List Timed) → passOn (e ∷ []) ss ≡ (runTimed e ss .0 ∷ [], runTimed e ss .1)
 unfolding chain
 one-device e ss = refl
 
-moves-on : (ps : List Device) (e : Device) (qs : List Device) (q rest : List ℕ) → joined (through (ps ++ (e ∷ [])) rest) qs q ≡ mid (through ps rest) e q qs
+moves-on : (ps : List Device) (e : Device) (qs : List Device) (q rest : List Timed) → joined (passOn (ps ++ (e ∷ [])) rest) qs q ≡ mid (passOn ps rest) e q qs
 moves-on ps e qs q rest =
-    ap (λ (a : Whole). joined a qs q) (chain-devices stepRecord ps (e ∷ []) rest)
-    ∙ ap (λ (b : Whole). joined (through ps rest .0 ++ b .0, b .1) qs q) (one-device e (through ps rest .1))
-    ∙ ap (λ (ds : List Device). (ds, through qs (q ++ run e (through ps rest .1) .1) .1))
-    (append-assoc (through ps rest .0) (run e (through ps rest .1) .0 ∷ []) (through qs (q ++ run e (through ps rest .1) .1) .0))
+    ap (λ (a : Whole). joined a qs q) (chain-devices stepTimed ps (e ∷ []) rest)
+    ∙ ap (λ (b : Whole). joined (passOn ps rest .0 ++ b .0, b .1) qs q) (one-device e (passOn ps rest .1))
+    ∙ ap (λ (ds : List Device). (ds, passOn qs (q ++ runTimed e (passOn ps rest .1) .1) .1))
+    (append-assoc (passOn ps rest .0) (runTimed e (passOn ps rest .1) .0 ∷ []) (passOn qs (q ++ runTimed e (passOn ps rest .1) .1) .0))
 
 -- the states that a device takes go by the devices before it, which pass: there are none, or the states are high
 goes-by : (low : Bool) (ps : List Device) (d : Device) (ss : List ℕ) (k : ℕ) (t : Taken) → AllPass ps → (low ≡ true → ps ≡ []) → (x : Takes low d ss k t)
-    → through ps (x .own ++ x .rest) ≡ (through ps (x .rest) .0, x .own ++ through ps (x .rest) .1)
-unfolding chain
-goes-by true ps d ss k t a h x =
-    subst (λ (bs : List Device). through bs (x .own ++ x .rest) ≡ (through bs (x .rest) .0, x .own ++ through bs (x .rest) .1)) (sym (h refl)) refl
-goes-by false ps d ss k t a h x = through-high ps (x .own) (x .rest) a (x .high refl)
+    → passOn ps (timed k ss) ≡ (passOn ps (timed (t .at) (x .rest)) .0, timed k (x .own) ++ passOn ps (timed (t .at) (x .rest)) .1)
+goes-by low ps d ss k t a h x =
+    ap (passOn ps)
+    (ap (timed k) (x .whole) ∙ timed-append k (x .own) (x .rest) ∙ ap (λ (n : ℕ). timed k (x .own) ++ timed n (x .rest)) (sym (x .far)))
+    ∙ by low refl
+  where
+    by : (b : Bool) → low ≡ b → passOn ps (timed k (x .own) ++ timed (t .at) (x .rest)) ≡ (passOn ps (timed (t .at) (x .rest)) .0, timed k (x .own) ++ passOn ps (timed (t .at) (x .rest)) .1)
+    by true e =
+        subst (λ (bs : List Device). passOn bs (timed k (x .own) ++ timed (t .at) (x .rest)) ≡ (passOn bs (timed (t .at) (x .rest)) .0, timed k (x .own) ++ passOn bs (timed (t .at) (x .rest)) .1))
+        (sym (h e)) (chain-empty stepTimed _ ∙ ap (λ (y : Whole). (y .0, timed k (x .own) ++ y .1)) (sym (chain-empty stepTimed (timed (t .at) (x .rest)))))
+    by false e = through-high ps (timed k (x .own)) (timed (t .at) (x .rest)) a (x .high e)
 
 -- a device takes the header that is under way and then states
-takes-on : (low : Bool) (ps qs : List Device) (d d0 : Device) (ins rest : List ℕ) (k : ℕ) (t : Taken) → AllPass ps → (low ≡ true → ps ≡ []) → run d ins ≡ (d0, []) → (x : Takes low d0 rest k t)
-    → joined (through ps rest) (d ∷ qs) ins ≡ mid (through ps (x .rest)) (t .device) (sentStates (t .sent)) qs
+takes-on : (low : Bool) (ps qs : List Device) (d d0 : Device) (ins : List Timed) (rest : List ℕ) (k : ℕ) (t : Taken) → AllPass ps → (low ≡ true → ps ≡ []) → runTimed d ins ≡ (d0, [])
+    → (x : Takes low d0 rest k t)
+    → joined (passOn ps (timed k rest)) (d ∷ qs) ins ≡ mid (passOn ps (timed (t .at) (x .rest))) (t .device) (stamped (t .at) (sentStates (t .sent))) qs
 unfolding chain
 takes-on low ps qs d d0 ins rest k t a f h x =
-    ap (λ (r : List ℕ). joined (through ps r) (d ∷ qs) ins) (x .whole)
-    ∙ ap (λ (b : Whole). joined b (d ∷ qs) ins) (goes-by low ps d0 rest k t a f x)
-    ∙ ap (λ (y : Device × List ℕ). (through ps (x .rest) .0 ++ (y .0 ∷ through qs (y .1) .0), through qs (y .1) .1))
-    (run-then stepRecord d ins (x .own ++ through ps (x .rest) .1) h (run-then stepRecord d0 (x .own) (through ps (x .rest) .1) (x .runs) refl))
+    ap (λ (b : Whole). joined b (d ∷ qs) ins) (goes-by low ps d0 rest k t a f x)
+    ∙ ap (λ (y : Device × List Timed). (passOn ps (timed (t .at) (x .rest)) .0 ++ (y .0 ∷ passOn qs (y .1) .0), passOn qs (y .1) .1))
+    (run-then stepTimed d ins (timed k (x .own) ++ passOn ps (timed (t .at) (x .rest)) .1) h
+    (run-then stepTimed d0 (timed k (x .own)) (passOn ps (timed (t .at) (x .rest)) .1) (x .runs) refl))
 
 -- ---- what holds between turns
 -- a record that passes has the numbers of that phase alone
@@ -116,6 +123,10 @@ Small (One b) = Unit {0}
 Small (Header c n) = n < 1024
 
 module _ (ss : List ℕ) (fin : List Device × (List ℕ × ℕ)) where
+  -- the states from a place on, with their clocks
+  abbrev ahead : ℕ → List Timed
+  ahead at = timed at (drop at ss)
+
   record Invariant (ys : List Device) (ws : List ℕ) (f at w : ℕ) (p : Sent) : Type 0 where
     pub ps : List Device
     pub qs : List Device
@@ -124,8 +135,8 @@ module _ (ss : List ℕ) (fin : List Device × (List ℕ × ℕ)) where
     pub passing : AllPass ps
     pub neat : AllNeat qs
     pub small : Small p
-    pub devices : joined (through ps (drop at ss)) qs (underWay p) .0 ≡ fin .0
-    pub out : wrote ws w (joined (through ps (drop at ss)) qs (underWay p) .1) ≡ fin .1
+    pub devices : joined (passOn ps (ahead at)) qs (underWay at p) .0 ≡ fin .0
+    pub out : wrote ws w (states (joined (passOn ps (ahead at)) qs (underWay at p) .1)) ≡ fin .1
 
   pass-more : (ps : List Device) (r : Registers) → AllPass ps → AllPass (ps ++ (passer r ∷ []))
   pass-more [] r a = also a
@@ -135,13 +146,17 @@ module _ (ss : List ℕ) (fin : List Device × (List ℕ × ℕ)) where
   left at k hs rest e h =
       ap (λ (n : ℕ). drop n ss) h ∙ sym (drop-drop (length hs) at ss) ∙ ap (λ (xs : List ℕ). drop (length hs) xs) e ∙ drop-append-seam hs rest
 
+  -- what is left after the states that a device took
+  left-of : (low : Bool) (d : Device) (at : ℕ) (t : Taken) (x : Takes low d (drop at ss) at t) → timed (t .at) (x .rest) ≡ ahead (t .at)
+  left-of low d at t x = ap (timed (t .at)) (sym (left at (t .at) (x .own) (x .rest) (x .whole) (x .far)))
+
   -- where a turn of the front device begins: the devices before it, the device with what is under way to it, those after it, the room, and
   -- the places of the front, the next state and the next one returned
   record Front : Type 0 where
     pub ps : List Device
     pub d : Device
     pub qs : List Device
-    pub ins : List ℕ
+    pub ins : List Timed
     pub ws : List ℕ
     pub f : ℕ
     pub at : ℕ
@@ -149,21 +164,22 @@ module _ (ss : List ℕ) (fin : List Device × (List ℕ × ℕ)) where
     pub count : length ps ≡ f
     pub passing : AllPass ps
     pub neat : AllNeat (d ∷ qs)
-    pub devices : joined (through ps (drop at ss)) (d ∷ qs) ins .0 ≡ fin .0
-    pub out : wrote ws w (joined (through ps (drop at ss)) (d ∷ qs) ins .1) ≡ fin .1
+    pub devices : joined (passOn ps (ahead at)) (d ∷ qs) ins .0 ≡ fin .0
+    pub out : wrote ws w (states (joined (passOn ps (ahead at)) (d ∷ qs) ins .1)) ≡ fin .1
 
   -- the front device became t's
   InvariantTaken : Front → Taken → Type 0
   InvariantTaken b t = Invariant (set (b .ps ++ b .d ∷ b .qs) (b .f) (t .device)) (b .ws) (frontAfter (b .f) (t .sent)) (t .at) (b .w) (t .sent)
 
   -- it becomes e and sends nothing
-  stays : (low : Bool) (b : Front) (d0 e : Device) (k : ℕ) → (low ≡ true → b .ps ≡ []) → Neat e → run (b .d) (b .ins) ≡ (d0, [])
+  stays : (low : Bool) (b : Front) (d0 e : Device) (k : ℕ) → (low ≡ true → b .ps ≡ []) → Neat e → runTimed (b .d) (b .ins) ≡ (d0, [])
       → Takes low d0 (drop (b .at) ss) (b .at) (stopped e k Nothing) → InvariantTaken b (stopped e k Nothing)
   unfolding InvariantTaken Small
   stays low b d0 e k z ne h x =
-      let m : joined (through (b .ps) (drop (b .at) ss)) (b .d ∷ b .qs) (b .ins) ≡ joined (through (b .ps) (drop k ss)) (e ∷ b .qs) [] =
-      takes-on low (b .ps) (b .qs) (b .d) d0 (b .ins) (drop (b .at) ss) (b .at) (stopped e k Nothing) (b .passing) z h x ∙ sym (here (through (b .ps) (x .rest)) e (b .qs))
-      ∙ ap (λ (r : List ℕ). joined (through (b .ps) r) (e ∷ b .qs) []) (sym (left (b .at) k (x .own) (x .rest) (x .whole) (x .far))) in
+      let m : joined (passOn (b .ps) (ahead (b .at))) (b .d ∷ b .qs) (b .ins) ≡ joined (passOn (b .ps) (ahead k)) (e ∷ b .qs) [] =
+      takes-on low (b .ps) (b .qs) (b .d) d0 (b .ins) (drop (b .at) ss) (b .at) (stopped e k Nothing) (b .passing) z h x
+      ∙ sym (here (passOn (b .ps) (timed k (x .rest))) e (b .qs))
+      ∙ ap (λ (r : List Timed). joined (passOn (b .ps) r) (e ∷ b .qs) []) (left-of low d0 (b .at) (stopped e k Nothing) x) in
       record {
         ps = b .ps;
         qs = e ∷ b .qs;
@@ -173,19 +189,19 @@ module _ (ss : List ℕ) (fin : List Device × (List ℕ × ℕ)) where
         neat = (ne, b .neat .1);
         small = tt;
         devices = sym (ap (λ (y : Whole). y .0) m) ∙ b .devices;
-        out = sym (ap (λ (y : Whole). wrote (b .ws) (b .w) (y .1)) m) ∙ b .out;
+        out = sym (ap (λ (y : Whole). wrote (b .ws) (b .w) (states (y .1))) m) ∙ b .out;
       }
 
-  after : (low : Bool) (b : Front) (d0 : Device) (t : Taken) → (low ≡ true → b .ps ≡ []) → run (b .d) (b .ins) ≡ (d0, [])
+  after : (low : Bool) (b : Front) (d0 : Device) (t : Taken) → (low ≡ true → b .ps ≡ []) → runTimed (b .d) (b .ins) ≡ (d0, [])
       → Takes low d0 (drop (b .at) ss) (b .at) t → Ending t → InvariantTaken b t
   unfolding InvariantTaken Small
   after low b d0 t z h x (quiet {d = e} {k} p) = stays low b d0 e k z (λ q. absurd (true≢false (sym q ∙ p))) h x
   after low b d0 t z h x (sent {r} {k} {c} {n} few) =
       let more : List Device = b .ps ++ (passer r ∷ []) in
-      let m : joined (through (b .ps) (drop (b .at) ss)) (b .d ∷ b .qs) (b .ins) ≡ joined (through more (drop k ss)) (b .qs) (headerStates c n) =
+      let m : joined (passOn (b .ps) (ahead (b .at))) (b .d ∷ b .qs) (b .ins) ≡ joined (passOn more (ahead k)) (b .qs) (stamped k (headerStates c n)) =
       takes-on low (b .ps) (b .qs) (b .d) d0 (b .ins) (drop (b .at) ss) (b .at) (stopped (passer r) k (Header c n)) (b .passing) z h x
-      ∙ sym (moves-on (b .ps) (passer r) (b .qs) (headerStates c n) (x .rest))
-      ∙ ap (λ (y : List ℕ). joined (through more y) (b .qs) (headerStates c n)) (sym (left (b .at) k (x .own) (x .rest) (x .whole) (x .far))) in
+      ∙ sym (moves-on (b .ps) (passer r) (b .qs) (stamped k (headerStates c n)) (timed k (x .rest)))
+      ∙ ap (λ (y : List Timed). joined (passOn more y) (b .qs) (stamped k (headerStates c n))) (left-of low d0 (b .at) (stopped (passer r) k (Header c n)) x) in
       record {
         ps = more;
         qs = b .qs;
@@ -195,13 +211,13 @@ module _ (ss : List ℕ) (fin : List Device × (List ℕ × ℕ)) where
         neat = b .neat .1;
         small = few;
         devices = sym (ap (λ (y : Whole). y .0) m) ∙ b .devices;
-        out = sym (ap (λ (y : Whole). wrote (b .ws) (b .w) (y .1)) m) ∙ b .out;
+        out = sym (ap (λ (y : Whole). wrote (b .ws) (b .w) (states (y .1))) m) ∙ b .out;
       }
 
   -- ---- the turn of a device, by what comes next
 
-  nothing-in : (d : Device) (ins : List ℕ) → ins ≡ [] → run d ins ≡ (d, [])
-  nothing-in d ins i = ap (run d) i ∙ run-nil stepRecord d
+  nothing-in : (d : Device) (ins : List Timed) → ins ≡ [] → runTimed d ins ≡ (d, [])
+  nothing-in d ins i = ap (runTimed d) i ∙ run-nil stepTimed d
 
   not-low : (ps : List Device) → false ≡ true → ps ≡ []
   not-low ps e = absurd (true≢false (sym e))
@@ -210,10 +226,10 @@ module _ (ss : List ℕ) (fin : List Device × (List ℕ × ℕ)) where
   hands-on : (b : Front) → b .ins ≡ [] → b .d ≡ passer (b .d .registers) → InvariantTaken b (stopped (b .d) (b .at) (One 0))
   unfolding InvariantTaken Small
   hands-on b i g =
-      let A : Whole = through (b .ps) (drop (b .at) ss) in
+      let A : Whole = passOn (b .ps) (ahead (b .at)) in
       let more : List Device = b .ps ++ (b .d ∷ []) in
-      let m : joined A (b .d ∷ b .qs) (b .ins) ≡ joined (through more (drop (b .at) ss)) (b .qs) [] =
-      ap (joined A (b .d ∷ b .qs)) i ∙ here A (b .d) (b .qs) ∙ sym (moves-on (b .ps) (b .d) (b .qs) [] (drop (b .at) ss)) in
+      let m : joined A (b .d ∷ b .qs) (b .ins) ≡ joined (passOn more (ahead (b .at))) (b .qs) [] =
+      ap (joined A (b .d ∷ b .qs)) i ∙ here A (b .d) (b .qs) ∙ sym (moves-on (b .ps) (b .d) (b .qs) [] (ahead (b .at))) in
       record {
         ps = more;
         qs = b .qs;
@@ -223,7 +239,7 @@ module _ (ss : List ℕ) (fin : List Device × (List ℕ × ℕ)) where
         neat = b .neat .1;
         small = tt;
         devices = sym (ap (λ (y : Whole). y .0) m) ∙ b .devices;
-        out = sym (ap (λ (y : Whole). wrote (b .ws) (b .w) (y .1)) m) ∙ b .out;
+        out = sym (ap (λ (y : Whole). wrote (b .ws) (b .w) (states (y .1))) m) ∙ b .out;
       }
 
   -- no header is under way
@@ -245,7 +261,7 @@ module _ (ss : List ℕ) (fin : List Device × (List ℕ × ℕ)) where
           (subst (λ (r : List ℕ). Takes false (b .d) r (b .at) t) (sym e) (takes (b .d) (s ∷ xs) (b .at))) (endings (b .d) (s ∷ xs) (b .at) g)
 
   -- whatever is under way
-  serves : (b : Front) (p : Sent) → b .ins ≡ underWay p → Small p
+  serves : (b : Front) (p : Sent) → b .ins ≡ underWay (b .at) p → Small p
       → ((s : ℕ) (xs : List ℕ) → drop (b .at) ss ≡ s ∷ xs → owed p ≡ 0 → ltb s 2 ≡ true → b .f ≡ 0)
       → InvariantTaken b (deviceTaken (b .d) p (drop (b .at) ss) (b .at))
   unfolding Small
@@ -253,15 +269,15 @@ module _ (ss : List ℕ) (fin : List Device × (List ℕ × ℕ)) where
   serves b (One x) i k z = fronts b (drop (b .at) ss) i refl (λ s xs e h. z s xs e refl h)
   serves b (Header c n) i k z =
       let d0 = sliceStart (b .d) c n in
-      after false b d0 (highTaken d0 (drop (b .at) ss) (b .at)) (not-low (b .ps)) (ap (run (b .d)) i ∙ run-header (b .d) c n k)
+      after false b d0 (highTaken d0 (drop (b .at) ss) (b .at)) (not-low (b .ps)) (ap (runTimed (b .d)) i ∙ run-header (b .d) c n (b .at) k)
       (takes d0 (drop (b .at) ss) (b .at)) (endings d0 (drop (b .at) ss) (b .at) refl)
 
   -- ---- the cursor of the next turn
   reset : (ys : List Device) (ws : List ℕ) (f at w : ℕ) → Invariant ys ws f at w Nothing → Invariant ys ws 0 at w Nothing
   unfolding Small chain
   reset ys ws f at w h =
-      let m : joined (through (h .ps) (drop at ss)) (h .qs) [] ≡ through ys (drop at ss) =
-      sym (chain-devices stepRecord (h .ps) (h .qs) (drop at ss)) ∙ ap (λ (b : List Device). through b (drop at ss)) (sym (h .split)) in
+      let m : joined (passOn (h .ps) (ahead at)) (h .qs) [] ≡ passOn ys (ahead at) =
+      sym (chain-devices stepTimed (h .ps) (h .qs) (ahead at)) ∙ ap (λ (b : List Device). passOn b (ahead at)) (sym (h .split)) in
       record {
         ps = [];
         qs = ys;
@@ -271,7 +287,7 @@ module _ (ss : List ℕ) (fin : List Device × (List ℕ × ℕ)) where
         neat = subst AllNeat (sym (h .split)) (neat-append (h .ps) (h .qs) (h .passing) (h .neat));
         small = tt;
         devices = sym (ap (λ (b : Whole). b .0) m) ∙ h .devices;
-        out = sym (ap (λ (b : Whole). wrote ws w (b .1)) m) ∙ h .out;
+        out = sym (ap (λ (b : Whole). wrote ws w (states (b .1))) m) ∙ h .out;
       }
 
   abbrev InvariantAt : List Device → List ℕ → Cursor → Type 0
@@ -323,7 +339,7 @@ module _ (ss : List ℕ) (fin : List Device × (List ℕ × ℕ)) where
       ∙ ap (λ (n : ℕ). (putAll (putAll ws w xs) (putEnd (length ws) w k) ys, n)) (fill-fill (length ws) w k (length ys))
       ∙ ap (λ (n : ℕ). (putAll (putAll ws w xs) (putEnd (length ws) w k) ys, putEnd n (putEnd (length ws) w k) (length ys))) (sym (length-put ws w xs))
 
-  last-out : (a : Whole) (q : List ℕ) → joined a [] q ≡ (a .0 ++ [], q ++ a .1)
+  last-out : (a : Whole) (q : List Timed) → joined a [] q ≡ (a .0 ++ [], q ++ a .1)
   unfolding chain
   last-out a q = refl
 
@@ -331,11 +347,10 @@ module _ (ss : List ℕ) (fin : List Device × (List ℕ × ℕ)) where
       → Invariant ys (putAll ws w (headerStates c n)) f at (putEnd (length ws) w 24) Nothing
   unfolding Small
   leaves ys ws f at w c n h e =
-      let A : Whole = through (h .ps) (drop at ss) in
-      let m : joined (through (h .ps) (drop at ss)) (h .qs) (headerStates c n) ≡ (through (h .ps) (drop at ss) .0 ++ [], headerStates c n ++ through (h .ps) (drop at ss) .1) =
-      ap (λ (b : List Device). joined (through (h .ps) (drop at ss)) b (headerStates c n)) e ∙ last-out (through (h .ps) (drop at ss)) (headerStates c n) in
-      let k : joined (through (h .ps) (drop at ss)) (h .qs) [] ≡ (through (h .ps) (drop at ss) .0 ++ [], through (h .ps) (drop at ss) .1) =
-      ap (λ (b : List Device). joined (through (h .ps) (drop at ss)) b []) e ∙ last-out (through (h .ps) (drop at ss)) [] in
+      let A : Whole = passOn (h .ps) (ahead at) in
+      let m : joined A (h .qs) (stamped at (headerStates c n)) ≡ (A .0 ++ [], stamped at (headerStates c n) ++ A .1) =
+      ap (λ (b : List Device). joined A b (stamped at (headerStates c n))) e ∙ last-out A (stamped at (headerStates c n)) in
+      let k : joined A (h .qs) [] ≡ (A .0 ++ [], A .1) = ap (λ (b : List Device). joined A b []) e ∙ last-out A [] in
       record {
         ps = h .ps;
         qs = h .qs;
@@ -346,37 +361,41 @@ module _ (ss : List ℕ) (fin : List Device × (List ℕ × ℕ)) where
         small = tt;
         devices = ap (λ (b : Whole). b .0) k ∙ sym (ap (λ (b : Whole). b .0) m) ∙ h .devices;
         out =
-            ap (λ (b : Whole). wrote (putAll ws w (headerStates c n)) (putEnd (length ws) w 24) (b .1)) k
-            ∙ sym (wrote-append ws w (headerStates c n) (through (h .ps) (drop at ss) .1) 24 (length-header-states c n)) ∙ sym (ap (λ (b : Whole). wrote ws w (b .1)) m) ∙ h .out;
+            ap (λ (b : Whole). wrote (putAll ws w (headerStates c n)) (putEnd (length ws) w 24) (states (b .1))) k
+            ∙ sym (wrote-append ws w (headerStates c n) (states (A .1)) 24 (length-header-states c n))
+            ∙ ap (wrote ws w) (sym (map-append (λ (x : Timed). x .state) (stamped at (headerStates c n)) (A .1) ∙ ap (λ (xs : List ℕ). xs ++ states (A .1)) (states-stamped at (headerStates c n))))
+            ∙ sym (ap (λ (b : Whole). wrote ws w (states (b .1))) m) ∙ h .out;
       }
 
-  highCount-high : (xs : List ℕ) → High (take (highCount xs) xs)
-  unfolding highCount
-  highCount-high [] = none
-  highCount-high (x ∷ xs) = go (highCount-high xs) (ltb x 2) refl
+  highCount-high : (xs : List ℕ) (k : ℕ) → High (timed k (take (highCount xs) xs))
+  unfolding highCount timed
+  highCount-high [] k = none
+  highCount-high (x ∷ xs) k = go (highCount-high xs (k + 1)) (ltb x 2) refl
     where
-      go : High (take (highCount xs) xs) → (t : Bool) → ltb x 2 ≡ t → High (take (cond t 0 (highCount xs + 1)) (x ∷ xs))
+      one : (n : ℕ) → suc n ≡ n + 1
+      one n = omega arith
+
+      go : High (timed (k + 1) (take (highCount xs) xs)) → (t : Bool) → ltb x 2 ≡ t → High (timed k (take (cond t 0 (highCount xs + 1)) (x ∷ xs)))
       go r true e = none
-      go r false e = subst (λ (n : ℕ). High (take n (x ∷ xs))) (one (highCount xs)) (also e r)
-        where
-          one : (n : ℕ) → suc n ≡ n + 1
-          one n = omega arith
+      go r false e = subst (λ (n : ℕ). High (timed k (take n (x ∷ xs)))) (one (highCount xs)) (also e r)
 
   all-pass : (ys : List Device) (ws : List ℕ) (f at w : ℕ) → (h : Invariant ys ws f at w Nothing) → h .qs ≡ []
       → Invariant ys (putAll ws w (take (highCount (drop at ss)) (drop at ss))) f (at + highCount (drop at ss)) (putEnd (length ws) w (highCount (drop at ss))) Nothing
   unfolding Small
   all-pass ys ws f at w h e =
-      let R : List ℕ = drop at ss in
-      let hs : List ℕ = take (highCount (drop at ss)) (drop at ss) in
-      let rest-is : drop (at + highCount (drop at ss)) ss ≡ drop (highCount (drop at ss)) (drop at ss) = sym (drop-drop (highCount (drop at ss)) at ss) in
-      let B : Whole = through (h .ps) (drop (at + highCount (drop at ss)) ss) in
-      let whole : drop at ss ≡ hs ++ drop (at + highCount (drop at ss)) ss =
-      sym (take-append-drop (highCount (drop at ss)) (drop at ss)) ∙ ap (λ (r : List ℕ). take (highCount (drop at ss)) (drop at ss) ++ r) (sym rest-is) in
-      let m : joined (through (h .ps) (drop at ss)) (h .qs) [] ≡ (B .0 ++ [], hs ++ B .1) =
-      ap (λ (b : List Device). joined (through (h .ps) (drop at ss)) b []) e ∙ last-out (through (h .ps) (drop at ss)) []
+      let many : ℕ = highCount (drop at ss) in
+      let hs : List ℕ = take many (drop at ss) in
+      let len : length hs ≡ many = length-take-le many (drop at ss) (highCount-fit (drop at ss)) in
+      let rest-is : drop (at + many) ss ≡ drop many (drop at ss) = sym (drop-drop many at ss) in
+      let B : Whole = passOn (h .ps) (ahead (at + many)) in
+      let whole : ahead at ≡ timed at hs ++ ahead (at + many) =
+      ap (timed at) (sym (take-append-drop many (drop at ss)) ∙ ap (λ (r : List ℕ). hs ++ r) (sym rest-is)) ∙ timed-append at hs (drop (at + many) ss)
+      ∙ ap (λ (n : ℕ). timed at hs ++ timed (at + n) (drop (at + many) ss)) len in
+      let m : joined (passOn (h .ps) (ahead at)) (h .qs) [] ≡ (B .0 ++ [], timed at hs ++ B .1) =
+      ap (λ (b : List Device). joined (passOn (h .ps) (ahead at)) b []) e ∙ last-out (passOn (h .ps) (ahead at)) []
       ∙ ap (λ (a : Whole). (a .0 ++ [], a .1))
-      (ap (λ (r : List ℕ). through (h .ps) r) whole
-      ∙ through-high (h .ps) hs (drop (at + highCount (drop at ss)) ss) (h .passing) (highCount-high (drop at ss))) in
+      (ap (λ (r : List Timed). passOn (h .ps) r) whole
+      ∙ through-high (h .ps) (timed at hs) (ahead (at + many)) (h .passing) (highCount-high (drop at ss) at)) in
       let k : joined B (h .qs) [] ≡ (B .0 ++ [], B .1) = ap (λ (b : List Device). joined B b []) e ∙ last-out B [] in
       record {
         ps = h .ps;
@@ -387,9 +406,10 @@ module _ (ss : List ℕ) (fin : List Device × (List ℕ × ℕ)) where
         neat = h .neat;
         small = tt;
         devices = ap (λ (b : Whole). b .0) k ∙ sym (ap (λ (b : Whole). b .0) m) ∙ h .devices;
-        out = ap (λ (b : Whole). wrote (putAll ws w hs) (putEnd (length ws) w (highCount (drop at ss))) (b .1)) k
-            ∙ sym (wrote-append ws w hs (B .1) (highCount (drop at ss)) (length-take-le (highCount (drop at ss)) (drop at ss) (highCount-fit (drop at ss))))
-            ∙ sym (ap (λ (b : Whole). wrote ws w (b .1)) m) ∙ h .out;
+        out = ap (λ (b : Whole). wrote (putAll ws w hs) (putEnd (length ws) w many) (states (b .1))) k
+            ∙ sym (wrote-append ws w hs (states (B .1)) many len)
+            ∙ ap (wrote ws w) (sym (map-append (λ (x : Timed). x .state) (timed at hs) (B .1) ∙ ap (λ (xs : List ℕ). xs ++ states (B .1)) (states-timed at hs)))
+            ∙ sym (ap (λ (b : Whole). wrote ws w (states (b .1))) m) ∙ h .out;
       }
 
   -- ---- a whole turn
@@ -440,7 +460,7 @@ module _ (ss : List ℕ) (fin : List Device × (List ℕ × ℕ)) where
         ps = h .ps;
         d = d;
         qs = qs;
-        ins = underWay p;
+        ins = underWay at p;
         ws = ws;
         f = f;
         at = at;
@@ -448,8 +468,8 @@ module _ (ss : List ℕ) (fin : List Device × (List ℕ × ℕ)) where
         count = h .count;
         passing = h .passing;
         neat = subst AllNeat q (h .neat);
-        devices = ap (λ (b : List Device). joined (through (h .ps) (drop at ss)) b (underWay p) .0) (sym q) ∙ h .devices;
-        out = ap (λ (b : List Device). wrote ws (c .written) (joined (through (h .ps) (drop at ss)) b (underWay p) .1)) (sym q) ∙ h .out;
+        devices = ap (λ (b : List Device). joined (passOn (h .ps) (ahead at)) b (underWay at p) .0) (sym q) ∙ h .devices;
+        out = ap (λ (b : List Device). wrote ws (c .written) (states (joined (passOn (h .ps) (ahead at)) b (underWay at p) .1))) (sym q) ∙ h .out;
       })
       p refl (h .small) (λ s xs r k u. low-front p c s xs (e ∙ ap (λ (y : List ℕ). nextTurn (c .count) f at (c .written) p y) r) k u) in
       let next-holds : InvariantAt (set (h .ps ++ d ∷ qs) f (t .device)) ws (deviceTurn d c ss .cursor) =
@@ -501,11 +521,11 @@ module _ (ss : List ℕ) (fin : List Device × (List ℕ × ℕ)) where
   ends-empty : (ys : List Device) (ws : List ℕ) (f at w : ℕ) → Invariant ys ws f at w Nothing → drop at ss ≡ [] → w ≤ length ws → Ended ys ws w
   unfolding putAll
   ends-empty ys ws f at w h e l =
-      let m : joined (through (h .ps) (drop at ss)) (h .qs) [] ≡ (h .ps ++ h .qs, []) =
-      ap (λ (r : List ℕ). joined (through (h .ps) r) (h .qs) []) e ∙ ap (λ (a : Whole). joined a (h .qs) []) (chain-nil stepRecord (h .ps))
-      ∙ ap (λ (b : Whole). (h .ps ++ b .0, b .1)) (chain-nil stepRecord (h .qs)) in (
+      let m : joined (passOn (h .ps) (ahead at)) (h .qs) [] ≡ (h .ps ++ h .qs, []) =
+      ap (λ (r : List ℕ). joined (passOn (h .ps) (timed at r)) (h .qs) []) e ∙ ap (λ (r : List Timed). joined (passOn (h .ps) r) (h .qs) []) (timed-none at) ∙ ap (λ (a : Whole). joined a (h .qs) []) (chain-nil stepTimed (h .ps))
+      ∙ ap (λ (b : Whole). (h .ps ++ b .0, b .1)) (chain-nil stepTimed (h .qs)) in (
         h .split ∙ sym (ap (λ (b : Whole). b .0) m) ∙ h .devices,
-        ap (λ (k : ℕ). (ws, k)) (full-or-not (length ws) w 0 (λ (k : ℕ). w ≡ k) (λ g. omega arith) (λ g. absurd (omega (arith, g, l)))) ∙ sym (ap (λ (b : Whole). wrote ws w (b .1)) m) ∙ h .out,
+        ap (λ (k : ℕ). (ws, k)) (full-or-not (length ws) w 0 (λ (k : ℕ). w ≡ k) (λ g. omega arith) (λ g. absurd (omega (arith, g, l)))) ∙ sym (ap (λ (b : Whole). wrote ws w (states (b .1))) m) ∙ h .out,
       )
 
   ends-turnByState : (ys : List Device) (ws : List ℕ) (p : Sent) (c : Cursor) (rest : List ℕ) → InvariantUnder ys ws Nothing c → drop (c .at) ss ≡ rest
@@ -559,7 +579,7 @@ module _ (ss : List ℕ) (fin : List Device × (List ℕ × ℕ)) where
 -- records that fit are neat
 fits-neat : (d : Device) → fits d ≡ true → Neat d
 fits-neat d h p =
-    let q : placeOf (phaseOf (d .place)) ≡ d .place = place-phase (d .place) (d .registers) (and-left (placeFits (d .place) (d .registers)) _ h) in
+    let q : placeOf (phaseOf (d .place)) ≡ d .place = place-phase (d .place) (d .registers) (and-left (placeFits (d .place) (d .registers)) _ (and-left (contentsFit d) _ h)) in
     ap (λ (x : Place). record { registers = d .registers; place = x }) (sym q ∙ ap placeOf (is-passing (phaseOf (d .place)) p))
   where
     is-passing : (p : Phase) → isPassing p ≡ true → p ≡ Passing
@@ -574,13 +594,15 @@ pub all-neat : (ds : List Device) → allFit ds ≡ true → AllNeat ds
 all-neat [] h = tt
 all-neat (d ∷ ds) h = let both = and-both (fits d) (allFit ds) h in (fits-neat d (both .0), all-neat ds (both .1))
 
--- a run by its front: the devices, what is written, and where it ends are the plain chain's
+-- a run by its front: the devices, what is written, and where it ends are those of the run that knows each state's clock
 pub front-run-same : (ds : List Device) (ss os : List ℕ) → 0 < length ds → length ds < 1024 → AllNeat ds
-    → (frontRun ds ss os .devices ≡ through ds ss .0) × (frontRun ds ss os .out ≡ putAll os 0 (through ds ss .1)) ×
-    (frontRun ds ss os .cursor .written ≡ putEnd (length os) 0 (length (through ds ss .1)))
+    → let w : Whole = passOn ds (timed 0 ss) in
+    (frontRun ds ss os .devices ≡ w .0) × (frontRun ds ss os .out ≡ putAll os 0 (states (w .1))) ×
+    (frontRun ds ss os .cursor .written ≡ putEnd (length os) 0 (length (states (w .1))))
 unfolding frontRun chain Small
 front-run-same ds ss os some few ne =
-    let fin : List Device × (List ℕ × ℕ) = (through ds ss .0, (putAll os 0 (through ds ss .1), putEnd (length os) 0 (length (through ds ss .1)))) in
+    let w : Whole = passOn ds (timed 0 ss) in
+    let fin : List Device × (List ℕ × ℕ) = (w .0, (putAll os 0 (states (w .1)), putEnd (length os) 0 (length (states (w .1))))) in
     let all = turns-all ss fin (enough ss) (length ds) (length os) (started ds ss os) some few (good-start ds ss os some) (near-start ds ss few)
     (nextTurn-holds ss fin (length ds) ds os 0 0 0 Nothing ss (record { ps = []; qs = ds; split = refl; count = refl; passing = none; neat = ne; small = tt; devices = refl; out = refl })) in
     (all .0, ap (λ (x : List ℕ × ℕ). x .0) (all .1), ap (λ (x : List ℕ × ℕ). x .1) (all .1))

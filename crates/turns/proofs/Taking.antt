@@ -1,4 +1,4 @@
--- What a device takes in one turn is a run of it over those states. A device that is not passing sends nothing, or a header once, and passes
+-- What a device takes in one turn is a run of it over those states, one to a clock. A device that is not passing sends nothing, or a header once, and passes
 -- then. High states go through passing devices as they are. By induction on the states at hand.
 use mathlib.Core.Path.{_≡_, refl, ap, sym, _∙_, subst}
 use mathlib.Core.Bool.{Bool, true, false, cond, true≢false}
@@ -18,7 +18,6 @@ use Rattle.phases.specs.Phases.{phaseOf, heard, headed}
 use Rattle.registers.specs.Held.{took, fault, raised}
 use Rattle.storing.specs.Stored.{stored}
 use Rattle.device.specs.Step.{step, stepHigh, moved, sending, sliceLength, sentStates, at}
-use Rattle.device.specs.Run.{stepRecord, run}
 use Rattle.phases.specs.declared.phase.Phase.{Phase}
 use Rattle.phases.specs.declared.phase.Phase.the-variants.{Hunting, Opening, Counting, Slice, Passing, Lost}
 use Rattle.phases.specs.declared.phase.Sent.{Sent}
@@ -27,21 +26,21 @@ use Rattle.registers.specs.declared.registers.Registers.{Registers}
 use Rattle.device.specs.declared.device.Device.{Device}
 use Rattle.device.specs.declared.device.Stepped.{Stepped}
 use Rattle.phases.proofs.Places.{Small}
-use Rattle.intake.specs.Intake.{stopped, unlessSent, highTaken}
+use Rattle.intake.specs.Intake.{stopped, datedBy, datedStep, stepIn, unlessSent, highTaken}
 use Rattle.intake.specs.declared.taken.Taken.{Taken}
 use Rattle.intake.proofs.Clauses.{drop-on, high-end}
 use Rattle.intake.proofs.Phases.{high-low-at}
-use Rattle.calls.specs.Chain.{through}
 use Rattle.tables.proofs.Booleans.{cond-both}
 use Rattle.turns.specs.Front.{isPassing, passes, phaseOnly, phaseStep, phaseRun, phaseTaken, frontTaken, sliceStart, deviceTaken, afterHeader, lowTaken}
 use Rattle.turns.specs.declared.front.PhaseRun.{PhaseRun}
+use Rattle.turns.proofs.Timed.{Timed, stamped, timed, stepTimed, runTimed, passOn, timed-none, timed-cons}
 use Rattle.turns.proofs.Phases.{step-low, step-phaseOnly, heard-small, roamStep-small, headed-quiet, phaseRun-quiet, phaseRun-low}
 
 -- ---- high states go through passing devices
 
-pub data High : List ℕ → Type 0 where
+pub data High : List Timed → Type 0 where
   none : High []
-  also : {s : ℕ} {ss : List ℕ} → ltb s 2 ≡ false → High ss → High (s ∷ ss)
+  also : {x : Timed} {xs : List Timed} → ltb (x .state) 2 ≡ false → High xs → High (x ∷ xs)
 
 abbrev pub passer : Registers → Device
 passer r = at r Passing
@@ -50,87 +49,108 @@ pub data AllPass : List Device → Type 0 where
   none : AllPass []
   also : {r : Registers} {ds : List Device} → AllPass ds → AllPass (passer r ∷ ds)
 
-pass-one : (r : Registers) (s : ℕ) (ss : List ℕ) → ltb s 2 ≡ false → run (passer r) (s ∷ ss) ≡ (run (passer r) ss .0, s ∷ run (passer r) ss .1)
-unfolding machine.run stepRecord
-pass-one r s ss e = rw e refl
+pass-one : (r : Registers) (x : Timed) (xs : List Timed) → ltb (x .state) 2 ≡ false → runTimed (passer r) (x ∷ xs) ≡ (runTimed (passer r) xs .0, x ∷ runTimed (passer r) xs .1)
+unfolding machine.run stepTimed
+pass-one r x xs e = rw e refl
 
-pass-all : (r : Registers) (hs ss : List ℕ) → High hs → run (passer r) (hs ++ ss) ≡ (run (passer r) ss .0, hs ++ run (passer r) ss .1)
-pass-all r [] ss none = refl
-pass-all r (s ∷ hs) ss (also e h) = pass-one r s (hs ++ ss) e ∙ ap (λ (x : Device × List ℕ). (x .0, s ∷ x .1)) (pass-all r hs ss h)
+pass-all : (r : Registers) (hs xs : List Timed) → High hs → runTimed (passer r) (hs ++ xs) ≡ (runTimed (passer r) xs .0, hs ++ runTimed (passer r) xs .1)
+pass-all r [] xs none = refl
+pass-all r (x ∷ hs) xs (also e h) = pass-one r x (hs ++ xs) e ∙ ap (λ (y : Device × List Timed). (y .0, x ∷ y .1)) (pass-all r hs xs h)
 
-pub through-high : (ps : List Device) (hs ss : List ℕ) → AllPass ps → High hs → through ps (hs ++ ss) ≡ (through ps ss .0, hs ++ through ps ss .1)
+pub through-high : (ps : List Device) (hs xs : List Timed) → AllPass ps → High hs → passOn ps (hs ++ xs) ≡ (passOn ps xs .0, hs ++ passOn ps xs .1)
 unfolding chain
-through-high [] hs ss none h = refl
-through-high (d ∷ ps) hs ss (also {r} a) h =
-    ap (λ (x : Device × List ℕ). (x .0 ∷ through ps (x .1) .0, through ps (x .1) .1)) (pass-all r hs ss h)
-    ∙ ap (λ (x : List Device × List ℕ). (run (passer r) ss .0 ∷ x .0, x .1)) (through-high ps hs (run (passer r) ss .1) a h)
+through-high [] hs xs none h = refl
+through-high (d ∷ ps) hs xs (also {r} a) h =
+    ap (λ (x : Device × List Timed). (x .0 ∷ passOn ps (x .1) .0, passOn ps (x .1) .1)) (pass-all r hs xs h)
+    ∙ ap (λ (x : List Device × List Timed). (runTimed (passer r) xs .0 ∷ x .0, x .1)) (through-high ps hs (runTimed (passer r) xs .1) a h)
 
--- ---- what a device takes is a run of it over the states before `at`
+-- ---- what a device takes is a run of it over the states before `at`, one to a clock
 
 -- low states may be among them, or not
 pub record Takes (low : Bool) (d : Device) (ss : List ℕ) (k : ℕ) (t : Taken) : Type 0 where
   pub own : List ℕ
   pub rest : List ℕ
   pub whole : ss ≡ own ++ rest
-  pub high : low ≡ false → High own
+  pub high : low ≡ false → High (timed k own)
   pub far : t .at ≡ k + length own
-  pub runs : run d own ≡ (t .device, sentStates (t .sent))
+  pub runs : runTimed d (timed k own) ≡ (t .device, stamped (t .at) (sentStates (t .sent)))
 
-run-step : (d : Device) (s : ℕ) (ss : List ℕ)
-    → run d (s ∷ ss) ≡ (run (step d s .device) ss .0, sentStates (step d s .sent) ++ run (step d s .device) ss .1)
-unfolding machine.run stepRecord
-run-step d s ss = refl
+-- what a state of clock k + 1 leaves, and what is sent of the states after it
+abbrev onwards : ℕ → List ℕ → Stepped → Device × List Timed
+onwards k ss x = (runTimed (x .device) (timed (k + 1) ss) .0, stamped (k + 1) (sentStates (x .sent)) ++ runTimed (x .device) (timed (k + 1) ss) .1)
+
+run-step : (d : Device) (s : ℕ) (ss : List ℕ) (k : ℕ) → runTimed d (timed k (s ∷ ss)) ≡ onwards k ss (stepIn (k + 1) d s)
+unfolding machine.run stepTimed timed
+run-step d s ss k = refl
 
 pub takes-none : (low : Bool) (d : Device) (ss : List ℕ) (k : ℕ) → Takes low d ss k (stopped d k Nothing)
-takes-none low d ss k = record { own = []; rest = ss; whole = refl; high = λ _. none; far = omega arith; runs = run-nil stepRecord d }
+takes-none low d ss k =
+    record {
+      own = [];
+      rest = ss;
+      whole = refl;
+      high = λ _. rw (timed-none k) none;
+      far = omega arith;
+      runs = rw (timed-none k) (run-nil stepTimed d);
+    }
 
 -- the device goes on at s, and sends nothing
-takes-on : (low : Bool) (d : Device) (s : ℕ) (ss : List ℕ) (k : ℕ) (x : Stepped) (t : Taken) → step d s ≡ x → x .sent ≡ Nothing → (low ≡ false → ltb s 2 ≡ false)
+takes-on : (low : Bool) (d : Device) (s : ℕ) (ss : List ℕ) (k : ℕ) (x : Stepped) (t : Taken) → stepIn (k + 1) d s ≡ x → x .sent ≡ Nothing → (low ≡ false → ltb s 2 ≡ false)
     → Takes low (x .device) ss (k + 1) t → Takes low d (s ∷ ss) k t
 takes-on low d s ss k x t e n h r =
     record {
       own = s ∷ r .own;
       rest = r .rest;
       whole = ap (λ (xs : List ℕ). s ∷ xs) (r .whole);
-      high = λ f. also (h f) (r .high f);
+      high = λ f. rw (timed-cons k s (r .own)) (also (h f) (r .high f));
       far = omega (arith, r .far);
-      runs = run-step d s (r .own)
-          ∙ ap (λ (y : Stepped). (run (y .device) (r .own) .0, sentStates (y .sent) ++ run (y .device) (r .own) .1)) e
-          ∙ ap (λ (y : Sent). (run (x .device) (r .own) .0, sentStates y ++ run (x .device) (r .own) .1)) n
+      runs = run-step d s (r .own) k
+          ∙ ap (onwards k (r .own)) e
+          ∙ ap (λ (y : Sent). onwards k (r .own) (record { device = x .device; sent = y })) n
           ∙ r .runs;
     }
 
 -- the device sends at s
-takes-sent : (d : Device) (s : ℕ) (ss : List ℕ) (k : ℕ) (x : Sent) → step d s .sent ≡ x → ltb s 2 ≡ false
-    → Takes false d (s ∷ ss) k (stopped (step d s .device) (k + 1) x)
-takes-sent d s ss k x e h =
+takes-sent : (d : Device) (s : ℕ) (ss : List ℕ) (k : ℕ) → ltb s 2 ≡ false
+    → Takes false d (s ∷ ss) k (stopped (stepIn (k + 1) d s .device) (k + 1) (step d s .sent))
+takes-sent d s ss k h =
     record {
       own = s ∷ [];
       rest = ss;
       whole = refl;
-      high = λ _. also h none;
+      high = λ _. rw (timed-cons k s [], timed-none (k + 1)) (also h none);
       far = omega arith;
-      runs = run-step d s [] ∙ ap (λ (y : Device × List ℕ). (y .0, sentStates (step d s .sent) ++ y .1)) (run-nil stepRecord (step d s .device))
-          ∙ ap (λ (y : Sent). (step d s .device, sentStates y ++ [])) e ∙ ap (λ (xs : List ℕ). (step d s .device, xs)) (append-nil (sentStates x));
+      runs = run-step d s [] k
+          ∙ ap (λ (zs : List Timed). (runTimed after zs .0, stamped (k + 1) (sentStates (step d s .sent)) ++ runTimed after zs .1)) (timed-none (k + 1))
+          ∙ ap (λ (y : Device × List Timed). (y .0, stamped (k + 1) (sentStates (step d s .sent)) ++ y .1)) (run-nil stepTimed after)
+          ∙ ap (λ (zs : List Timed). (after, zs)) (append-nil (stamped (k + 1) (sentStates (step d s .sent))));
     }
+  where
+    after : Device
+    after = stepIn (k + 1) d s .device
 
 takes-step : (d : Device) (s : ℕ) (ss : List ℕ) (k : ℕ) (x : Sent) → step d s .sent ≡ x → ltb s 2 ≡ false
-    → Takes false (step d s .device) ss (k + 1) (highTaken (step d s .device) ss (k + 1))
-    → Takes false d (s ∷ ss) k (unlessSent x (highTaken (step d s .device) ss (k + 1)) (stopped (step d s .device) (k + 1) x))
-takes-step d s ss k Nothing e h r = takes-on false d s ss k (step d s) (highTaken (step d s .device) ss (k + 1)) refl e (λ _. h) r
-takes-step d s ss k (One b) e h r = takes-sent d s ss k (One b) e h
-takes-step d s ss k (Header c n) e h r = takes-sent d s ss k (Header c n) e h
+    → Takes false (stepIn (k + 1) d s .device) ss (k + 1) (highTaken (stepIn (k + 1) d s .device) ss (k + 1))
+    → Takes false d (s ∷ ss) k (unlessSent x (highTaken (stepIn (k + 1) d s .device) ss (k + 1)) (stopped (stepIn (k + 1) d s .device) (k + 1) x))
+takes-step d s ss k Nothing e h r = takes-on false d s ss k (stepIn (k + 1) d s) (highTaken (stepIn (k + 1) d s .device) ss (k + 1)) refl e (λ _. h) r
+takes-step d s ss k (One b) e h r = subst (λ (x : Sent). Takes false d (s ∷ ss) k (stopped (stepIn (k + 1) d s .device) (k + 1) x)) e (takes-sent d s ss k h)
+takes-step d s ss k (Header c n) e h r = subst (λ (x : Sent). Takes false d (s ∷ ss) k (stopped (stepIn (k + 1) d s .device) (k + 1) x)) e (takes-sent d s ss k h)
 
 -- high states
 pub takes : (d : Device) (ss : List ℕ) (k : ℕ) → Takes false d ss k (highTaken d ss k)
 unfolding highTaken
 takes d [] k = takes-none false d [] k
-takes d (s ∷ ss) k = go (takes (step d s .device) ss (k + 1)) (ltb s 2) refl
+takes d (s ∷ ss) k = go (takes (stepIn (k + 1) d s .device) ss (k + 1)) (ltb s 2) refl
   where
-    go : Takes false (step d s .device) ss (k + 1) (highTaken (step d s .device) ss (k + 1)) → (t : Bool) → ltb s 2 ≡ t
-        → Takes false d (s ∷ ss) k (cond t (stopped d k Nothing) (unlessSent (step d s .sent) (highTaken (step d s .device) ss (k + 1)) (stopped (step d s .device) (k + 1) (step d s .sent))))
+    go : Takes false (stepIn (k + 1) d s .device) ss (k + 1) (highTaken (stepIn (k + 1) d s .device) ss (k + 1)) → (t : Bool) → ltb s 2 ≡ t
+        → Takes false d (s ∷ ss) k
+        (cond t (stopped d k Nothing) (unlessSent (step d s .sent) (highTaken (stepIn (k + 1) d s .device) ss (k + 1)) (stopped (stepIn (k + 1) d s .device) (k + 1) (step d s .sent))))
     go r true h = takes-none false d (s ∷ ss) k
     go r false h = takes-step d s ss k (step d s .sent) refl h r
+
+-- a state that sends nothing is not dated
+quiet-in : (t : ℕ) (d : Device) (s : ℕ) (x : Stepped) → step d s ≡ x → x .sent ≡ Nothing → stepIn t d s ≡ x
+quiet-in t d s x e n = ap (datedStep t (d .registers)) e ∙ ap (λ (y : Sent). record { device = datedBy y t (d .registers) (x .device); sent = x .sent }) n
 
 -- states at which the phase alone goes on
 abbrev gone : Registers → PhaseRun → Taken
@@ -144,7 +164,7 @@ takes-phaseRun r p (s ∷ ss) k h = go (takes-phaseRun r (phaseStep p s) ss (k +
     go : Takes true (at r (phaseStep p s)) ss (k + 1) (gone r (phaseRun (phaseStep p s) ss (k + 1))) → (t : Bool) → phaseOnly p s ≡ t
         → Takes true (at r p) (s ∷ ss) k (gone r (cond t (phaseRun (phaseStep p s) ss (k + 1)) (record { phase = p; at = k })))
     go x true e =
-        takes-on true (at r p) s ss k (moved r (phaseStep p s)) (gone r (phaseRun (phaseStep p s) ss (k + 1))) (step-phaseOnly r p s h e) refl (λ f. absurd (true≢false f)) x
+        takes-on true (at r p) s ss k (moved r (phaseStep p s)) (gone r (phaseRun (phaseStep p s) ss (k + 1))) (quiet-in (k + 1) (at r p) s (moved r (phaseStep p s)) (step-phaseOnly r p s h e) refl) refl (λ f. absurd (true≢false f)) x
     go x false e = takes-none true (at r p) (s ∷ ss) k
 
 -- and so does any device, from a low state on
@@ -152,7 +172,7 @@ pub takes-low : (d : Device) (s : ℕ) (ss : List ℕ) (k : ℕ) → ltb s 2 ≡
 takes-low d s ss k e =
     let p = heard (phaseOf (d .place)) s in
     subst (λ (q : PhaseRun). Takes true d (s ∷ ss) k (phaseTaken d q)) (sym (phaseRun-low (phaseOf (d .place)) s ss k e))
-    (takes-on true d s ss k (moved (d .registers) p) (gone (d .registers) (phaseRun p ss (k + 1))) (step-low d s e) refl (λ f. absurd (true≢false f))
+    (takes-on true d s ss k (moved (d .registers) p) (gone (d .registers) (phaseRun p ss (k + 1))) (quiet-in (k + 1) d s (moved (d .registers) p) (step-low d s e) refl) refl (λ f. absurd (true≢false f))
     (takes-phaseRun (d .registers) p ss (k + 1) (heard-small (phaseOf (d .place)) s)))
 
 -- ---- a device that is not passing sends nothing, or a header once, and is passing then
@@ -199,18 +219,18 @@ pub data Ending : Taken → Type 0 where
   quiet : {d : Device} {k : ℕ} → passes d ≡ false → Ending (stopped d k Nothing)
   sent : {r : Registers} {k : ℕ} {c : Command} {n : ℕ} → n < 1024 → Ending (stopped (passer r) k (Header c n))
 
-fine-ending : (st : Stepped) (ss : List ℕ) (k : ℕ) → Fine st → ((d : Device) → passes d ≡ false → Ending (highTaken d ss k))
-    → Ending (unlessSent (st .sent) (highTaken (st .device) ss k) (stopped (st .device) k (st .sent)))
-fine-ending _ ss k (on {r} p e) rec = rec (at r p) (passes-at r p e)
-fine-ending _ ss k (ends h) rec = sent h
+fine-ending : (q : Registers) (st : Stepped) (ss : List ℕ) (k : ℕ) → Fine st → ((d : Device) → passes d ≡ false → Ending (highTaken d ss k))
+    → Ending (unlessSent (st .sent) (highTaken (datedStep k q st .device) ss k) (stopped (datedStep k q st .device) k (st .sent)))
+fine-ending q _ ss k (on {r} p e) rec = rec (at r p) (passes-at r p e)
+fine-ending q _ ss k (ends h) rec = sent h
 
 pub endings : (d : Device) (ss : List ℕ) (k : ℕ) → passes d ≡ false → Ending (highTaken d ss k)
 unfolding highTaken
 endings d [] k e = quiet e
 endings d (s ∷ ss) k e =
-    let st : Stepped = step d s in
+    let st : Stepped = stepIn (k + 1) d s in
     cond-both Ending (ltb s 2) (stopped d k Nothing) (unlessSent (st .sent) (highTaken (st .device) ss (k + 1)) (stopped (st .device) (k + 1) (st .sent)))
-    (λ _. quiet e) (λ _. fine-ending st ss (k + 1) (fine-step d s e) (λ d′ e′. endings d′ ss (k + 1) e′))
+    (λ _. quiet e) (λ _. fine-ending (d .registers) (step d s) ss (k + 1) (fine-step d s e) (λ d′ e′. endings d′ ss (k + 1) e′))
 
 -- any device at a low state, passing or not
 pub ending-low : (d : Device) (s : ℕ) (ss : List ℕ) (k : ℕ) → ltb s 2 ≡ true → Ending (phaseTaken d (phaseRun (phaseOf (d .place)) (s ∷ ss) k))

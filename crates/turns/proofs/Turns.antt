@@ -9,12 +9,12 @@ use lib.Dec.{ltb, leb}
 use lib.ListN.{length, getD, drop, length-set, length-drop}
 use borrow.Author.Tests.{ltb-true, ltb-false, leb-true, le-leb}
 use Rattle.phases.specs.Phases.{phaseOf, heard}
-use Rattle.device.specs.Step.{step}
+use Rattle.device.specs.declared.device.Stepped.{Stepped}
 use Rattle.phases.specs.declared.phase.Phase.{Phase}
 use Rattle.phases.specs.declared.phase.Sent.{Sent}
 use Rattle.phases.specs.declared.phase.Sent.the-variants.{Nothing, One, Header}
 use Rattle.device.specs.declared.device.Device.{Device}
-use Rattle.intake.specs.Intake.{stopped, unlessSent, highTaken}
+use Rattle.intake.specs.Intake.{stopped, stepIn, unlessSent, highTaken}
 use Rattle.intake.proofs.Phases.{high-cons}
 use Rattle.intake.specs.declared.taken.Taken.{Taken}
 use Rattle.calls.specs.Chain.{blank}
@@ -112,21 +112,21 @@ high-far : (d : Device) (ss : List ℕ) (k : ℕ) → Far ss k (highTaken d ss k
 unfolding highTaken
 high-far d [] k = record { owes = omega arith; ends = omega arith }
 high-far d (s ∷ ss) k =
-    let sent : Sent = step d s .sent in
-    let rest : Taken = highTaken (step d s .device) ss (k + 1) in
-    let next : Far ss (k + 1) rest = high-far (step d s .device) ss (k + 1) in
-    cond-both (Far (s ∷ ss) k) (ltb s 2) (stopped d k Nothing) (unlessSent sent rest (stopped (step d s .device) (k + 1) sent))
+    let x : Stepped = stepIn (k + 1) d s in
+    let rest : Taken = highTaken (x .device) ss (k + 1) in
+    let next : Far ss (k + 1) rest = high-far (x .device) ss (k + 1) in
+    cond-both (Far (s ∷ ss) k) (ltb s 2) (stopped d k Nothing) (unlessSent (x .sent) rest (stopped (x .device) (k + 1) (x .sent)))
     (λ _. record { owes = omega arith; ends = omega arith })
-    (λ _. by-sent sent rest (step d s .device) (k + 1) (Far (s ∷ ss) k)
+    (λ _. by-sent (x .sent) rest (x .device) (k + 1) (Far (s ∷ ss) k)
     (record { owes = omega (arith, next .owes); ends = omega (arith, next .ends) }) (λ x. record { owes = omega (arith, owed-one x); ends = omega arith }))
 
 -- a high state is taken
 high-on : (d : Device) (s : ℕ) (ss : List ℕ) (k : ℕ) → ltb s 2 ≡ false → k + 1 ≤ highTaken d (s ∷ ss) k .at
 high-on d s ss k e =
-    let rest : Taken = highTaken (step d s .device) ss (k + 1) in
+    let x : Stepped = stepIn (k + 1) d s in
     subst (λ (t : Taken). k + 1 ≤ t .at) (sym (high-cons d s ss k e))
-    (by-sent (step d s .sent) rest (step d s .device) (k + 1) (λ (t : Taken). k + 1 ≤ t .at)
-    (omega (arith, high-far (step d s .device) ss (k + 1) .owes)) (λ x. omega arith))
+    (by-sent (x .sent) (highTaken (x .device) ss (k + 1)) (x .device) (k + 1) (λ (t : Taken). k + 1 ≤ t .at)
+    (omega (arith, high-far (x .device) ss (k + 1) .owes)) (λ y. omega arith))
 
 -- and a low one
 low-on : (p : Phase) (s : ℕ) (ss : List ℕ) (k : ℕ) → ltb s 2 ≡ true → k + 1 ≤ phaseRun p (s ∷ ss) k .at

@@ -1,24 +1,27 @@
 -- A whole run, refused or not: what holds before each turn of its loop, and that it leaves and answers what calls/specs/Calls says.
 use mathlib.Core.Path.{_≡_, refl, ap, sym, _∙_}
 use mathlib.Core.Bool.{Bool, true, false, cond}
-use mathlib.Core.List.{List}
-use Prim.Native.Nat.{ℕ, zero, suc, _<_, _≤_}
+use mathlib.Core.List.{List, map}
+use Prim.Native.Nat.{ℕ, zero, suc, _^_, _<_, _≤_}
 use native.Mathlib.Omega.{arith}
 use lib.Dec.{eqb}
 use lib.ListN.{length}
 use Rattle.bits.specs.Bits.{over}
+use Rattle.tables.specs.Refusals.{content}
 use Rattle.device.specs.declared.device.Device.{Device}
 use Rattle.calls.specs.Chain.{through}
 use Rattle.calls.specs.Calls.{runRefusal, runAfter, runRoom}
 use Rattle.cursor.specs.declared.entry.Ran.{Ran}
 use Rattle.cursor.specs.Cursor.{beginRun, halted}
-use Rattle.turns.specs.Front.{Running, nowAt, turning, turns, started, enough, frontRun}
+use Rattle.turns.specs.Front.{putAll, putEnd, Running, nowAt, turning, turns, started, enough, frontRun}
 use Rattle.cursor.specs.Answer.{ran, runAnswer}
 use Rattle.cursor.specs.Entry.{entryUnder}
-use Rattle.turns.specs.Ending.{runUnder, runEnd}
+use Rattle.turns.specs.Ending.{runUnder, runEnd, byClockDevice}
 use Rattle.turns.proofs.LeavingStates.{put-over, put-end-all}
 use Rattle.turns.proofs.Turns.{no-way, Good, measure, good-start, good-next, nearer-next, turns-on, turns-stop, near-start}
+use Rattle.turns.proofs.Timed.{Timed, timed, states, passOn}
 use Rattle.turns.proofs.Same.{all-neat, front-run-same}
+use Rattle.turns.proofs.ByClock.{run-by-clock}
 use Rattle.calls.proofs.Accepted.{Accepted, accepted-run}
 use Rattle.turns.proofs.Room.{room-enough}
 
@@ -74,22 +77,42 @@ stands-start ds ss os = go (eqb (runRefusal ds ss (length os)) 0) refl
         let g : Good (length ds) ss (length os) (started ds ss os) = good-start ds ss os (h .some) in
         record { devices = refl; out = refl; written = g .written; last = refl; live = λ _. record { good = g; near = near-start ds ss (h .few); some = h .some; few = h .few } }
 
--- what a run leaves and answers is what calls/specs/Calls says
-pub run-same : (ds : List Device) (ss os : List ℕ)
-    → (ran (runRefusal ds ss (length os)) (runEnd ds ss os .cursor .written) ≡ runAnswer ds ss (length os)) × (runEnd ds ss os .devices ≡ runAfter ds ss (length os)) ×
+-- ---- what it leaves
+
+-- an accepted run: with every device brought up to the last clock it is the run clock by clock, and what was sent is written
+front-same : (ds : List Device) (ss os : List ℕ) → length ss < 2 ^ 63 → Accepted ds ss (length os)
+    → (map (byClockDevice (length ss)) (frontRun ds ss os .devices) ≡ through ds ss .0) × (frontRun ds ss os .out ≡ over (through ds ss .1) os) ×
+    (frontRun ds ss os .cursor .written ≡ length (through ds ss .1))
+front-same ds ss os short h =
+    let w : List Device × List Timed = passOn ds (timed 0 ss) in
+    let s = front-run-same ds ss os (h .some) (h .few) (all-neat ds (h .fit)) in
+    let c : _≡_ {A = List Device × List ℕ} (map (byClockDevice (length ss)) (w .0), states (w .1)) (through ds ss) = run-by-clock ds ss short (h .fit) in
+    let o : states (w .1) ≡ through ds ss .1 = ap (λ (x : List Device × List ℕ). x .1) c in
+    let r : length (through ds ss .1) ≤ length os = omega (arith, room-enough ds ss (h .fit), h .enoughRoom) in (
+      ap (map (byClockDevice (length ss))) (s .0) ∙ ap (λ (x : List Device × List ℕ). x .0) c,
+      s .1 ∙ ap (putAll os 0) o ∙ put-over os (through ds ss .1) r,
+      s .2 ∙ ap (λ (xs : List ℕ). putEnd (length os) 0 (length xs)) o ∙ put-end-all (length os) (length (through ds ss .1)) r,
+    )
+
+-- what a run leaves and answers, its devices brought up to the last clock where it is accepted, is what calls/specs/Calls says; a list of states
+-- that is lent is shorter than 2 ^ 63
+pub run-same : (ds : List Device) (ss os : List ℕ) → length ss < 2 ^ 63
+    → (ran (runRefusal ds ss (length os)) (runEnd ds ss os .cursor .written) ≡ runAnswer ds ss (length os)) ×
+    (content (runRefusal ds ss (length os)) (runEnd ds ss os .devices) (map (byClockDevice (length ss)) (runEnd ds ss os .devices)) ≡ runAfter ds ss (length os)) ×
     (runEnd ds ss os .out ≡ runRoom ds ss os)
 unfolding runUnder
-run-same ds ss os = go (eqb (runRefusal ds ss (length os)) 0) refl
+run-same ds ss os short = go (eqb (runRefusal ds ss (length os)) 0) refl
   where
     answers : Bool → ℕ → Ran
     answers t n = record { returned = cond t n 0; refusal = runRefusal ds ss (length os) }
 
+    by : Bool → Running
+    by t = cond t (frontRun ds ss os) (nowAt ds halted os)
+
     go : (t : Bool) → eqb (runRefusal ds ss (length os)) 0 ≡ t
-        → (answers t (cond t (frontRun ds ss os) (nowAt ds halted os) .cursor .written) ≡ answers t (length (through ds ss .1)))
-        × (cond t (frontRun ds ss os) (nowAt ds halted os) .devices ≡ cond t (through ds ss .0) ds) × (cond t (frontRun ds ss os) (nowAt ds halted os) .out ≡ cond t (over (through ds ss .1) os) os)
+        → (answers t (by t .cursor .written) ≡ answers t (length (through ds ss .1))) ×
+        (cond t (map (byClockDevice (length ss)) (by t .devices)) (by t .devices) ≡ cond t (through ds ss .0) ds) × (by t .out ≡ cond t (over (through ds ss .1) os) os)
     go false e = (refl, refl, refl)
     go true e =
-        let h : Accepted ds ss (length os) = accepted-run ds ss (length os) e in
-        let s = front-run-same ds ss os (h .some) (h .few) (all-neat ds (h .fit)) in
-        let r : length (through ds ss .1) ≤ length os = room-enough ds ss (length os) h in
-        (ap (λ (n : ℕ). answers true n) (s .2 ∙ put-end-all (length os) (length (through ds ss .1)) r), s .0, s .1 ∙ put-over os (through ds ss .1) r)
+        let s = front-same ds ss os short (accepted-run ds ss (length os) e) in
+        (ap (λ (n : ℕ). answers true n) (s .2), s .0, s .1)

@@ -1,14 +1,14 @@
--- Inside: a run through a lent chain by its front, the first device that is not passing: only that device can change. What one turn does,
--- and turn after turn. These definitions are what the functions inside a run answer; that the whole is the plain chain of calls/specs/Chain
--- is in proofs/Same.
+-- Inside: line states through a lent chain by its front, the first device that is not passing: only that device can change, but for its
+-- position. What one turn does, and turn after turn, until the states are over; what follows then is in Ending. These definitions are what the
+-- functions inside a run answer; that the whole is the run clock by clock of calls/specs/Chain is in proofs/Same and proofs/ByClock.
 use Prim.Native.Nat.{ℕ, zero, suc, _+_, _*_, _%_}
 use mathlib.Core.Bool.{Bool, true, false, not, _&&_, _||_, cond}
 use mathlib.Core.List.{List, [], _∷_}
-use lib.Dec.{ltb, leb}
+use lib.Dec.{eqb, ltb, leb}
 use lib.ListN.{length, getD, set, take, drop}
 use Rattle.parts.specs.Wire.{header, statesOf}
 use Rattle.parts.specs.declared.command.Command.{Command}
-use Rattle.phases.specs.Phases.{phaseOf, heard, inHeader, headed}
+use Rattle.phases.specs.Phases.{pushed, phaseOf, heard, inHeader, headed}
 use Rattle.device.specs.Step.{at}
 use Rattle.phases.specs.declared.phase.Phase.{Phase}
 use Rattle.phases.specs.declared.phase.Phase.the-variants.{Hunting, Opening, Counting, Slice, Passing, Lost}
@@ -21,6 +21,7 @@ use Rattle.calls.specs.Chain.{blank}
 use Rattle.cursor.specs.declared.cursor.Cursor.{Cursor}
 use Rattle.cursor.specs.Cursor.{nextTurn, halted, beginRun}
 use Rattle.turns.specs.declared.front.PhaseRun.{PhaseRun}
+use Rattle.turns.specs.declared.front.Heard.{Heard}
 
 -- ---- one device
 
@@ -58,6 +59,15 @@ phaseStep p s = cond (ltb s 2) (heard p s) (headed p (s % 2))
 unfoldable pub phaseRun : Phase → List ℕ → ℕ → PhaseRun
 phaseRun p [] i = record { phase = p; at = i }
 phaseRun p (s ∷ ss) i = cond (phaseOnly p s) (phaseRun (phaseStep p s) ss (i + 1)) (record { phase = p; at = i })
+
+-- low states, heard one after the other: the window after them, and where they end
+unfoldable pub hearAll : ℕ → List ℕ → ℕ → Heard
+hearAll w [] i = record { window = w; at = i }
+hearAll w (s ∷ ss) i = cond (ltb s 2) (hearAll (pushed w s 512) ss (i + 1)) (record { window = w; at = i })
+
+-- the phase after low states that began at place i
+abbrev pub huntsOn : Phase → ℕ → Heard → Phase
+huntsOn p i h = cond (eqb (h .at) i) p (Hunting (h .window))
 
 -- the device whose phase went on alone
 abbrev pub phaseTaken : Device → PhaseRun → Taken
@@ -185,7 +195,7 @@ turned d c ss room =
 unfoldable pub turnedOut : Cursor → List ℕ → List ℕ → List ℕ
 turnedOut c ss os = cond (ltb (c .front) (c .count)) os (leaveRoom c ss os)
 
--- ---- turn after turn
+-- ---- turn after turn, as long as there are states
 
 -- a run in progress: records, cursor, room
 pub record Running : Type 0 where
@@ -220,6 +230,6 @@ started ds ss os = nowAt ds (beginRun (length ds) ss) os
 abbrev pub enough : List ℕ → ℕ
 enough ss = 2048 * length ss + 1024
 
--- turn after turn to the end
+-- turn after turn until the states are over
 unfoldable pub frontRun : List Device → List ℕ → List ℕ → Running
 frontRun ds ss os = turns (enough ss) ss (started ds ss os)

@@ -2,7 +2,7 @@
 ghost use mathlib.Core.Path.{_≡_};
 ghost use lib.ListN.{drop};
 ghost use Rattle.turns.specs.Front.{isLost, afterHeader, lowTaken, deviceTaken};
-ghost use Rattle.turns.specs.Front.{phaseOnly, phaseStep, phaseRun};
+ghost use Rattle.turns.specs.Front.{phaseOnly, phaseStep, phaseRun, hearAll, huntsOn};
 use device::Device;
 use intake::Taken;
 use phases::Phase;
@@ -11,6 +11,12 @@ use phases::Sent;
 // A phase, and the place of the next state.
 pub struct PhaseRun {
     pub phase: Phase,
+    pub at: usize,
+}
+
+// A window, and the place of the next state.
+pub struct Heard {
+    pub window: u16,
     pub at: usize,
 }
 
@@ -64,7 +70,9 @@ fn low_take(device: Device, pending: Sent, states: &[u8], at: usize) -> Taken
         };
     }
     let place = device.place;
-    let run = run_phase(phases::phase_of(place), states, at);
+    let before = phases::phase_of(place);
+    let heard = hear_all(phases::window_of(before), states, at);
+    let run = run_phase(hunt_on(before, at, heard), states, heard.at);
     let phase = run.phase;
     let reached = phases::place_of(phase);
     let mut next = device;
@@ -73,6 +81,35 @@ fn low_take(device: Device, pending: Sent, states: &[u8], at: usize) -> Taken
         device: next,
         at: run.at,
         sent: Sent::Nothing,
+    }
+}
+
+// Low states are heard one after the other, the window in a local.
+fn hear_all(window: u16, states: &[u8], from: usize) -> Heard
+    ensures { λ r. ⌜ r ≡ hearAll window (drop from (now (states .entry))) from ⌝ }
+{
+    let mut w = window;
+    let mut i = from;
+    while i < states.len() {
+        let s = states[i];
+        if s >= 2 {
+            return Heard { window: w, at: i };
+        }
+        w = (((w as u32) * 2 + (s as u32)) % 512) as u16;
+        i += 1;
+    }
+    Heard { window: w, at: i }
+}
+
+// The phase after the low states from a place on: where there were none, the one before.
+fn hunt_on(before: Phase, from: usize, heard: Heard) -> Phase
+    ensures { λ r. ⌜ r ≡ huntsOn before from heard ⌝ }
+{
+    if heard.at == from {
+        return before;
+    }
+    Phase::Hunting {
+        window: heard.window,
     }
 }
 

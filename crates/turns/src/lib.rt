@@ -3,5 +3,6 @@ mod front;
 mod leaving;
 mod turning;
 
+pub use turning::bring;
 pub use turning::take_turn;
 pub use turning::turn_after;

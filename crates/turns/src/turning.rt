@@ -1,9 +1,10 @@
 // One turn of a run: the front device takes what is its own, or what every device passes leaves the chain. First the record, then the cursor,
-// so that a record is moved once in and once out.
+// so that a record is moved once in and once out. Once the turns are over, each device is brought up to the last clock.
 ghost use mathlib.Core.Path.{_≡_};
 ghost use lib.ListN.{length};
 ghost use Prim.Native.Nat.{_<_, _+_, _^_};
 ghost use Rattle.turns.specs.Front.{frontAfter, turnTaken, cursorAfter, turnedOut};
+ghost use Rattle.turns.specs.Ending.{byClockDevice};
 use cursor::Cursor;
 use device::Device;
 use intake::Taken;
@@ -54,4 +55,23 @@ fn front_after(front: usize, sent: Sent) -> usize
         Sent::Nothing => front,
         _ => front + 1,
     }
+}
+
+// A device brought up to a clock. What is shown is written only where a frame has ended.
+pub fn bring(device: Device, clock: usize) -> Device
+    ensures { λ r. ⌜ r ≡ byClockDevice clock device ⌝ }
+{
+    let position = positions::position_by(device.registers, clock);
+    let ended = positions::has_ended(device.registers, clock);
+    let place = device.place;
+    let mut registers = device.registers;
+    registers.position = position;
+    if ended {
+        let waiting0 = registers.waiting0;
+        let waiting1 = registers.waiting1;
+        registers.active = registers.waiting;
+        registers.active0 = waiting0;
+        registers.active1 = waiting1;
+    }
+    Device { registers, place }
 }

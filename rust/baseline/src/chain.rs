@@ -1,11 +1,12 @@
-//! A chain in place. Only the first device that is not passing can change, so a run costs its states plus N.
+//! A chain in place. Only the first device that is not passing can change, so a run costs its states plus N. A device
+//! that changes nothing only ages: it is brought to the clock of its own stores, and at the end to the last clock.
 
-use crate::device::{all_fit, place, step, take_lows, take_slice, Sent};
+use crate::device::{age, all_fit, finish, place, take_header, take_lows, take_slice, Sent};
 use crate::part::is_known;
 use crate::Refusal;
 use record::{Device, LOST, PASSING, SLICE};
 
-/// Gives the chain line states; how many states the last device sent.
+/// Gives the chain line states, one to a clock; how many states the last device sent.
 pub fn run(devices: &mut [Device], states: &[u8], returned: &mut [u8]) -> Result<usize, Refusal> {
     judge_parts(devices)?;
     if returned.len() < states.len() + 23 {
@@ -18,6 +19,8 @@ pub fn run(devices: &mut [Device], states: &[u8], returned: &mut [u8]) -> Result
 }
 
 fn run_judged(devices: &mut [Device], states: &[u8], returned: &mut [u8]) -> usize {
+    // The clock up to which each device has been brought.
+    let mut brought = vec![0; devices.len()];
     let (mut at, mut sent) = (0, 0);
     let mut front = first_not_passing(devices);
     while at < states.len() {
@@ -33,21 +36,8 @@ fn run_judged(devices: &mut [Device], states: &[u8], returned: &mut [u8]) -> usi
             sent += highs;
             continue;
         };
-        let header = match device.place.phase {
-            SLICE => {
-                let (taken, header) = take_slice(device, &states[at..]);
-                at += taken;
-                header
-            }
-            LOST => {
-                at += high_states(&states[at..]);
-                Sent::Nothing
-            }
-            _ => {
-                at += 1;
-                step(device, states[at - 1])
-            }
-        };
+        let (taken, header) = take_highs(device, &states[at..], at, &mut brought[front]);
+        at += taken;
         if let Sent::Header(command, count) = header {
             front += 1;
             // A header ends whatever the next device was at, and leaves it at the start of its slice.
@@ -60,7 +50,28 @@ fn run_judged(devices: &mut [Device], states: &[u8], returned: &mut [u8]) -> usi
             }
         }
     }
+    for (device, brought) in devices.iter_mut().zip(brought) {
+        age(&mut device.registers, states.len() - brought);
+    }
     sent
+}
+
+/// A device that is not passing takes high states from the front, the first of which is given after clock `at`: how
+/// many, and what it sends.
+fn take_highs(device: &mut Device, states: &[u8], at: usize, brought: &mut usize) -> (usize, Sent) {
+    match device.place.phase {
+        SLICE => {
+            let (taken, is_whole) = take_slice(device, states);
+            if !is_whole {
+                return (taken, Sent::Nothing);
+            }
+            age(&mut device.registers, at + taken - *brought);
+            *brought = at + taken;
+            (taken, finish(device))
+        }
+        LOST => (high_states(states), Sent::Nothing),
+        _ => (take_header(device, states), Sent::Nothing),
+    }
 }
 
 fn first_not_passing(devices: &[Device]) -> usize {
@@ -92,18 +103,6 @@ pub fn fresh(devices: &mut [Device], part: u16) -> Result<(), Refusal> {
         return Err(2);
     }
     devices.fill(Device::fresh(part));
-    Ok(())
-}
-
-/// A frame boundary.
-pub fn boundary(devices: &mut [Device]) -> Result<(), Refusal> {
-    judge(devices)?;
-    for device in devices {
-        let r = &mut device.registers;
-        r.active = r.waiting;
-        r.active0 = r.waiting0;
-        r.active1 = r.waiting1;
-    }
     Ok(())
 }
 

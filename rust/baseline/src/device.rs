@@ -1,6 +1,6 @@
 //! One device in place: its judgement, and its clocks one at a time or as many as it can take at once.
 
-use crate::part::{banks, field_width, is_known, slice_bits, width};
+use crate::part::{banks, field_width, frame_clocks, is_known, slice_bits, width};
 use crate::part::{CALIBRATION, GLOBAL, INDIVIDUAL};
 use crate::Refusal;
 use record::{Device, Place, Registers, COUNTING, HUNTING, LOST, OPENING, PASSING, SLICE};
@@ -60,6 +60,7 @@ fn fits_banks<const BANKS: usize>(device: &Device) -> bool {
         && (used | any(slice)) >> width(r.part) == 0
         && unused | any(rest) == 0
         && r.calibration[BANKS..].iter().all(|&byte| byte == 0)
+        && r.position < frame_clocks(r.part, r.configuration)
         && fits_place(device)
 }
 
@@ -89,7 +90,20 @@ fn fits_place(device: &Device) -> bool {
     }
 }
 
-/// One line state, 0 to 3, for a device that fits.
+/// So many clocks of a device that fits: its position goes on, and where it returns to 0 what waits becomes active.
+#[inline]
+pub fn age(r: &mut Registers, clocks: usize) {
+    let length = frame_clocks(r.part, r.configuration);
+    let position = r.position + clocks as u64;
+    if position >= length {
+        r.active = r.waiting;
+        r.active0 = r.waiting0;
+        r.active1 = r.waiting1;
+    }
+    r.position = position & (length - 1);
+}
+
+/// One line state, 0 to 3, for a device that fits. It does not age.
 pub fn step(device: &mut Device, state: u8) -> Sent {
     let bit = u16::from(state & 1);
     if state < 2 {
@@ -100,7 +114,7 @@ pub fn step(device: &mut Device, state: u8) -> Sent {
         SLICE => take_bit(device, bit),
         PASSING => Sent::State(state),
         _ => {
-            open(device, bit);
+            device.place = opened(device.place, bit);
             Sent::Nothing
         }
     }
@@ -114,16 +128,16 @@ fn low(device: &mut Device, bit: u16) {
     device.place = place(HUNTING, 0, 0, (window << 1 | bit) & WINDOW);
 }
 
-/// A high clock before the slice.
-fn open(device: &mut Device, bit: u16) {
+/// The place after a high clock before the slice.
+fn opened(before: Place, bit: u16) -> Place {
     let Place {
         phase,
         command,
         read,
         ..
-    } = device.place;
+    } = before;
     let next = read << 1 | bit;
-    device.place = match phase {
+    match phase {
         HUNTING => rise(read, bit),
         OPENING if next < 64 => place(OPENING, 0, 0, next),
         OPENING => match next & 63 {
@@ -133,7 +147,7 @@ fn open(device: &mut Device, bit: u16) {
         COUNTING if next < 1024 => place(COUNTING, command, 0, next),
         COUNTING => place(SLICE, command, next & 1023, 0),
         _ => Place::of(LOST),
-    };
+    }
 }
 
 /// Load goes high: with the last bit of SYNC, with the first command bit, or with the second.
@@ -180,8 +194,21 @@ pub fn take_lows(device: &mut Device, states: &[u8]) -> usize {
     taken
 }
 
-/// Takes high states of the slice from the front, field by field: how many, and the header once it is whole.
-pub fn take_slice(device: &mut Device, states: &[u8]) -> (usize, Sent) {
+/// Takes high states before the slice from the front: how many.
+pub fn take_header(device: &mut Device, states: &[u8]) -> usize {
+    let mut place = device.place;
+    let mut taken = 0;
+    while taken < states.len() && states[taken] > 1 && place.phase < SLICE {
+        place = opened(place, u16::from(states[taken] & 1));
+        taken += 1;
+    }
+    device.place = place;
+    taken
+}
+
+/// Takes high states of the slice from the front, field by field: how many, and whether it is then whole.
+#[inline]
+pub fn take_slice(device: &mut Device, states: &[u8]) -> (usize, bool) {
     let command = device.place.command;
     let r = &mut device.registers;
     let width = field_width(command, r.part) as usize;
@@ -193,15 +220,7 @@ pub fn take_slice(device: &mut Device, states: &[u8]) -> (usize, Sent) {
         let slot = &mut r.slice[read / width];
         let room = width - read % width;
         let field = &states[taken..states.len().min(taken + room)];
-        let mut value = *slot;
-        let mut count = 0;
-        for &state in field {
-            if state < 2 {
-                break;
-            }
-            value = value << 1 | u16::from(state & 1);
-            count += 1;
-        }
+        let (value, count) = shifted(*slot, field);
         if count > 0 {
             *slot = value & mask;
         }
@@ -209,14 +228,26 @@ pub fn take_slice(device: &mut Device, states: &[u8]) -> (usize, Sent) {
         taken += count;
         if count < room {
             device.place.read = read as u16;
-            return (taken, Sent::Nothing);
+            return (taken, false);
         }
     }
-    (taken, finish(device))
+    (taken, true)
+}
+
+/// A value with the data bits of high states shifted in, and how many these are.
+#[inline]
+fn shifted(mut value: u16, states: &[u8]) -> (u16, usize) {
+    for (count, &state) in states.iter().enumerate() {
+        if state < 2 {
+            return (value, count);
+        }
+        value = value << 1 | u16::from(state & 1);
+    }
+    (value, states.len())
 }
 
 /// The slice is whole: it is stored and the header sent.
-fn finish(device: &mut Device) -> Sent {
+pub fn finish(device: &mut Device) -> Sent {
     let Place { command, count, .. } = device.place;
     let r = &mut device.registers;
     match banks(r.part) {
@@ -249,9 +280,15 @@ fn store<const BANKS: usize>(r: &mut Registers, command: u8) {
         CALIBRATION => r.calibration[..BANKS].copy_from_slice(&bytes),
         GLOBAL if agree => r.waiting = bytes[0],
         GLOBAL => {}
-        _ if agree => r.configuration = bytes[0],
+        _ if agree => configure(r, bytes[0]),
         _ => {}
     }
+}
+
+/// A shorter frame takes the position into it; in a longer one it stays.
+fn configure(r: &mut Registers, configuration: u8) {
+    r.configuration = configuration;
+    r.position &= frame_clocks(r.part, configuration) - 1;
 }
 
 /// A place with its numbers.

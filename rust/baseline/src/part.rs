@@ -73,6 +73,15 @@ pub fn subframes(part: u16, configuration: u8) -> u16 {
     plain >> (configuration & 1)
 }
 
+/// Clocks of a frame of light, which are a power of two.
+#[inline]
+pub fn frame_clocks(part: u16, configuration: u8) -> u64 {
+    match (part & 1, configuration & 0x10) {
+        (0, _) | (_, 0) => 1 << 19,
+        _ => 1 << 17,
+    }
+}
+
 /// Individual values of one device.
 #[inline]
 pub fn values(part: u16, configuration: u8) -> usize {

@@ -7,7 +7,7 @@ use baseline::{chain, compare, current, device, grouped, reader, writer};
 use cases::{records, sets, states, Random};
 use model::current::Figure;
 use model::frame::Tail;
-use model::part::{Command, Part};
+use model::part::{slice_bits, Command, Part};
 use model::reader::Contents;
 use model::set::Set;
 
@@ -118,9 +118,9 @@ fn judgement_and_step_of_any_record() {
         let mut record = any_record(random, sets::part(case));
         let judged = model::device::Device::of_record(&record);
         assert_eq!(device::judge(&record).err(), judged.as_ref().err().copied());
-        let Ok(known) = judged else { continue };
+        let Ok(mut known) = judged else { continue };
         let state = random.below(4) as u8;
-        let (next, states) = known.step(state);
+        let states = known.step(state);
         let mut sent = vec![];
         match device::step(&mut record, state) {
             device::Sent::Nothing => {}
@@ -130,7 +130,7 @@ fn judgement_and_step_of_any_record() {
                 chain::write_header(&mut sent, command, count);
             }
         }
-        assert_eq!((record, sent), (next.to_record(), states));
+        assert_eq!((record, sent), (known.to_record(), states));
     }
 }
 
@@ -146,8 +146,9 @@ fn judgement_of_any_chain() {
             let (alike, another) = (any_record(random, part), records::fitting(random, other));
             chain[random.below(count)] = random.pick(&[alike, another]);
         }
-        let expected = model::chain::boundary(&mut chain.clone());
-        assert_eq!(chain::judge(&chain), expected);
+        // A run of no states judges, and changes nothing.
+        let expected = model::chain::run(&mut chain.clone(), &[], 23);
+        assert_eq!(chain::judge(&chain), expected.map(|_| ()));
     }
 }
 
@@ -162,14 +163,64 @@ fn runs_of_any_chain() {
         let mut copy = records.clone();
         for _ in 0..4 {
             let states = states::noise(random, part, devices);
-            let mut returned = vec![0; states.len() + 23];
-            let expected = model::chain::run(&mut records, &states, returned.len()).unwrap();
-            let sent = chain::run(&mut copy, &states, &mut returned);
-            assert_eq!(sent, Ok(expected.len()));
-            assert_eq!(returned[..expected.len()], expected);
-            assert_eq!(copy, records);
+            runs_alike(&mut records, &mut copy, &states);
         }
     }
+}
+
+/// Frames of a set, given to records of which each has a boundary about the clock of its own store; in two pieces.
+#[test]
+fn runs_across_boundaries() {
+    for case in 0..4000 {
+        let random = &mut Random::of_case(SEED, case);
+        let set = any_set(random, case);
+        let part = Part::of(set.part).unwrap();
+        let command = random.pick(&Command::ALL);
+        let mut states = set.states(command, sets::tail(random)).unwrap();
+        states.extend(states::gap(random));
+        let mut records: Vec<_> = (1..=set.devices)
+            .map(|number| {
+                let mut record = records::fitting(random, set.part);
+                let r = &mut record.registers;
+                let slice = slice_bits(command, part, r.configuration);
+                let b = 22 + number * slice + random.below(5);
+                r.position = part.frame_clocks(r.configuration) - b as u64;
+                record
+            })
+            .collect();
+        let mut copy = records.clone();
+        let cut = random.between(0, states.len());
+        for piece in [&states[..cut], &states[cut..]] {
+            runs_alike(&mut records, &mut copy, piece);
+        }
+    }
+}
+
+/// More clocks than a frame has: at low load, and at high load for devices that ignore or pass it.
+#[test]
+fn runs_longer_than_a_frame() {
+    for case in 0..8 {
+        let random = &mut Random::of_case(SEED, case);
+        let mut records: Vec<_> = (0..3)
+            .map(|_| records::fitting(random, sets::part(case)))
+            .collect();
+        let high = 2 * (case / 4) as u8;
+        let clocks = 524_288 + random.below(9);
+        let states: Vec<u8> = states::lows(random, clocks);
+        let states: Vec<u8> = states.into_iter().map(|state| state + high).collect();
+        let mut copy = records.clone();
+        runs_alike(&mut records, &mut copy, &states);
+    }
+}
+
+/// Both give the same, and leave the same in their chains.
+fn runs_alike(of_model: &mut [record::Device], of_baseline: &mut [record::Device], states: &[u8]) {
+    let mut returned = vec![0; states.len() + 23];
+    let expected = model::chain::run(of_model, states, returned.len()).unwrap();
+    let sent = chain::run(of_baseline, states, &mut returned);
+    assert_eq!(sent, Ok(expected.len()));
+    assert_eq!(returned[..expected.len()], expected);
+    assert_eq!(of_baseline, of_model);
 }
 
 #[test]
@@ -179,11 +230,14 @@ fn comparisons() {
         let set = any_set(random, case);
         let part = Part::of(set.part).unwrap();
         let mut records = vec![record::Device::fresh(set.part); set.devices];
-        for command in Command::RESTORE {
-            let states = set.states(command, Tail::default()).unwrap();
-            model::chain::run(&mut records, &states, states.len() + 23).unwrap();
+        let states = |command| set.states(command, Tail::default()).unwrap();
+        let mut states: Vec<u8> = Command::RESTORE.into_iter().flat_map(states).collect();
+        // With one low clock behind the restore, each device comes to its boundary.
+        states.push(0);
+        for record in &mut records {
+            record.registers.position = 524_288 - states.len() as u64;
         }
-        model::chain::boundary(&mut records).unwrap();
+        model::chain::run(&mut records, &states, states.len() + 23).unwrap();
         for _ in 0..random.below(3) {
             let at = random.below(set.devices);
             let r = &mut records[at].registers;

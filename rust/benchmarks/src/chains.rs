@@ -1,36 +1,68 @@
-//! Whole restores, and floods of states that restore nothing.
+//! Whole restores, floods of states that restore nothing, and clocks that do nothing but pass.
 
 use crate::frames::page;
 use crate::race::{best, print};
 use baseline::chain;
-use cases::Random;
+use cases::{states, Random};
 use model::frame::Tail;
 use model::part::Command;
+use model::set::Set;
 use record::{Device, Place};
 use std::hint::black_box;
 
 /// Devices of a flooded chain.
 const FLOODED: usize = 512;
 
-/// Restores of N = 64, 256, 512, 1023 with 14-bit values, and of 512 with 12-bit values; floods of 512 devices; all of
-/// 24 outputs and of 16.
+/// Devices of the longest chain.
+const MOST: usize = 1023;
+
+/// Clocks of a frame of light.
+const FRAME: usize = 524_288;
+
+/// Restores of N = 64, 256, 512, 1023 with 14-bit values, and of 512 with 12-bit values; floods of 512 devices; clocks
+/// of 1023 devices; all of 24 outputs and of 16. A restore of 512 devices with boundaries inside.
 pub fn races() {
     for [wide, narrow] in [[6975, 6974], [6973, 6972]] {
-        for devices in [64, 256, 512, 1023] {
+        for devices in [64, 256, 512, MOST] {
             whole_restore(wide, devices);
         }
         whole_restore(narrow, 512);
         floods(wide);
+        clocks(wide);
     }
+    boundaries_inside(6975, 512);
 }
 
 fn whole_restore(part: u16, devices: usize) {
     run(
         &format!("whole restore of a {part} chain through one run, N = {devices}"),
         &vec![Device::fresh(part); devices],
-        &restore(part, devices),
+        &restore(&page(part, devices)),
         (devices == 512).then_some(2.0),
     );
+}
+
+/// The wait behind a restore, which brings each device to a boundary, and a single clock.
+fn clocks(part: u16) {
+    let chain = vec![Device::fresh(part); MOST];
+    let states = states::lows(&mut Random::of_case(4, 0), FRAME);
+    let what = format!("524,288 low clocks of a {part} chain, N = {MOST}");
+    run(&what, &chain, &states, Some(2.0));
+    let what = format!("a run of one state, a {part} chain, N = {MOST}");
+    run_by(&what, &chain, &[0], ("ns a device", MOST as f64), None);
+}
+
+/// GLB4 makes the frame of light shorter than the restore, so that each device has two or three boundaries in it. The
+/// devices begin at positions all over the long frame.
+fn boundaries_inside(part: u16, devices: usize) {
+    let mut set = page(part, devices);
+    (set.configuration, set.global) = (0x11, 3);
+    let mut chain = vec![Device::fresh(part); devices];
+    for (k, device) in chain.iter_mut().enumerate() {
+        device.registers.position = (FRAME * k / devices) as u64;
+    }
+    let what = format!("whole restore of a {part} chain, boundaries inside, N = {devices}");
+    run(&what, &chain, &restore(&set), Some(2.0));
 }
 
 /// Each flood has as many states as an individual frame of the chain, or nearly.
@@ -64,9 +96,8 @@ fn floods(part: u16) {
     flood("random states", &chain, any(0, 3));
 }
 
-/// The states of a page's four frames, back to back.
-fn restore(part: u16, devices: usize) -> Vec<u8> {
-    let set = page(part, devices);
+/// The states of a set's four frames, back to back.
+fn restore(set: &Set) -> Vec<u8> {
     let states = |command| set.states(command, Tail::default());
     Command::RESTORE
         .iter()
@@ -75,6 +106,12 @@ fn restore(part: u16, devices: usize) -> Vec<u8> {
 }
 
 fn run(what: &str, chain: &[Device], states: &[u8], limit: Option<f64>) {
+    let per = ("ns a state", states.len() as f64);
+    run_by(what, chain, states, per, limit);
+}
+
+/// Positions go on from one run to the next; both sides are shown to give the same in the first.
+fn run_by(what: &str, chain: &[Device], states: &[u8], per: (&str, f64), limit: Option<f64>) {
     let [mut a, mut b] = [(); 2].map(|()| chain.to_vec());
     let [mut back, mut back_rust] = [(); 2].map(|()| vec![0; states.len() + 23]);
     let sent = ffi::run(&mut a, states, &mut back);
@@ -89,11 +126,5 @@ fn run(what: &str, chain: &[Device], states: &[u8], limit: Option<f64>) {
             let _ = black_box(chain::run(&mut b, black_box(states), &mut back_rust));
         },
     ]);
-    print(
-        what,
-        ("ns a state", states.len() as f64),
-        proved,
-        plain,
-        limit,
-    );
+    print(what, per, proved, plain, limit);
 }

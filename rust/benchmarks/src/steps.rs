@@ -56,6 +56,10 @@ fn steps(start: Device, states: &[u8]) {
 fn collecting(start: Device, states: &[u8]) {
     let [mut a, mut b] = [(); 2].map(|()| vec![start]);
     let [mut back, mut back_rust] = [(); 2].map(|()| vec![0; states.len() + 23]);
+    let sent = ffi::run(&mut a, states, &mut back);
+    let sent_rust = chain::run(&mut b, states, &mut back_rust);
+    assert_eq!(Ok(sent.value as usize), sent_rust, "collected alike");
+    assert!(a == b && back == back_rust, "collected alike");
     let [proved, plain] = best([
         &mut || {
             black_box(ffi::run(&mut a, black_box(states), &mut back));
@@ -64,7 +68,6 @@ fn collecting(start: Device, states: &[u8]) {
             let _ = black_box(chain::run(&mut b, black_box(states), &mut back_rust));
         },
     ]);
-    assert!(a == b && back == back_rust, "collected alike");
     let r = &start.registers;
     let part = Part::of(r.part).expect("a part's number");
     let bits = slice_bits(Command::Individual, part, r.configuration);

@@ -5,15 +5,20 @@ use crate::Random;
 use model::part::{slice_bits, Command, Part};
 use record::{Device, Place, Registers};
 
+/// Clocks of a frame with GLB4 on a part with 14-bit values: a quarter of any other frame.
+pub const QUARTER: u64 = 131_072;
+
 /// A record that fits, in any phase.
 pub fn fitting(random: &mut Random, part: u16) -> Device {
     let known = Part::of(part).expect("a part's number");
+    let configuration = random.byte();
     let mut registers = Registers {
         overtemperature: random.below(2) as u8,
         openled: random.below(2) as u8,
-        configuration: random.byte(),
+        configuration,
         waiting: random.byte(),
         active: random.byte(),
+        position: position(random, known, configuration),
         ..Registers::zeros(part)
     };
     let r = &mut registers;
@@ -28,10 +33,42 @@ pub fn fitting(random: &mut Random, part: u16) -> Device {
         list[..known.outputs()].fill_with(|| value(random, known));
     }
     r.slice[..2 * known.outputs()].fill_with(|| value(random, known));
-    Device {
-        registers,
-        place: place(random, known, registers.configuration),
+    let place = place(random, known, configuration);
+    if place.phase == record::SLICE && place.command > 1 && random.one_in(2) {
+        begin_copies(random, known, r);
     }
+    Device { registers, place }
+}
+
+/// A position that fits: often at an end of the frame, or shortly before a quarter of the long frame is over, which is
+/// as long as a frame with GLB4.
+pub fn position(random: &mut Random, part: Part, configuration: u8) -> u64 {
+    let length = part.frame_clocks(configuration);
+    let any = random.next() % length;
+    let before_end = length - random.between(1, 1000) as u64;
+    let quarter = QUARTER * random.between(1, 4) as u64 - random.below(60) as u64;
+    let picked = random.pick(&[
+        0,
+        1,
+        QUARTER - 1,
+        QUARTER,
+        200_000,
+        length - 2,
+        length - 1,
+        before_end,
+        quarter,
+        any,
+    ]);
+    picked % length
+}
+
+/// The copies of one byte are in the slots, but for the last bit of the last copy.
+fn begin_copies(random: &mut Random, part: Part, r: &mut Registers) {
+    let byte = u16::from(random.byte());
+    for slot in &mut r.slice[..part.banks()] {
+        *slot = *slot & !0xFF | byte;
+    }
+    r.slice[part.banks() - 1] >>= 1;
 }
 
 /// A place that fits.
@@ -89,7 +126,7 @@ pub fn damaged(random: &mut Random, part: u16) -> Device {
     let high = random.pick(&[limit - 1, limit, any]);
     let outputs = known.outputs();
     let r = &mut device.registers;
-    let kinds = if has_unused(r, known) { 14 } else { 12 };
+    let kinds = if has_unused(r, known) { 15 } else { 13 };
     match random.below(kinds) {
         0 => r.part = unknown_part(random),
         1 => r.overtemperature = random.pick(&[1, 2, 255]),
@@ -103,9 +140,24 @@ pub fn damaged(random: &mut Random, part: u16) -> Device {
         9 => device.place.command = random.pick(&[0, 1, 3, 4, 255]),
         10 => device.place.count = random.pick(&[0, 1, 1023, 1024, any]),
         11 => device.place.read = read(random, known, r.configuration),
+        12 => r.position = past_end(random, known.frame_clocks(r.configuration)),
         _ => fill_unused(random, r, known),
     }
     device
+}
+
+/// A position at the end of a frame of so many clocks, mostly past it.
+fn past_end(random: &mut Random, length: u64) -> u64 {
+    let any = random.next();
+    random.pick(&[
+        length - 1,
+        length,
+        length + 1,
+        4 * QUARTER,
+        1 << 32,
+        u64::MAX,
+        any,
+    ])
 }
 
 /// A number of bits read: about the length of a slice, or about the limit of another phase.
@@ -159,6 +211,7 @@ pub fn junk(random: &mut Random) -> Device {
             active0: words(random),
             active1: words(random),
             slice: [(); 48].map(|()| random.next() as u16),
+            position: random.next(),
         },
         place: Place {
             phase: random.byte(),

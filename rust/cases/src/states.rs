@@ -84,6 +84,11 @@ pub fn gap(random: &mut Random) -> Vec<u8> {
     }
 }
 
+/// So many low clocks with any data.
+pub fn lows(random: &mut Random, clocks: usize) -> Vec<u8> {
+    (0..clocks).map(|_| random.below(2) as u8).collect()
+}
+
 /// SYNC at low load, once or several times, without up to two of its first bits, and ending from one bit before its end
 /// to two bits behind it.
 fn like_sync(random: &mut Random) -> Vec<u8> {

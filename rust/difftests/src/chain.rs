@@ -1,7 +1,7 @@
 //! Single calls on lent chains of any records.
 
 use crate::bits::answer;
-use crate::tally::{Case, Tally};
+use crate::tally::{Case, Tally, RISES};
 use cases::{records, sets, states, Random};
 use record::Device;
 
@@ -12,16 +12,16 @@ pub fn lent() -> Tally {
         let chain = any_chain(random, part);
         match random.below(8) {
             0 => fresh(case, random, chain, part),
-            1 => boundary(case, chain),
-            2 => set_fault(case, random, chain),
+            1 => set_fault(case, random, chain),
             _ => run(case, random, chain, part),
         }
     });
-    tally.close_rises(&[0, 1, 2, 4, 5, 13]);
+    tally.close_events(&[0, 1, 2, 4, 5, 13], &[RISES]);
     tally
 }
 
-fn any_chain(random: &mut Random, part: u16) -> Vec<Device> {
+/// Up to five records of a part, or none, 1023 or 1024; in one of three chains one of them is another.
+pub fn any_chain(random: &mut Random, part: u16) -> Vec<Device> {
     let count = match random.below(400) {
         0 => 1024,
         1 => 1023,
@@ -96,15 +96,6 @@ fn fresh(case: &mut Case, random: &mut Random, mut chain: Vec<Device>, part: u16
     let found = ffi::fresh(&mut chain, part);
     case.same("fresh", found, expected.err().unwrap_or(0));
     case.same("records after fresh", &chain, &expected_chain);
-    case.reach(found);
-}
-
-fn boundary(case: &mut Case, mut chain: Vec<Device>) {
-    let mut expected_chain = chain.clone();
-    let expected = model::chain::boundary(&mut expected_chain);
-    let found = ffi::boundary(&mut chain);
-    case.same("boundary", found, expected.err().unwrap_or(0));
-    case.same("records after a boundary", &chain, &expected_chain);
     case.reach(found);
 }
 

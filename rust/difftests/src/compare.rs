@@ -39,9 +39,11 @@ fn compare_case(case: &mut Case, random: &mut Random, part: u16) {
 fn running(random: &mut Random, set: &Set, number: usize) -> Device {
     let mut device = records::fitting(random, set.part);
     let r = &mut device.registers;
-    // A place in a slice fits by D0, which changes here.
+    // A place in a slice fits by D0 and a position by D4, which change here.
     device.place = record::Place::of(record::PASSING);
     r.configuration = set.configuration;
+    let part = Part::of(set.part).expect("a part's number");
+    r.position = records::position(random, part, set.configuration);
     let calibration = set.calibration_of(number);
     r.calibration[..calibration.len()].copy_from_slice(calibration);
     r.active = set.global;
@@ -75,7 +77,7 @@ fn differ(random: &mut Random, part: u16, chain: &mut [Device]) {
 /// Something that a number refuses, mostly.
 fn damage(random: &mut Random, set: &mut Set, chain: &mut Vec<Device>) {
     let at = random.below(chain.len());
-    match random.below(14) {
+    match random.below(15) {
         0 => set.part = sets::unknown_part(random),
         1 => chain[at].registers.part = sets::unknown_part(random),
         2 => set.devices = random.pick(&[0, 1024, usize::MAX]),
@@ -92,6 +94,7 @@ fn damage(random: &mut Random, set: &mut Set, chain: &mut Vec<Device>) {
             set.individual[at] = random.pick(&[4096, 16_384, u16::MAX]);
         }
         12 => chain[at].registers.slice[0] = u16::MAX,
+        13 => chain[at].registers.position = 4 * records::QUARTER,
         _ => chain[at] = records::damaged(random, set.part),
     }
     if random.one_in(3) {

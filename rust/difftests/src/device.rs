@@ -1,6 +1,7 @@
 //! One device by value: its judgement and its step.
 
-use crate::tally::{Case, Tally};
+use crate::clock::{configured, FRAMES};
+use crate::tally::{Case, Tally, RISES};
 use cases::{records, sets};
 use ffi::Stepped;
 use model::device::Device;
@@ -8,7 +9,8 @@ use model::frame::header;
 use model::part::Command;
 use model::serial::clocked;
 
-/// Records that fit, records with one number changed, and records of anything; states 0 to 3, and others.
+/// Records that fit, records with one number changed, and records of anything; states 0 to 3, and others. Among them
+/// last bits of configuration slices.
 pub fn judged_and_stepped() -> Tally {
     let mut tally = Tally::new("judge and step", 0x57E9);
     tally.of_each_part(60_000, |case, random, part| {
@@ -21,7 +23,7 @@ pub fn judged_and_stepped() -> Tally {
         let state = random.pick(&[0, 1, 2, 3, 2, 3, 3, any]);
         judge_and_step(case, record, state);
     });
-    tally.close_rises(&[0, 1, 13]);
+    tally.close_events(&[0, 1, 13], &[RISES, FRAMES]);
     tally
 }
 
@@ -40,7 +42,7 @@ pub fn every_read() -> Tally {
             }
         }
     }
-    tally.close_rises(&[0, 13]);
+    tally.close_events(&[0, 13], &[RISES]);
     tally
 }
 
@@ -57,10 +59,13 @@ fn judge_and_step(case: &mut Case, record: record::Device, state: u8) {
     };
     case.same("refusal", stepped.refusal, refusal);
     match judged {
-        Ok(device) if state < 4 => {
+        Ok(mut device) if state < 4 => {
             case.rises(&record, &[state]);
-            let (next, sent) = device.step(state);
-            case.same("next device", stepped.device, next.to_record());
+            let sent = device.step(state);
+            let next = device.to_record();
+            case.same("next device", stepped.device, next);
+            let at = record.registers.position;
+            configured(case, at, &record.registers, &next.registers);
             case.same("sent", states_of(&stepped), sent);
         }
         _ => case.same("refused", stepped, kept(record, refusal)),

@@ -1,11 +1,14 @@
-//! Light: every subframe and window, every clock of chosen values, positions of any kind, and runs of clocks.
+//! Light: every subframe and window, every clock of chosen values, positions of any kind, runs of clocks, and what is
+//! lit now.
 
 use crate::bits::answer;
-use crate::tally::Tally;
+use crate::chain::any_chain;
+use crate::pair::{frame_clocks, Pair};
+use crate::tally::{Case, Events, Tally};
 use cases::{records, sets, Random};
-use ffi::{Answer, Clocks, Signed};
+use ffi::{Answer, Clocks, LitNow, Signed};
 use model::light::{is_device_lit, is_lit, is_on, lead, Position};
-use model::part::Part;
+use model::part::{phases, Part};
 use record::Device;
 use std::ops::Range;
 
@@ -215,5 +218,156 @@ pub fn device_runs() -> Tally {
         case.reach(found.refusal);
     });
     tally.close(&[0, 1, 13]);
+    tally
+}
+
+/// What there is to be seen of an output.
+const SEEN: Events = Events {
+    title: "outputs now",
+    names: &["MUX0 dark", "MUX0 lit", "MUX1 dark", "MUX1 lit"],
+};
+
+/// Any output of any device of any chain, often about the clocks at which it becomes lit or dark.
+pub fn now() -> Tally {
+    let mut tally = Tally::new("lit now", 0x1170);
+    tally.of_each_part(30_000, |case, random, part| {
+        let mut chain = any_chain(random, part);
+        let far = random.pick(&[0, chain.len() + 1, usize::MAX]);
+        let near = random.between(1, chain.len().max(1));
+        let device = random.pick(&[near, near, near, near, near, far]);
+        let last = Part::of(part).map_or(0, Part::outputs) as u32 - 1;
+        let any = random.between(0, last as usize) as u32;
+        let output = random.pick(&[any, any, any, any, last, last + 1, u32::MAX]);
+        if (1..=chain.len()).contains(&device) && output <= last && random.one_in(2) {
+            bring_near(random, &mut chain[device - 1], output);
+        }
+        ask(case, &chain, device, output);
+    });
+    tally.close_events(&[0, 1, 2, 4, 13], &[SEEN]);
+    tally
+}
+
+/// A device comes to a clock about one at which its output becomes lit or dark, in any subframe and phase.
+fn bring_near(random: &mut Random, device: &mut Device, output: u32) {
+    let r = &mut device.registers;
+    let Ok(part) = Part::of(r.part) else { return };
+    let (clocks, edge) = (part.clocks(), part.edge_zone());
+    let run = random.below((part.subframes(r.configuration) * phases(r.configuration)) as usize);
+    let phase = run as u32 % phases(r.configuration);
+    let values = [r.active0, r.active1][phase as usize];
+    let value = u32::from(values[output as usize]) % clocks;
+    let near = random.pick(&[edge, value, clocks - value, clocks - edge, clocks]);
+    let clock = (near + clocks - random.below(3) as u32) % clocks;
+    r.position = run as u64 * u64::from(clocks) + u64::from(clock);
+}
+
+/// The library and the model say the same of an output, and the chain stays.
+fn ask(case: &mut Case, chain: &[Device], device: usize, output: u32) -> LitNow {
+    let before = chain.to_vec();
+    let found = ffi::lit_now(chain, device, output);
+    let expected = model::light::lit_now(chain, device, output);
+    let seen = expected.map_or((0, 0), |now| (u8::from(now.lit), now.phase as u8));
+    let expected = LitNow {
+        lit: seen.0,
+        phase: seen.1,
+        refusal: expected.err().unwrap_or(0),
+    };
+    case.same("lit now", found, expected);
+    case.same("records", chain, &before[..]);
+    if expected.refusal == 0 {
+        case.event(SEEN.names[usize::from(2 * seen.1 + seen.0)]);
+    }
+    case.reach(found.refusal);
+    found
+}
+
+/// The numbers of a refusal.
+const NUMBERS: [u8; 4] = [1, 2, 4, 13];
+
+/// What number 13 is given for.
+const WRONG: Events = Events {
+    title: "13 for",
+    names: &["a record", "a position", "a device", "an output"],
+};
+
+/// Every choice of things that are wrong, so that each is alone and with all that have a larger number; and none.
+pub fn now_refused() -> Tally {
+    let mut tally = Tally::new("lit now refused", 0x1174);
+    tally.of_each_part(40, |case, random, part| {
+        for choice in 0..1 << NUMBERS.len() {
+            let chosen = |&k: &usize| choice >> k & 1 == 1;
+            let wrong: Vec<u8> = (0..NUMBERS.len())
+                .filter(chosen)
+                .map(|k| NUMBERS[k])
+                .collect();
+            let (chain, device, output) = wrong_question(case, random, part, &wrong);
+            let found = ask(case, &chain, device, output);
+            let lowest = wrong.first().copied().unwrap_or(0);
+            case.same("number", found.refusal, lowest);
+        }
+    });
+    tally.close_events(&[0, 1, 2, 4, 13], &[WRONG]);
+    tally
+}
+
+/// A chain, a device and an output with these things wrong. Where 2 is wrong with others, there are 1024 records.
+fn wrong_question(
+    case: &mut Case,
+    random: &mut Random,
+    part: u16,
+    wrong: &[u8],
+) -> (Vec<Device>, usize, u32) {
+    let is_wrong = |number| wrong.contains(&number);
+    let count = match is_wrong(2) {
+        true if wrong.len() == 1 => random.pick(&[0, 1024]),
+        true => 1024,
+        false => random.between(2, 5),
+    };
+    let mut chain = vec![records::fitting(random, part); count];
+    let mut device = random.between(1, count.max(1));
+    let outputs = Part::of(part).map_or(0, Part::outputs);
+    let mut output = random.below(outputs) as u32;
+    if is_wrong(13) {
+        let kind = random.below(4);
+        case.event(WRONG.names[kind]);
+        match kind {
+            0 => chain[random.below(count)].registers.openled = 2,
+            1 => {
+                let r = &mut chain[random.below(count)].registers;
+                r.position = frame_clocks(r);
+            }
+            2 => device = random.pick(&[0, count + 1, usize::MAX]),
+            _ => output = random.pick(&[outputs as u32, u32::MAX]),
+        }
+    }
+    // One record has another part and one none, so that each is wrong beside the other.
+    if is_wrong(4) {
+        chain[0].registers.part = sets::other_part(random, part);
+    }
+    if is_wrong(1) {
+        chain[count - 1].registers.part = sets::unknown_part(random);
+    }
+    (chain, device, output)
+}
+
+/// A chain is run clock by clock across the end of a subframe, of a phase or of the frame, and asked with each clock.
+pub fn clock_by_clock() -> Tally {
+    let mut tally = Tally::new("lit clock by clock", 0x11CC);
+    tally.of_each_part(300, |case, random, part| {
+        let mut chain = Pair::of((0..2).map(|_| records::fitting(random, part)).collect());
+        for number in 1..=2 {
+            let r = &chain.model[number - 1].registers;
+            let clocks = u64::from(Part::of(part).map_or(1, Part::clocks));
+            let ends = random.below((frame_clocks(r) / clocks) as usize) as u64;
+            chain.bring(number, ends * clocks + random.between(1, 40) as u64);
+        }
+        let outputs = Part::of(part).map_or(0, Part::outputs);
+        for _ in 0..60 {
+            chain.run(case, &[random.below(2) as u8]);
+            let (device, output) = (random.between(1, 2), random.below(outputs) as u32);
+            ask(case, &chain.library, device, output);
+        }
+    });
+    tally.close_events(&[0], &[SEEN]);
     tally
 }

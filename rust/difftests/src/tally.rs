@@ -5,13 +5,26 @@ use model::bits::bits_of;
 use model::edge::Edge;
 use model::part::Part;
 use record::Device;
+use std::collections::BTreeMap;
 use std::fmt::Debug;
 
 /// Cases that differ are printed up to so many for each kind.
 const SHOWN: u64 = 3;
 
+/// What cases come upon beside answers, by names that are counted. A kind of test that closes with events must have
+/// come upon each of them.
+pub struct Events {
+    /// What they have in common.
+    pub title: &'static str,
+    /// Their names.
+    pub names: &'static [&'static str],
+}
+
 /// How load can rise at a hunting device: with each edge, or with none, and the device is lost.
-const RISES: [&str; 4] = ["early", "exact", "late", "lost"];
+pub const RISES: Events = Events {
+    title: "load rose",
+    names: &["early", "exact", "late", "lost"],
+};
 
 /// One kind of test: many cases, which pass or fail together.
 pub struct Tally {
@@ -26,15 +39,15 @@ pub struct Tally {
     /// Answers that should have been given, and never were.
     missing: u64,
     reached: [u64; 14],
-    /// How often load rose, by [`RISES`].
-    rises: [u64; 4],
+    /// How often cases came upon each event.
+    events: BTreeMap<&'static str, u64>,
 }
 
 /// One case.
 pub struct Case {
     differences: Vec<String>,
     refusals: Vec<u8>,
-    rises: [u64; 4],
+    events: Vec<&'static str>,
 }
 
 impl Tally {
@@ -48,7 +61,7 @@ impl Tally {
             of_each_part: None,
             missing: 0,
             reached: [0; 14],
-            rises: [0; 4],
+            events: BTreeMap::new(),
         }
     }
 
@@ -81,11 +94,11 @@ impl Tally {
         let mut case = Case {
             differences: vec![],
             refusals: vec![],
-            rises: [0; 4],
+            events: vec![],
         };
         run(&mut case);
-        for (count, more) in self.rises.iter_mut().zip(case.rises) {
-            *count += more;
+        for event in case.events {
+            *self.events.entry(event).or_default() += 1;
         }
         for refusal in case.refusals {
             match self.reached.get_mut(usize::from(refusal)) {
@@ -127,18 +140,23 @@ impl Tally {
         println!("    seed {:#x}; answers {}", self.seed, self.answers());
     }
 
-    /// Prints the same and how often load rose, which must have been with each edge and with none.
-    pub fn close_rises(&mut self, numbers: &[u8]) {
-        let mut rises = vec![];
-        for (how, count) in RISES.into_iter().zip(self.rises) {
-            if count == 0 {
-                println!("{}: load never rose: {how}", self.name);
-                self.missing += 1;
+    /// Prints the same and how often cases came upon each of some events, which they must have.
+    pub fn close_events(&mut self, numbers: &[u8], all: &[Events]) {
+        let mut lines = vec![];
+        for events in all {
+            let mut counts = vec![];
+            for name in events.names {
+                let count = self.events.get(name).copied().unwrap_or(0);
+                if count == 0 {
+                    println!("{}: {}: never {name}", self.name, events.title);
+                    self.missing += 1;
+                }
+                counts.push(format!("{name} {}", commas(count)));
             }
-            rises.push(format!("{how} {}", commas(count)));
+            lines.push(format!("    {}: {}", events.title, counts.join("; ")));
         }
         self.close(numbers);
-        println!("    load rose: {}", rises.join("; "));
+        lines.iter().for_each(|line| println!("{line}"));
     }
 
     /// How often each answer was given.
@@ -197,9 +215,15 @@ impl Case {
                 low.get_or_insert_with(Vec::new).push(bit);
             } else if let Some(low) = low.take() {
                 let read = Edge::read(&low, bit);
-                self.rises[read.map_or(3, |(edge, _)| usize::from(edge.number()))] += 1;
+                let rise = read.map_or(3, |(edge, _)| usize::from(edge.number()));
+                self.event(RISES.names[rise]);
             }
         }
+    }
+
+    /// Counts an event, by its name.
+    pub fn event(&mut self, name: &'static str) {
+        self.events.push(name);
     }
 
     /// Counts the number of an answer, 0 for acceptance.

@@ -48,6 +48,18 @@ pub struct Clocks {
     pub refusal: u8,
 }
 
+/// `struct bb_shown_now`.
+#[repr(C)]
+#[derive(Clone, Copy, Debug, PartialEq, Eq)]
+pub struct LitNow {
+    /// 1 where lit; 0 where not, and where refused.
+    pub lit: u8,
+    /// 0 (MUX0) or 1 (MUX1); 0 where refused.
+    pub phase: u8,
+    /// 0 where accepted.
+    pub refusal: u8,
+}
+
 /// `struct bb_compared`.
 #[repr(C)]
 #[derive(Clone, Copy, Debug, PartialEq, Eq)]
@@ -243,12 +255,6 @@ pub fn run(devices: &mut [Device], states: &[u8], returned: &mut [u8]) -> Answer
     }
 }
 
-/// A frame boundary; the refusal.
-pub fn boundary(devices: &mut [Device]) -> u8 {
-    // SAFETY: the slice is lent for the call, with its length.
-    unsafe { raw::bb_boundary(devices.as_mut_ptr(), devices.len()) }
-}
-
 /// Sets a fault flag; the refusal.
 pub fn set_fault(devices: &mut [Device], device: usize, kind: u8, flag: u8) -> u8 {
     // SAFETY: the slice is lent for the call, with its length.
@@ -313,6 +319,12 @@ pub fn lit_clocks(
 pub fn device_lit_clocks(device: Device, output: u32, subframe: u32, phase: u32) -> Clocks {
     // SAFETY: every record is a value.
     unsafe { raw::bb_device_lit_clocks(device, output, subframe, phase) }
+}
+
+/// Whether an output of a device of a chain, numbered from 1, is lit at its position, and the phase.
+pub fn lit_now(chain: &[Device], device: usize, output: u32) -> LitNow {
+    // SAFETY: the slice is lent for the call, with its length.
+    unsafe { raw::bb_lit_now(chain.as_ptr(), chain.len(), device, output) }
 }
 
 /// Compares a set with a chain.

@@ -1,6 +1,6 @@
 //! `include/bractbeacon.h`, declared again.
 
-use crate::{Answer, Clocks, Compared, Packed, SignCurrent, Signed, Stepped};
+use crate::{Answer, Clocks, Compared, LitNow, Packed, SignCurrent, Signed, Stepped};
 use record::Device;
 
 extern "C" {
@@ -80,7 +80,6 @@ extern "C" {
         returned: *mut u8,
         room: usize,
     ) -> Answer;
-    pub fn bb_boundary(devices: *mut Device, count: usize) -> u8;
     pub fn bb_set_fault(
         devices: *mut Device,
         count: usize,
@@ -117,6 +116,7 @@ extern "C" {
         phase: u32,
     ) -> Clocks;
     pub fn bb_device_lit_clocks(device: Device, output: u32, subframe: u32, phase: u32) -> Clocks;
+    pub fn bb_lit_now(chain: *const Device, count: usize, device: usize, output: u32) -> LitNow;
     pub fn bb_compare(
         part: u16,
         devices: usize,

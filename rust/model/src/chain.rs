@@ -12,7 +12,8 @@ pub fn fresh(records: &mut [record::Device], part: u16) -> Result<(), Refusal> {
     Ok(())
 }
 
-/// Gives the chain line states; the states that the last device sends, for a list with room for `room`.
+/// Gives the chain line states; the states that the last device sends, for a list with room for `room`. With each state
+/// every device first advances by a clock, and then the state goes through the chain.
 pub fn run(records: &mut [record::Device], states: &[u8], room: usize) -> Result<Vec<u8>, Refusal> {
     judge_parts(records)?;
     refuse(5, room < states.len() + 23)?;
@@ -20,6 +21,9 @@ pub fn run(records: &mut [record::Device], states: &[u8], room: usize) -> Result
     let mut devices = devices_of(records)?;
     let mut returned = vec![];
     for &state in states {
+        for device in &mut devices {
+            device.advance();
+        }
         let mut sent = vec![state];
         for device in &mut devices {
             sent = pass_through(device, &sent);
@@ -30,15 +34,12 @@ pub fn run(records: &mut [record::Device], states: &[u8], room: usize) -> Result
     Ok(returned)
 }
 
-/// A frame boundary for the whole chain.
-pub fn boundary(records: &mut [record::Device]) -> Result<(), Refusal> {
+/// How many clocks it is until each position has next returned to 0: what demand 3 waits for, at low load.
+pub fn clocks_to_boundary(records: &[record::Device]) -> Result<usize, Refusal> {
     judge_parts(records)?;
-    let devices: Vec<Device> = devices_of(records)?
-        .into_iter()
-        .map(Device::boundary)
-        .collect();
-    store(&devices, records);
-    Ok(())
+    let devices = devices_of(records)?;
+    let clocks = |device: &Device| (device.frame_clocks() - device.position) as usize;
+    Ok(devices.iter().map(clocks).max().unwrap_or(0))
 }
 
 /// Sets a fault flag of the device with a number from 1: kind 0 is overtemperature, 1 is open LED.
@@ -84,11 +85,8 @@ fn store(devices: &[Device], records: &mut [record::Device]) {
 
 /// Steps a device through states in turn; what it sends.
 fn pass_through(device: &mut Device, states: &[u8]) -> Vec<u8> {
-    let mut sent = vec![];
-    for &state in states {
-        let (next, more) = device.clone().step(state);
-        *device = next;
-        sent.extend(more);
-    }
-    sent
+    states
+        .iter()
+        .flat_map(|&state| device.step(state))
+        .collect()
 }

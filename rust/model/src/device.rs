@@ -50,6 +50,8 @@ pub struct Device {
     pub active: [[u16; 24]; 2],
     /// The slice coming in, field by field.
     pub slots: [u16; 48],
+    /// The position in the frame of light, in clocks.
+    pub position: u64,
     /// The phase.
     pub phase: Phase,
 }
@@ -61,6 +63,7 @@ impl Device {
         let part = Part::of(r.part)?;
         refuse(13, r.overtemperature > 1 || r.openled > 1)?;
         refuse(13, does_not_hold(part, r))?;
+        refuse(13, r.position >= part.frame_clocks(r.configuration))?;
         Ok(Device {
             part,
             overtemperature: r.overtemperature == 1,
@@ -72,6 +75,7 @@ impl Device {
             waiting: [r.waiting0, r.waiting1],
             active: [r.active0, r.active1],
             slots: r.slice,
+            position: r.position,
             phase: phase_of(&record.place, part, r.configuration)?,
         })
     }
@@ -92,40 +96,46 @@ impl Device {
                 active0: self.active[0],
                 active1: self.active[1],
                 slice: self.slots,
+                position: self.position,
             },
             place: place_of(&self.phase),
         }
     }
 
-    /// One line state in, 0 to 3: the next device, and the states sent on.
-    pub fn step(self, state: u8) -> (Device, Vec<u8>) {
+    /// A clock of the host begins. Where the position returns to 0, what waits becomes active: a boundary.
+    pub fn advance(&mut self) {
+        self.position = (self.position + 1) % self.frame_clocks();
+        if self.position == 0 {
+            self.active_global = self.waiting_global;
+            self.active = self.waiting;
+        }
+    }
+
+    /// Clocks of its frame of light.
+    pub fn frame_clocks(&self) -> u64 {
+        self.part.frame_clocks(self.configuration)
+    }
+
+    /// One line state in, 0 to 3: the states sent on. It does not advance.
+    pub fn step(&mut self, state: u8) -> Vec<u8> {
         let bit = state & 1 == 1;
         if state < 2 {
-            (self.low(bit), vec![])
+            self.low(bit);
+            vec![]
         } else {
             self.high(bit, state)
         }
     }
 
-    /// A frame boundary: what waits becomes active.
-    pub fn boundary(mut self) -> Device {
-        self.active_global = self.waiting_global;
-        self.active = self.waiting;
-        self
+    fn low(&mut self, bit: bool) {
+        match &mut self.phase {
+            Phase::Hunting(low) => low.push(bit),
+            phase => *phase = Phase::Hunting(vec![bit]),
+        }
     }
 
-    fn low(mut self, bit: bool) -> Device {
-        let heard = match self.phase {
-            Phase::Hunting(low) => low,
-            _ => vec![],
-        };
-        self.phase = Phase::Hunting(joined(heard, bit));
-        self
-    }
-
-    fn high(mut self, bit: bool, state: u8) -> (Device, Vec<u8>) {
-        let phase = self.phase.clone();
-        self.phase = match phase {
+    fn high(&mut self, bit: bool, state: u8) -> Vec<u8> {
+        self.phase = match self.phase.clone() {
             Phase::Hunting(low) => match Edge::read(&low, bit) {
                 Some((_, command_bits)) => Phase::Opening(command_bits),
                 None => Phase::Lost,
@@ -135,25 +145,25 @@ impl Device {
             Phase::Slice(command, count, taken) => {
                 return self.take(command, count, taken, bit);
             }
-            Phase::Passing => return (self, vec![state]),
+            Phase::Passing => return vec![state],
             Phase::Lost => Phase::Lost,
         };
-        (self, vec![])
+        vec![]
     }
 
     /// One bit of the slice.
-    fn take(mut self, command: Command, count: u16, taken: usize, bit: bool) -> (Device, Vec<u8>) {
+    fn take(&mut self, command: Command, count: u16, taken: usize, bit: bool) -> Vec<u8> {
         let width = field_width(command, self.part);
         let slot = &mut self.slots[taken / width as usize];
         *slot = ((u32::from(*slot) * 2 + u32::from(bit)) % (1 << width)) as u16;
         if taken + 1 < slice_bits(command, self.part, self.configuration) {
             self.phase = Phase::Slice(command, count, taken + 1);
-            return (self, vec![]);
+            return vec![];
         }
         let count = (count + u16::from(self.has_fault(command))) % 1024;
         self.store(command);
         self.phase = Phase::Passing;
-        (self, clocked(&header(command, count)))
+        clocked(&header(command, count))
     }
 
     fn has_fault(&self, command: Command) -> bool {
@@ -180,8 +190,18 @@ impl Device {
             }
             Command::Calibration => self.calibration[..banks].copy_from_slice(&bytes),
             Command::Global if copies_agree => self.waiting_global = bytes[0],
-            Command::Configuration if copies_agree => self.configuration = bytes[0],
+            Command::Configuration if copies_agree => self.configure(bytes[0]),
             Command::Global | Command::Configuration => {}
+        }
+    }
+
+    /// Where the frame becomes shorter, the position is taken into it. That is no boundary, also where it is then 0.
+    fn configure(&mut self, configuration: u8) {
+        let before = self.frame_clocks();
+        self.configuration = configuration;
+        let after = self.frame_clocks();
+        if after < before {
+            self.position %= after;
         }
     }
 }

@@ -2,7 +2,7 @@
 //!
 //! This model shares no code or definition with the proved library. The record's layout, its
 //! slots and its phase numbers are those of include/bractbeacon.h, and so are the same on both sides of a differential
-//! test. It is clear and slow: frames are lists of bits, a chain goes device by device and state by state, light is
+//! test. It is clear and slow: frames are lists of bits, a chain goes state by state and device by device, light is
 //! counted, and current is added up clock by clock. An operation answers a `Result`, with the refusal number as its
 //! error, and a refused one changes nothing.
 

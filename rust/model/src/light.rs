@@ -1,5 +1,6 @@
 //! Light: ON subframes, leads, lit outputs.
 
+use crate::chain::{devices_of, judge_parts};
 use crate::device::Device;
 use crate::part::{phases, Part};
 use crate::{refuse, Refusal};
@@ -84,6 +85,47 @@ pub fn is_device_lit(record: &record::Device, at: Position) -> Result<bool, Refu
     let value = device.active[at.phase as usize][at.output as usize];
     let part = device.part.number();
     is_lit(part, device.configuration, device.active_global, value, at)
+}
+
+/// What is to be seen of an output now.
+#[derive(Clone, Copy, Debug, PartialEq, Eq)]
+pub struct Now {
+    /// Whether it is lit.
+    pub lit: bool,
+    /// 0 (MUX0) or, multiplexed, 1 (MUX1).
+    pub phase: u32,
+}
+
+/// Whether an output of the device with a number from 1 is lit at that device's position, and the phase.
+pub fn lit_now(records: &[record::Device], device: usize, output: u32) -> Result<Now, Refusal> {
+    judge_parts(records)?;
+    let devices = devices_of(records)?;
+    refuse(13, !(1..=records.len()).contains(&device))?;
+    let at = scheduled(&devices[device - 1], output);
+    let lit = is_device_lit(&records[device - 1], at)?;
+    let phase = at.phase;
+    Ok(Now { lit, phase })
+}
+
+/// Where a device stands in the schedule of its frame, which runs subframe by subframe, each in MUX0 and then, where it
+/// is multiplexed, in MUX1.
+fn scheduled(device: &Device, output: u32) -> Position {
+    let clocks = device.part.clocks();
+    let mut left = device.position as u32;
+    for subframe in 0..device.part.subframes(device.configuration) {
+        for phase in 0..phases(device.configuration) {
+            if left < clocks {
+                return Position {
+                    output,
+                    subframe,
+                    clock: left,
+                    phase,
+                };
+            }
+            left -= clocks;
+        }
+    }
+    panic!("a device that fits stands in its frame")
 }
 
 /// The clocks of a subframe at which an output with a value is lit; 0..0 where there are none. It asks every clock;

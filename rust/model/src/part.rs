@@ -148,6 +148,12 @@ impl Part {
         }
     }
 
+    /// Clocks of a frame of light, each of which runs once in every phase.
+    pub fn frame_clocks(self, configuration: u8) -> u64 {
+        let runs = self.subframes(configuration) * phases(configuration);
+        u64::from(runs * self.clocks())
+    }
+
     /// Individual values of one device.
     pub fn values(self, configuration: u8) -> usize {
         self.outputs() * phases(configuration) as usize

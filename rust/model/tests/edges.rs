@@ -1,6 +1,9 @@
 //! Load that rises a clock early or late: the worked examples 2a to 2i, that no history fits two edges, and frames on
 //! the wire.
 
+mod common;
+
+use common::wait;
 use model::bits::{bits_of, pack};
 use model::chain;
 use model::edge::Edge;
@@ -182,8 +185,11 @@ fn frames_back_to_back_with_any_edges() {
             .flat_map(|(command, edge)| set().states_with(edge, command, Tail::default()).unwrap())
             .collect();
         let mut devices = [Device::fresh(6974); 2];
+        for device in &mut devices {
+            device.registers.position = 524_288 - states.len() as u64 - 1;
+        }
         chain::run(&mut devices, &states, states.len() + 23).unwrap();
-        chain::boundary(&mut devices).unwrap();
+        wait(&mut devices);
         assert_eq!(model::compare::compare(&set(), &devices), Ok(None));
     }
 }

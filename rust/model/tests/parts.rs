@@ -1,10 +1,13 @@
 //! What goes by the part: its table, its outputs, what it uses of a record, and chains of two parts.
 
+mod common;
+
+use common::wait;
 use model::chain;
 use model::compare::compare;
 use model::device::Device as Judged;
 use model::frame::Tail;
-use model::light::{is_device_lit, is_lit, Position};
+use model::light::{is_device_lit, is_lit, lit_now, Position};
 use model::part::{slice_bits, Command, Part};
 use model::set::Set;
 use record::{Device, Registers};
@@ -115,7 +118,7 @@ fn restored(devices: &mut [Device], set: &Set) {
         let states = set.states(command, Tail::default()).unwrap();
         chain::run(devices, &states, states.len() + 23).unwrap();
     }
-    chain::boundary(devices).unwrap();
+    wait(devices);
     assert_eq!(compare(set, devices), Ok(None));
 }
 
@@ -158,7 +161,7 @@ fn records_of_two_parts_are_no_chain() {
             let numbers = [first.number(), second.number()];
             let mut devices = numbers.map(Device::fresh);
             let expected = if first == second { Ok(()) } else { Err(4) };
-            assert_eq!(chain::boundary(&mut devices), expected);
+            assert_eq!(lit_now(&devices, 1, 0).map(|_| ()), expected);
             assert_eq!(chain::run(&mut devices, &[], 23).map(|_| ()), expected);
             assert_eq!(chain::set_fault(&mut devices, 1, 0, true), expected);
             let compared = compare(&set(numbers[0], 2, PLAIN), &devices);

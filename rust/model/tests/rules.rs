@@ -1,6 +1,9 @@
 //! Rules that the "Numbers to hold against" of docs/RULES.md do not touch: the restore and its cut, the order of values, lost devices,
 //! records that do not fit, the comparison.
 
+mod common;
+
+use common::wait;
 use model::chain;
 use model::compare::{compare, Difference, Group};
 use model::device::Device as Judged;
@@ -46,7 +49,7 @@ fn a_restore_sets_every_register_in_use() {
     let states = restore(&set);
     chain::run(&mut devices, &states, states.len() + 23).unwrap();
     assert_eq!(devices[0].registers.active0, [0; 24]);
-    chain::boundary(&mut devices).unwrap();
+    wait(&mut devices);
     assert_eq!(compare(&set, &devices), Ok(None));
     assert_eq!(devices[2].registers.active1[23], set.individual[143]);
 }
@@ -174,8 +177,9 @@ fn a_slot_over_255_is_stored_by_its_low_bits() {
         count: 0,
         read: 23,
     };
-    let (next, sent) = Judged::of_record(&device).unwrap().step(3);
-    assert_eq!(next.to_record().registers.waiting, 0xA9);
+    let mut judged = Judged::of_record(&device).unwrap();
+    let sent = judged.step(3);
+    assert_eq!(judged.to_record().registers.waiting, 0xA9);
     assert_eq!(sent.len(), 24);
 }
 
@@ -241,7 +245,7 @@ fn the_first_difference_is_named() {
     let mut devices = used();
     let states = restore(&set);
     chain::run(&mut devices, &states, states.len() + 23).unwrap();
-    chain::boundary(&mut devices).unwrap();
+    wait(&mut devices);
     let found = |device, group, place| {
         Ok(Some(Difference {
             device,

@@ -1,8 +1,8 @@
 //! The device record that a chain is lent as: `struct bb_device` of `include/bractbeacon.h`; and a set as it is lent.
 //!
-//! Plain numbers without padding: every pattern of its 304 bytes is a record. Whether its numbers fit is for each user
-//! to judge. The arrays have places for three banks of eight outputs. A part with fewer banks uses the front of each, and
-//! the places behind hold 0.
+//! Plain numbers: whatever they are, they make a record, and whether they fit is for each user to judge. The arrays
+//! have places for three banks of eight outputs. A part with fewer banks uses the front of each, and the places behind
+//! hold 0.
 
 /// Phase: looking for SYNC at low load.
 pub const HUNTING: u8 = 0;
@@ -45,9 +45,11 @@ pub struct Registers {
     pub active1: [u16; 24],
     /// The slice coming in, a shift register for each field; multiplexed, two fields for each output.
     pub slice: [u16; 48],
+    /// The position in the frame of light, in clocks: 0 when fresh, and below that frame's length.
+    pub position: u64,
 }
 
-/// Where a device is in the frame. Numbers that a phase does not use are 0.
+/// Where a device is in a frame that comes in. Numbers that a phase does not use are 0.
 #[repr(C)]
 #[derive(Clone, Copy, Debug, PartialEq, Eq)]
 pub struct Place {
@@ -88,6 +90,7 @@ impl Registers {
             active0: [0; 24],
             active1: [0; 24],
             slice: [0; 48],
+            position: 0,
         }
     }
 }
@@ -134,12 +137,16 @@ pub struct Set<'a> {
 #[cfg(test)]
 mod tests {
     use super::*;
+    use std::mem::{align_of, offset_of, size_of};
 
     #[test]
     fn the_record_has_the_headers_layout() {
-        assert_eq!(std::mem::size_of::<Registers>(), 298);
-        assert_eq!(std::mem::size_of::<Place>(), 6);
-        assert_eq!(std::mem::size_of::<Device>(), 304);
-        assert_eq!(std::mem::align_of::<Device>(), 2);
+        assert_eq!(offset_of!(Registers, slice), 202);
+        assert_eq!(offset_of!(Registers, position), 304);
+        assert_eq!(size_of::<Registers>(), 312);
+        assert_eq!(size_of::<Place>(), 6);
+        assert_eq!(offset_of!(Device, place), 312);
+        assert_eq!(size_of::<Device>(), 320);
+        assert_eq!(align_of::<Device>(), 8);
     }
 }

@@ -1,19 +1,20 @@
 -- `chain::bb_run` meets its contract: a walk of its MIR, by hand. The records are judged once, and `enter` says where the run begins; each turn
--- reads a record, calls `take_turn` and `turn_after` with the slices lent on, and stores the record and the cursor. What a turn does to the run,
--- and that the run ends, is in turns/proofs/Whole.
+-- reads a record, calls `take_turn` and `turn_after` with the slices lent on, and stores the record and the cursor; after the last one `close` has
+-- the chain lent on. What a turn does to the run, and that the run ends, is in turns/proofs/Whole.
 use Rattle.judgement.proofs.Walk.{_≡_, refl, sym, _∙_, ap, subst, ℕ, zero, suc, _*_, _<_, _^_, arith, Bool, true, false, List, [], _∷_, length, getD, set, URA, fullShare, Ty}
 use Rattle.judgement.proofs.Walk.{named, erased, mut, imm, w8, w64, tyBool, tyPtr, tyRef, vbool, vint, vptr, Val, SProp, ent, sep, Lft, GName, Share, ftrue}
 use Rattle.judgement.proofs.Walk.{fat, flft, Memory, Routine, Heap, Out, Env, Wp, WpFn, Tables, afterSeq, afterBlock, afterTurn, atReturn, Atoms, sem, fmOf, Given, Item, ‵}
 use Rattle.judgement.proofs.Walk.{raw, _⊛_, ⋆, anyQ, atRet, _$_, _∵_, !, qed, by, move, use1, drop, split, join, rewrite, fsplit, fjoin, suffices, frame, done, whole, sub}
 use Rattle.judgement.proofs.Walk.{look-in, agg, look, look-raw, store, store-raw, init, forget, stop, hop, fld, from, load, lit, of-opd, and-then, no-more, bin, addr}
-use Rattle.judgement.proofs.Walk.{assigns, assigns-last, land, stays, leaves-loop, exec, returns, enter, alloc1, alloc0, params1, pass1, pass0, Fun, givenOf, tables}
+use Rattle.judgement.proofs.Walk.{pointee, assigns, assigns-last, land, stays, leaves-loop, exec, returns, enter, alloc1, alloc0, params1, pass1, pass0, Fun, givenOf, tables}
 use Rattle.judgement.proofs.Walk.{tablesOf, yes, owns, Is, shows, uint-vals, uint-tells, uint-copy, RefT, now, sliceTy, sliceVal, MutSlice, ShrSlice}
 use Rattle.judgement.proofs.Walk.{Room, finally, slice-vals, mut-slice-tells, shr-slice-tells, row, plain, shrSliceOf, u8, onEntry, tripleOf, Contract, Triple, cited}
 use Rattle.judgement.proofs.Walk.{nothing, owned, heard, says, Stays, gave-slice, stay-dropped, walkOf, ends-at, goes-gave-slice, goes-dropped, word, byte, loop, id⊢}
+use mathlib.Core.List.{map}
 use denote.Laws.{Lawful}
 use denote.Struct.Laws as LL
 use denote.Enum.Laws as EL
-use Rattle.tables.specs.Refusals.{first}
+use Rattle.tables.specs.Refusals.{first, content}
 use Rattle.device.specs.declared.device.Device.{Device}
 use Rattle.device.proofs.device.Device.Laws.{mir as dev}
 use Rattle.calls.specs.Chain.{blank}
@@ -28,7 +29,7 @@ use Rattle.turns.specs.Front.{Running, nowAt, turnTaken, cursorAfter, turned, t
 use Rattle.refusals.specs.Rows.{runRows}
 use Rattle.cursor.specs.Answer.{ran}
 use Rattle.cursor.specs.Entry.{entryUnder}
-use Rattle.turns.specs.Ending.{runEnd}
+use Rattle.turns.specs.Ending.{runEnd, byClockDevice}
 use Rattle.cursor.proofs.cursor.Cursor as C
 use Rattle.cursor.proofs.cursor.Cursor.Laws as C′
 use Rattle.cursor.proofs.entry.Entry as B
@@ -48,6 +49,7 @@ use Rattle.judgement.proofs.Dev.{D, device-of, val, vals, tells, lawful, place-
 use Rattle.judgement.proofs.Lent.{ref, sl, Open, Seen, opened, final, looked, shut, lends, returned, lends-shared, returned-shared, hold, free, Again, again, loops}
 use Rattle.judgement.proofs.Lent.{LentMut, LentShared, rooms, calls-val, free-all, meets}
 use Rattle.judgement.proofs.Steps.{here, held, held-field, locals, Passed, number, gives, calls-plain, calls-lending}
+use Rattle.chain.proofs.Sweep.{close-change, length-last}
 use Rattle.chain.proofs.Loop.{sliceD, refI}
 use Rattle.judgement.proofs.Judges.{jvals, JIs, jlawful, judged-of, JudgeC, judges}
 use Rattle.judgement.proofs.judge as judge
@@ -55,6 +57,7 @@ use Rattle.cursor.proofs.enter as opening
 use Rattle.turns.proofs.take_turn as take
 use Rattle.turns.proofs.turn_after as after
 use Rattle.cursor.proofs.answer as answer
+use Rattle.chain.proofs.close as close
 use Rattle.chain.proofs.bb_run as bb-run
 use Rattle.chain.proofs.bb_run.Code as code
 
@@ -67,6 +70,10 @@ sliceO = sliceTy (tyRef (named 2) mut byte)
 
 abbrev refO : Ty
 refO = tyRef erased mut byte
+
+-- the chain lent on to be closed
+abbrev refM : Ty
+refM = tyRef erased mut (pointee (D .written))
 
 -- ---- the machine values of the records that are passed and returned
 
@@ -144,13 +151,21 @@ module _ {M : Type 1} (𝓤 : URA M) (H : Heap 𝓤) (A : Atoms 𝓤) (W : Given
   clawful : Lawful 𝓤 H A C.the-row
   clawful = LL.lawful C.the-type C′.the-laws 𝓤 H A W
 
-  abbrev Ended : List (Item 𝓤)
-  Ended = ‵ (finally u8 γ₂ (fin .out)) ∷ ‵ (flft κ₂ q₂) ∷ ‵ (flft κ₁ q₁) ∷ ‵ (finally D γ (fin .devices)) ∷ ‵ (flft κ q) ∷ []
+  -- the records once the run is closed
+  abbrev ended : List Device
+  ended = content num (fin .devices) (map (byClockDevice (length ss)) (fin .devices))
 
-  exits : RIs ans → length (fin .devices) ≡ length xs → length (fin .out) ≡ length os → ent 𝓤 (⋆ 𝓤 H A Ended) (Post (rval ans))
+  -- a lent list of states is shorter than 2 ^ 63
+  short : length ss < 2 ^ 63
+  short = omega (arith, g₁ .1)
+
+  abbrev Ended : List (Item 𝓤)
+  Ended = ‵ (finally u8 γ₂ (fin .out)) ∷ ‵ (flft κ₂ q₂) ∷ ‵ (flft κ₁ q₁) ∷ ‵ (finally D γ ended) ∷ ‵ (flft κ q) ∷ []
+
+  exits : RIs ans → length ended ≡ length xs → length (fin .out) ≡ length os → ent 𝓤 (⋆ 𝓤 H A Ended) (Post (rval ans))
   exits is ld lo =
       qed W Ended ∵ suffices ! _ (ends-at 𝓤 H A bb-run.ended stayed (bb-run.clauses 𝓤 H A mem run) W outside (rval ans) ans
-      (fin .devices, (tt, (fin .out, tt))) (ld, (tt, (lo, tt)))) $ says ! (run-same xs ss os) $
+      (ended, (tt, (fin .out, tt))) (ld, (tt, (lo, tt)))) $ says ! (run-same xs ss os short) $
       nothing ! $ move ! (2 ∷ 0 ∷ []) $ join ! $ move ! (2 ∷ 0 ∷ []) $ join ! $ move ! (3 ∷ 0 ∷ []) $ join ! $ frame ! $
       nothing ! $ move ! (1 ∷ 0 ∷ []) $ fjoin ! $ nothing ! $ fjoin ! $ move ! (1 ∷ 0 ∷ []) $ fjoin ! $ frame ! $
       owned ! R.the-row (Is R.the-row) (LL.makes R.the-type R′.the-plain 𝓤 H A) ans _ is $ done !
@@ -165,6 +180,9 @@ module _ {M : Type 1} (𝓤 : URA M) (H : Heap 𝓤) (A : Atoms 𝓤) (W : Given
 
   abbrev AfterC : Contract 𝓤
   AfterC = tripleOf 𝓤 H A after.signature (after.spec 𝓤 H A mem run)
+
+  abbrev CloseC : Contract 𝓤
+  CloseC = tripleOf 𝓤 H A close.signature (close.spec 𝓤 H A mem run)
 
   abbrev States : ℕ → GName → SProp 𝓤
   States ν δ = sem 𝓤 H A (LentShared u8 (ν ∷ []) b₁ o₁ δ ss)
@@ -201,6 +219,25 @@ module _ {M : Type 1} (𝓤 : URA M) (H : Heap 𝓤) (A : Atoms 𝓤) (W : Given
       qed W (Lending ν δ) ∵ nothing ! $ move ! (1 ∷ 0 ∷ []) $ fjoin ! $ gives ! (cursor-of c c-is) $ gives ! (device-of d d-is) $
       nothing ! $ move ! (2 ∷ 0 ∷ []) $ join ! $ join ! $ nothing ! $ move ! (1 ∷ 0 ∷ []) $ done !
 
+  -- the chain, at ds
+  abbrev to-close : (ν : ℕ) (δ : GName) (ds : List Device) → CloseC .Ghost
+  to-close ν δ ds = (
+    (
+      (ν ∷ [], tt),
+      (fullShare, tt),
+      tt,
+      (ref b o δ ds, (num, (length ss, tt))),
+      (sl b o (length ds), (vint w8 num ∷ [], (vint w64 (length ss) ∷ [], tt))),
+    ),
+    tt,
+  )
+
+  asks-close : (ν : ℕ) (δ : GName) (ds : List Device) → num < 2 ^ 8 → ent 𝓤 (sep 𝓤 (sem 𝓤 H A (LentMut D (ν ∷ []) b o δ ds)) (Token ν)) (CloseC .pre (to-close ν δ ds))
+  asks-close ν δ ds num-fits =
+      qed W (‵ (LentMut D (ν ∷ []) b o δ ds) ∷ ‵ (flft (ν ∷ []) fullShare) ∷ []) ∵ nothing ! $ gives ! (number w64 (length ss) (g₁ .0)) $
+      gives ! (number w8 num num-fits) $ move ! (1 ∷ 0 ∷ []) $ fjoin ! $
+      nothing ! $ move ! (2 ∷ 0 ∷ []) $ join ! $ join ! $ nothing ! $ move ! (1 ∷ 0 ∷ []) $ done !
+
   -- the room too, at ws, for ν′ under the name δ′
   module _ (ν ν′ : ℕ) (δ δ′ : GName) (c : Cursor) (k : ℕ) (x : Sent) (ws : List ℕ) where
     abbrev to-after : AfterC .Ghost
@@ -225,19 +262,21 @@ module _ {M : Type 1} (𝓤 : URA M) (H : Heap 𝓤) (A : Atoms 𝓤) (W : Given
 
   module _ (𝓣 : Tables 𝓤 H) (known-judge : Triple 𝓤 (𝓣 .C judge.Symbol.name) (JudgeC 𝓤 H A mem run)) (known-enter : Triple 𝓤 (𝓣 .C opening.Symbol.name) EnterC)
       (known-take : Triple 𝓤 (𝓣 .C take.Symbol.name) TakeC) (known-after : Triple 𝓤 (𝓣 .C after.Symbol.name) AfterC)
+      (known-close : Triple 𝓤 (𝓣 .C close.Symbol.name) CloseC)
       (known-answer : Triple 𝓤 (𝓣 .C answer.Symbol.name) (tripleOf 𝓤 H A answer.signature (answer.spec 𝓤 H A mem run))) where
-    module _ (num-fits : num < 2 ^ 8) (qs : Share) (l₀ l₁ l₂ l₃ l₄ l₅ l₆ l₇ l₈ l₉ l₁₀ l₁₁ l₁₂ l₁₃ l₁₄ l₁₅ l₁₆ l₁₇ l₁₈ l₁₉ l₂₀ : ℕ) where
+    module _ (num-fits : num < 2 ^ 8) (qs : Share)
+        (l₀ l₁ l₂ l₃ l₄ l₅ l₆ l₇ l₈ l₉ l₁₀ l₁₁ l₁₂ l₁₃ l₁₄ l₁₅ l₁₆ l₁₇ l₁₈ l₁₉ l₂₀ l₂₁ l₂₂ l₂₃ : ℕ) where
       abbrev E : Env 𝓤 H
       E = (R′.mir, l₀) ∷ (sliceD, l₁) ∷ (sliceS, l₂) ∷ (sliceO, l₃) ∷ (J′.mir, l₄) ∷ (B′.mir, l₅) ∷ (C′.mir, l₆) ∷ (word, l₇) ∷ (S′.mir, l₈) ∷ (C′.mir, l₉)
-          ∷ (refI, l₁₀) ∷ (sliceTy refI, l₁₁) ∷ (word, l₁₂) ∷ (word, l₁₃) ∷ (tyBool, l₁₄) ∷ (word, l₁₅) ∷ (tyPtr, l₁₆) ∷ (dev, l₁₇) ∷ (refO, l₁₈)
-          ∷ (sliceTy refO, l₁₉) ∷ (tyPtr, l₂₀) ∷ []
+          ∷ (byte, l₁₀) ∷ (refI, l₁₁) ∷ (sliceTy refI, l₁₂) ∷ (word, l₁₃) ∷ (word, l₁₄) ∷ (tyBool, l₁₅) ∷ (word, l₁₆) ∷ (tyPtr, l₁₇) ∷ (dev, l₁₈)
+          ∷ (refO, l₁₉) ∷ (sliceTy refO, l₂₀) ∷ (tyPtr, l₂₁) ∷ (refM, l₂₂) ∷ (sliceTy refM, l₂₃) ∷ []
 
-      -- those that a turn uses
+      -- those that a turn uses, or what follows the last one
       abbrev Turned : List (Ty × ℕ)
-      Turned = (tyPtr, l₂₀) ∷ (sliceTy refO, l₁₉) ∷ (refO, l₁₈) ∷ (dev, l₁₇) ∷ (tyPtr, l₁₆) ∷ (word, l₁₅) ∷ (tyBool, l₁₄) ∷ (word, l₁₃) ∷ (word, l₁₂)
-          ∷ (sliceTy refI, l₁₁) ∷ (refI, l₁₀) ∷ (C′.mir, l₉) ∷ (S′.mir, l₈) ∷ (word, l₇) ∷ []
+      Turned = (sliceTy refM, l₂₃) ∷ (refM, l₂₂) ∷ (tyPtr, l₂₁) ∷ (sliceTy refO, l₂₀) ∷ (refO, l₁₉) ∷ (dev, l₁₈) ∷ (tyPtr, l₁₇) ∷ (word, l₁₆) ∷ (tyBool, l₁₅)
+          ∷ (word, l₁₄) ∷ (word, l₁₃) ∷ (sliceTy refI, l₁₂) ∷ (refI, l₁₁) ∷ (byte, l₁₀) ∷ (C′.mir, l₉) ∷ (S′.mir, l₈) ∷ (word, l₇) ∷ []
 
-      -- where the run stands at s. [the chain's row; open; states' row; seen; out's row; open; _20; …; _0; …]
+      -- where the run stands at s. [the chain's row; open; states' row; seen; out's row; open; _23; …; _0; …]
       abbrev At : Running → List (Item 𝓤)
       At s = ‵ (row D fullShare (s .devices) b o) ∷ ‵ (Open D κ q γ xs b o) ∷ ‵ (row u8 qs ss b₁ o₁) ∷ ‵ (Seen u8 κ₁ q₁ qs ss b₁ o₁) ∷
           ‵ (row u8 fullShare (s .out) b₂ o₂) ∷ ‵ (Open u8 κ₂ q₂ γ₂ os b₂ o₂) ∷
@@ -266,40 +305,40 @@ module _ {M : Type 1} (𝓤 : URA M) (H : Heap 𝓤) (A : Atoms 𝓤) (W : Given
           let l : i < length ys = subst (λ (z : ℕ). i < z) (sym (good .devices)) (good .index) in
           let at-fits : i * size < 2 ^ 64 = place-fits i (length xs) (good .index) (g .1) in
           qed W (At s) ∵ exec ! (𝓣 .C) (𝓣 .Λ) E code.Mir.turn-1 (anyQ (afterTurn 𝓤 H X Left)) $
-          assigns ! (of-opd ! (held-field ! 34 6 refl refl refl)) (here !) (init ! 18 refl (tt, tt)) $
-          rewrite ! 18 (λ (t : Bool). ‵ (fat fullShare tyBool l₁₄ 0 (vbool t))) going refl $
-          stays ! (held ! 18 refl) $
+          assigns ! (of-opd ! (held-field ! 40 6 refl refl refl)) (here !) (init ! 22 refl (tt, tt)) $
+          rewrite ! 22 (λ (t : Bool). ‵ (fat fullShare tyBool l₁₅ 0 (vbool t))) going refl $
+          stays ! (held ! 22 refl) $
           -- the record of the turn is read
-          assigns ! (of-opd ! (held-field ! 34 2 refl refl refl)) (here !) (init ! 32 refl (tt, record { fits = i-fits })) $
-          assigns ! (bin ! (held ! 32 refl) (lit ! tt) (record { fits = at-fits })) (here !) (init ! 16 refl (tt, record { fits = at-fits })) $
-          assigns ! (bin ! (held-field ! 44 0 refl refl refl) (held ! 16 refl) tt) (here !) (init ! 14 refl (tt, tt)) $
-          rewrite ! 14 (λ (p : ℕ). ‵ (fat fullShare tyPtr l₁₆ 0 (vptr b p))) (place-at o i) refl $
+          assigns ! (of-opd ! (held-field ! 40 2 refl refl refl)) (here !) (init ! 38 refl (tt, record { fits = i-fits })) $
+          assigns ! (bin ! (held ! 38 refl) (lit ! tt) (record { fits = at-fits })) (here !) (init ! 20 refl (tt, record { fits = at-fits })) $
+          assigns ! (bin ! (held-field ! 50 0 refl refl refl) (held ! 20 refl) tt) (here !) (init ! 18 refl (tt, tt)) $
+          rewrite ! 18 (λ (p : ℕ). ‵ (fat fullShare tyPtr l₁₇ 0 (vptr b p))) (place-at o i) refl $
           out ! ys i b o l (λ is.
-          assigns ! (of-opd ! (load ! (from ! (hop ! (look ! 15 refl) (stop !))) (look-raw ! 0 refl))) (here !)
-          (init ! 13 refl (lawful 𝓤 H A W .typed d _ is .0)) $
+          assigns ! (of-opd ! (load ! (from ! (hop ! (look ! 19 refl) (stop !))) (look-raw ! 0 refl))) (here !)
+          (init ! 17 refl (lawful 𝓤 H A W .typed d _ is .0)) $
           back ! ys i b o l is $
           -- what it becomes: the states are lent on
           move ! (2 ∷ []) $
           calls-lending ! (fmOf 𝓤 H (W .laws) 𝓣) take.ended (take.clauses 𝓤 H A mem run) known-take u8 qs ss b₁ o₁ g₁
           (λ ν δ. to-take ν δ d c) (λ ν δ. asks-take ν δ d c is c-is) (λ ν δ. id⊢ 𝓤 _)
           (λ ν δ. LL.val S.the-type S′.the-laws) (λ ν δ. LL.tells S.the-type S′.the-laws)
-          (λ ν δ. and-then ! (held ! 13 refl) (and-then ! (held ! 35 refl) (and-then ! (held ! 43 refl) (no-more !))))
+          (λ ν δ. and-then ! (held ! 17 refl) (and-then ! (held ! 41 refl) (and-then ! (held ! 49 refl) (no-more !))))
           (λ ν δ r zs is′. heard ! (r ≡ turnTaken d c ss) (λ e.
           let parts = LL.owed S.the-type S′.the-laws r _ is′ in
           let changed : r .device ≡ turned d c ss (length ws) .device = ap (λ (u : Taken). u .device) e ∙ turned-device d c ss (length ws) in
-          move ! (1 ∷ 2 ∷ 0 ∷ []) $ land ! (here !) (init ! 30 refl (LL.lawful S.the-type S′.the-laws 𝓤 H A W .typed r _ is′ .0)) $
+          move ! (1 ∷ 2 ∷ 0 ∷ []) $ land ! (here !) (init ! 36 refl (LL.lawful S.the-type S′.the-laws 𝓤 H A W .typed r _ is′ .0)) $
           -- the cursor after it: the states and the room are lent on
-          assigns ! (addr ! (from ! (fld ! refl (hop ! (look-in ! 40 (sub ! 0 refl (whole !))) (stop !))))) (here !) (init ! 10 refl (tt, tt)) $
-          assigns ! (agg ! (and-then ! (held ! 10 refl) (and-then ! (held-field ! 40 1 refl refl refl) (no-more !)))) (here !)
-          (init ! 8 refl (tt, (tt, (record { fits = g₂ .0 }, tt)))) $
-          rewrite ! 8 (λ (z : ℕ). ‵ (fat fullShare (sliceTy refO) l₁₉ 0 (sliceVal (b₂, o₂) z))) (sym lw) refl $
+          assigns ! (addr ! (from ! (fld ! refl (hop ! (look-in ! 46 (sub ! 0 refl (whole !))) (stop !))))) (here !) (init ! 14 refl (tt, tt)) $
+          assigns ! (agg ! (and-then ! (held ! 14 refl) (and-then ! (held-field ! 46 1 refl refl refl) (no-more !)))) (here !)
+          (init ! 12 refl (tt, (tt, (record { fits = g₂ .0 }, tt)))) $
+          rewrite ! 12 (λ (z : ℕ). ‵ (fat fullShare (sliceTy refO) l₂₀ 0 (sliceVal (b₂, o₂) z))) (sym lw) refl $
           move ! (2 ∷ []) $ lends-shared ! tt u8 qs ss b₁ o₁ g₁ (λ ν″ δ″. move ! (6 ∷ []) $ lends ! tt u8 ws b₂ o₂ (subst (Room u8) (sym lw) g₂) (λ ν′ δ′.
           let outside-after : AfterC .Ghost = to-after ν″ ν′ δ″ δ′ c (r .at) (r .sent) ws in
           join ! $ move ! (3 ∷ 0 ∷ []) $ join ! $ move ! (2 ∷ 0 ∷ []) $ join ! $
           use1 W (raw (AfterC .pre outside-after)) (asks-after ν″ ν′ δ″ δ′ c (r .at) (r .sent) ws c-is (parts .1 .0 .1) (parts .1 .1 .0)) $
           calls-val ! (fmOf 𝓤 H (W .laws) 𝓣) after.ended (after.clauses 𝓤 H A mem run) known-after outside-after cval (LL.tells C.the-type C′.the-laws)
-          (and-then ! (held ! 35 refl) (and-then ! (held-field ! 31 1 refl refl refl) (and-then ! (held-field ! 31 2 refl refl refl)
-          (and-then ! (held ! 43 refl) (and-then ! (held ! 9 refl) (no-more !)))))) (λ r′ zs′ is″.
+          (and-then ! (held ! 41 refl) (and-then ! (held-field ! 37 1 refl refl refl) (and-then ! (held-field ! 37 2 refl refl refl)
+          (and-then ! (held ! 49 refl) (and-then ! (held ! 13 refl) (no-more !)))))) (λ r′ zs′ is″.
           let room : List ℕ = zs′ .1 .1 .1 .1 .0 in
           heard ! ((r′ ≡ cursorAfter c (r .at) (r .sent) ss (length ws)) × (room ≡ turnedOut c ss ws)) (λ e′.
           let next : r′ ≡ turned d c ss (length ws) .cursor = is-next r r′ e (e′ .0) in
@@ -309,21 +348,21 @@ module _ {M : Type 1} (𝓤 : URA M) (H : Heap 𝓤) (A : Atoms 𝓤) (W : Given
           move ! (2 ∷ []) $ fsplit ! $ drop ! $ fsplit ! $ drop ! $ fsplit ! $ drop ! $ fsplit ! $ drop ! $ fsplit ! $ fsplit ! $
           move ! (3 ∷ 5 ∷ 0 ∷ []) $ returned ! tt u8 room b₂ o₂ $ move ! (1 ∷ []) $ drop ! $ move ! (1 ∷ []) $ drop ! $
           move ! (1 ∷ 2 ∷ []) $ returned-shared ! tt u8 qs ss b₁ o₁ $ move ! (2 ∷ 3 ∷ 0 ∷ 4 ∷ 1 ∷ []) $
-          land ! (here !) (init ! 28 refl (clawful .typed r′ _ is″ .0)) $
+          land ! (here !) (init ! 34 refl (clawful .typed r′ _ is″ .0)) $
           -- both are stored
-          assigns ! (bin ! (held ! 32 refl) (lit ! tt) (record { fits = at-fits })) (here !) (store ! 16 refl (tt, record { fits = at-fits })) $
-          assigns ! (bin ! (held-field ! 44 0 refl refl refl) (held ! 16 refl) tt) (here !) (init ! 6 refl (tt, tt)) $
-          rewrite ! 6 (λ (p : ℕ). ‵ (fat fullShare tyPtr l₂₀ 0 (vptr b p))) (place-at o i) refl $
+          assigns ! (bin ! (held ! 38 refl) (lit ! tt) (record { fits = at-fits })) (here !) (store ! 20 refl (tt, record { fits = at-fits })) $
+          assigns ! (bin ! (held-field ! 50 0 refl refl refl) (held ! 20 refl) tt) (here !) (init ! 10 refl (tt, tt)) $
+          rewrite ! 10 (λ (p : ℕ). ‵ (fat fullShare tyPtr l₂₁ 0 (vptr b p))) (place-at o i) refl $
           out ! ys i b o l (λ _.
-          assigns ! (of-opd ! (held-field ! 31 0 refl refl refl)) (from ! (hop ! (look ! 7 refl) (stop !)))
+          assigns ! (of-opd ! (held-field ! 37 0 refl refl refl)) (from ! (hop ! (look ! 11 refl) (stop !)))
           (store-raw ! 0 refl (lawful 𝓤 H A W .typed (r .device) _ (parts .0) .0)) $
           into ! ys i (r .device) b o l (parts .0) $
-          assigns-last ! (of-opd ! (held ! 28 refl)) (here !) (store ! 34 refl (clawful .typed r′ _ is″ .0)) $
-          forget ! 6 refl $ forget ! 8 refl $ forget ! 10 refl $ forget ! 12 refl $ forget ! 14 refl $ forget ! 16 refl $ forget ! 18 refl $ forget ! 28 refl $
-          forget ! 30 refl $ forget ! 32 refl $
+          assigns-last ! (of-opd ! (held ! 34 refl)) (here !) (store ! 40 refl (clawful .typed r′ _ is″ .0)) $
+          forget ! 10 refl $ forget ! 12 refl $ forget ! 14 refl $ forget ! 16 refl $ forget ! 18 refl $ forget ! 20 refl $ forget ! 22 refl $ forget ! 34 refl $
+          forget ! 36 refl $ forget ! 38 refl $
           rewrite ! 0 (λ (ls : List Device). ‵ (row D fullShare ls b o)) (ap (set ys i) changed) refl $
           rewrite ! 4 (λ (ls : List ℕ). ‵ (row u8 fullShare ls b₂ o₂)) (e′ .1) refl $
-          rewrite ! 34 (λ (u : Cursor). ‵ (fat fullShare C′.mir l₆ 0 (cval u))) next refl $
+          rewrite ! 40 (λ (u : Cursor). ‵ (fat fullShare C′.mir l₆ 0 (cval u))) next refl $
           by ! (k (subst CIs next is″))))))))))
         where
           i-fits : s .cursor .index < 2 ^ 64
@@ -340,23 +379,44 @@ module _ {M : Type 1} (𝓤 : URA M) (H : Heap 𝓤) (A : Atoms 𝓤) (W : Given
       unfolding afterTurn
       ends s X t st going =
           qed W (At s) ∵ exec ! (𝓣 .C) (𝓣 .Λ) E code.Mir.turn-1 (anyQ (afterTurn 𝓤 H X Left)) $
-          assigns ! (of-opd ! (held-field ! 34 6 refl refl refl)) (here !) (init ! 18 refl (tt, tt)) $
-          rewrite ! 18 (λ (t : Bool). ‵ (fat fullShare tyBool l₁₄ 0 (vbool t))) going refl $
-          leaves-loop ! (held ! 18 refl) $ exec ! (𝓣 .C) (𝓣 .Λ) E code.Mir.t-9 (atRet E Post) $
+          assigns ! (of-opd ! (held-field ! 40 6 refl refl refl)) (here !) (init ! 22 refl (tt, tt)) $
+          rewrite ! 22 (λ (t : Bool). ‵ (fat fullShare tyBool l₁₅ 0 (vbool t))) going refl $
+          leaves-loop ! (held ! 22 refl) $ exec ! (𝓣 .C) (𝓣 .Λ) E code.Mir.t-9 (atRet E Post) $
           rewrite ! 0 (λ (r : Running). ‵ (row D fullShare (r .devices) b o)) last refl $
           rewrite ! 4 (λ (r : Running). ‵ (row u8 fullShare (r .out) b₂ o₂)) last refl $
+          -- every device is brought up to the last clock: the chain is lent on
+          assigns ! (addr ! (from ! (fld ! refl (hop ! (look-in ! 50 (sub ! 0 refl (whole !))) (stop !))))) (here !) (init ! 8 refl (tt, tt)) $
+          assigns ! (agg ! (and-then ! (held ! 8 refl) (and-then ! (held-field ! 50 1 refl refl refl) (no-more !)))) (here !)
+          (init ! 6 refl (tt, (tt, (record { fits = g .0 }, tt)))) $
+          rewrite ! 6 (λ (z : ℕ). ‵ (fat fullShare (sliceTy refM) l₂₃ 0 (sliceVal (b, o) z))) (sym ld) refl $
+          assigns ! (of-opd ! (held-field ! 48 1 refl refl refl)) (here !) (init ! 26 refl (tt, record { fits = g₁ .0 })) $
+          lends ! tt D (fin .devices) b o (subst (Room D) (sym ld) g) (λ ν δ.
+          let outside-close : CloseC .Ghost = to-close ν δ (fin .devices) in
+          join ! $ use1 W (raw (CloseC .pre outside-close)) (asks-close ν δ (fin .devices) num-fits) $
+          calls-val ! (fmOf 𝓤 H (W .laws) 𝓣) close.ended (close.clauses 𝓤 H A mem run) known-close outside-close (vint w8) (uint-tells w8)
+          (and-then ! (held ! 7 refl) (and-then ! (held-field ! 43 0 refl refl refl) (and-then ! (held ! 27 refl) (no-more !)))) (λ n zs n-is.
+          let closed : List Device = zs .0 in
+          heard ! ((n ≡ num) × (closed ≡ ended)) (λ c.
+          use1 W (‵ (flft (ν ∷ []) fullShare) ⊛ ‵ ftrue) (id⊢ 𝓤 _) $ split ! $ move ! (1 ∷ []) $ drop ! $
+          -- [ν; what says the last values; away; open; …]
+          move ! (1 ∷ []) $ fsplit ! $ fsplit ! $ move ! (3 ∷ 4 ∷ 0 ∷ []) $ returned ! tt D closed b o $ move ! (1 ∷ []) $ drop ! $ move ! (1 ∷ []) $ drop ! $
+          land ! (here !) (init ! 32 refl (tt, record { fits = n-is .1 })) $
+          rewrite ! 0 (λ (ls : List Device). ‵ (row D fullShare ls b o)) (c .1) refl $
+          rewrite ! 32 (λ (z : ℕ). ‵ (fat fullShare byte l₁₀ 0 (vint w8 z))) (c .0) refl $
+          -- the answer
           calls-plain ! (fmOf 𝓤 H (W .laws) 𝓣) (answer.signature .params) (answer.signature .result) (answer.ended .kept) (answer.clauses 𝓤 H A mem run)
           known-answer (number w8 num num-fits, (number w64 (s .cursor .written) w-fits, tt)) tt (id⊢ 𝓤 _) rval (LL.tells R.the-type R′.the-laws)
-          (and-then ! (held-field ! 37 0 refl refl refl) (and-then ! (held-field ! 35 4 refl refl refl) (no-more !)))
+          (and-then ! (held ! 33 refl) (and-then ! (held-field ! 41 4 refl refl refl) (no-more !)))
           (λ r ws is. heard ! (r ≡ ran num (s .cursor .written)) (λ e.
-          land ! (here !) (init ! 46 refl (LL.lawful R.the-type R′.the-laws 𝓤 H A W .typed r _ is .0)) $
-          rewrite ! 46 (λ (u : Ran). ‵ (fat fullShare R′.mir l₀ 0 (rval u))) (is-ans r e) refl $
-          final ! tt D xs (fin .devices) ld b o $ move ! (2 ∷ 3 ∷ []) $ shut ! tt u8 qs ss b₁ o₁ $ move ! (3 ∷ 4 ∷ []) $ final ! tt u8 os (fin .out) lo b₂ o₂ $
-          -- [out's last; κ₂; κ₁; the chain's last; κ; _20; …]
-          returns ! (look ! 45 refl) $
-          forget ! 17 refl $ forget ! 33 refl $ forget ! 35 refl $ forget ! 39 refl $ forget ! 41 refl $ forget ! 43 refl $ forget ! 45 refl $
-          move ! (locals (45 ∷ 43 ∷ 41 ∷ 39 ∷ 37 ∷ 35 ∷ 33 ∷ 31 ∷ 29 ∷ 27 ∷ 25 ∷ 23 ∷ 21 ∷ 19 ∷ 17 ∷ 15 ∷ 13 ∷ 11 ∷ 9 ∷ 7 ∷ 5 ∷ [])) $ free-all ! E $
-          by ! (exits (subst RIs (is-ans r e) is) ld lo)))
+          land ! (here !) (init ! 52 refl (LL.lawful R.the-type R′.the-laws 𝓤 H A W .typed r _ is .0)) $
+          rewrite ! 52 (λ (u : Ran). ‵ (fat fullShare R′.mir l₀ 0 (rval u))) (is-ans r e) refl $
+          final ! tt D xs ended le b o $ move ! (2 ∷ 3 ∷ []) $ shut ! tt u8 qs ss b₁ o₁ $ move ! (3 ∷ 4 ∷ []) $ final ! tt u8 os (fin .out) lo b₂ o₂ $
+          -- [out's last; κ₂; κ₁; the chain's last; κ; _23; …]
+          returns ! (look ! 51 refl) $
+          forget ! 5 refl $ forget ! 7 refl $ forget ! 21 refl $ forget ! 25 refl $ forget ! 31 refl $ forget ! 39 refl $ forget ! 41 refl $ forget ! 45 refl $
+          forget ! 47 refl $ forget ! 49 refl $ forget ! 51 refl $
+          move ! (locals (51 ∷ 49 ∷ 47 ∷ 45 ∷ 43 ∷ 41 ∷ 39 ∷ 37 ∷ 35 ∷ 33 ∷ 31 ∷ 29 ∷ 27 ∷ 25 ∷ 23 ∷ 21 ∷ 19 ∷ 17 ∷ 15 ∷ 13 ∷ 11 ∷ 9 ∷ 7 ∷ 5 ∷ [])) $ free-all ! E $
+          by ! (exits (subst RIs (is-ans r e) is) le lo))))))
         where
           last : s ≡ fin
           last = stands-end (length xs) ss (length os) t fin s st going
@@ -369,6 +429,9 @@ module _ {M : Type 1} (𝓤 : URA M) (H : Heap 𝓤) (A : Atoms 𝓤) (W : Given
 
           ld : length (fin .devices) ≡ length xs
           ld = subst (λ (r : Running). length (r .devices) ≡ length xs) last (st .devices)
+
+          le : length ended ≡ length xs
+          le = length-last (fin .devices) (close-change num (length ss) (fin .devices)) ∙ ld
 
           lo : length (fin .out) ≡ length os
           lo = subst (λ (r : Running). length (r .out) ≡ length os) last (st .out)
@@ -392,39 +455,40 @@ module _ {M : Type 1} (𝓤 : URA M) (H : Heap 𝓤) (A : Atoms 𝓤) (W : Given
         enter ! (𝓣 .C) (𝓣 .Λ) code.function given _ $
         alloc1 ! {τ = R′.mir} (λ l₀. alloc1 ! {τ = sliceD} (λ l₁. alloc1 ! (λ l₂. alloc1 ! (λ l₃. alloc1 ! {τ = J′.mir} (λ l₄.
         alloc1 ! {τ = B′.mir} (λ l₅. alloc1 ! {τ = C′.mir} (λ l₆. alloc1 ! (λ l₇. alloc1 ! {τ = S′.mir} (λ l₈. alloc1 ! {τ = C′.mir} (λ l₉.
-        alloc1 ! {τ = refI} (λ l₁₀. alloc1 ! {τ = sliceTy refI} (λ l₁₁. alloc1 ! (λ l₁₂. alloc1 ! (λ l₁₃. alloc1 ! (λ l₁₄.
-        alloc1 ! (λ l₁₅. alloc1 ! (λ l₁₆. alloc1 ! {τ = dev} (λ l₁₇. alloc1 ! (λ l₁₈. alloc1 ! (λ l₁₉. alloc1 ! (λ l₂₀. alloc0 ! $
-        params1 ! $ pass1 ! (init ! 38 refl (tt, (tt, (record { fits = g .0 }, tt)))) $ pass1 ! (init ! 36 refl (tt, (tt, (record { fits = g₁ .0 }, tt)))) $
-        pass1 ! (init ! 34 refl (tt, (tt, (record { fits = g₂ .0 }, tt)))) $ pass0 ! $
-        move ! (42 ∷ 43 ∷ []) $ split ! $ move ! (1 ∷ []) $ split ! $ move ! (1 ∷ []) $ split ! $ move ! (1 ∷ []) $ drop ! $
+        alloc1 ! (λ l₁₀. alloc1 ! {τ = refI} (λ l₁₁. alloc1 ! {τ = sliceTy refI} (λ l₁₂. alloc1 ! (λ l₁₃. alloc1 ! (λ l₁₄. alloc1 ! (λ l₁₅.
+        alloc1 ! (λ l₁₆. alloc1 ! (λ l₁₇. alloc1 ! {τ = dev} (λ l₁₈. alloc1 ! (λ l₁₉. alloc1 ! (λ l₂₀. alloc1 ! (λ l₂₁.
+        alloc1 ! {τ = refM} (λ l₂₂. alloc1 ! {τ = sliceTy refM} (λ l₂₃. alloc0 ! $
+        params1 ! $ pass1 ! (init ! 44 refl (tt, (tt, (record { fits = g .0 }, tt)))) $ pass1 ! (init ! 42 refl (tt, (tt, (record { fits = g₁ .0 }, tt)))) $
+        pass1 ! (init ! 40 refl (tt, (tt, (record { fits = g₂ .0 }, tt)))) $ pass0 ! $
+        move ! (48 ∷ 49 ∷ []) $ split ! $ move ! (1 ∷ []) $ split ! $ move ! (1 ∷ []) $ split ! $ move ! (1 ∷ []) $ drop ! $
         move ! (3 ∷ []) $ fsplit ! $ move ! (1 ∷ []) $ fsplit ! $ move ! (1 ∷ []) $ fsplit ! $ move ! (1 ∷ []) $ drop ! $
         -- [out's; states'; the chain's; κ₂; κ₁; κ]: each is opened
         move ! (0 ∷ 3 ∷ []) $ opened ! tt u8 os b₂ o₂ $
         move ! (2 ∷ 4 ∷ []) $ looked ! tt u8 (Is u8) (shows 𝓤 H A u8) (uint-vals w8) (uint-tells w8) (uint-copy 𝓤 H A W w8) ss b₁ o₁ (λ qs.
         move ! (4 ∷ 5 ∷ []) $ opened ! tt D xs b o $
         -- the records are judged
-        assigns ! (addr ! (from ! (fld ! refl (hop ! (look-in ! 44 (sub ! 0 refl (whole !))) (stop !))))) (here !) (init ! 26 refl (tt, tt)) $
-        assigns ! (agg ! (and-then ! (held ! 26 refl) (and-then ! (held-field ! 44 1 refl refl refl) (no-more !)))) (here !)
-        (init ! 24 refl (tt, (tt, (record { fits = g .0 }, tt)))) $
-        judges ! (fmOf 𝓤 H (W .laws) 𝓣) mem run known-judge fullShare xs b o g (λ ν δ. and-then ! (held ! 25 refl) (no-more !)) (λ j j-is e.
-        land ! (here !) (init ! 38 refl (jlawful 𝓤 H A W .typed j _ j-is .0)) $
+        assigns ! (addr ! (from ! (fld ! refl (hop ! (look-in ! 50 (sub ! 0 refl (whole !))) (stop !))))) (here !) (init ! 30 refl (tt, tt)) $
+        assigns ! (agg ! (and-then ! (held ! 30 refl) (and-then ! (held-field ! 50 1 refl refl refl) (no-more !)))) (here !)
+        (init ! 28 refl (tt, (tt, (record { fits = g .0 }, tt)))) $
+        judges ! (fmOf 𝓤 H (W .laws) 𝓣) mem run known-judge fullShare xs b o g (λ ν δ. and-then ! (held ! 29 refl) (no-more !)) (λ j j-is e.
+        land ! (here !) (init ! 44 refl (jlawful 𝓤 H A W .typed j _ j-is .0)) $
         -- the verdict, and where the run begins
-        assigns ! (of-opd ! (held-field ! 44 1 refl refl refl)) (here !) (init ! 22 refl (tt, record { fits = g .0 })) $
-        assigns ! (of-opd ! (held-field ! 40 1 refl refl refl)) (here !) (init ! 20 refl (tt, record { fits = g₂ .0 })) $
+        assigns ! (of-opd ! (held-field ! 50 1 refl refl refl)) (here !) (init ! 26 refl (tt, record { fits = g .0 })) $
+        assigns ! (of-opd ! (held-field ! 46 1 refl refl refl)) (here !) (init ! 24 refl (tt, record { fits = g₂ .0 })) $
         move ! (2 ∷ []) $
         calls-lending ! (fmOf 𝓤 H (W .laws) 𝓣) opening.ended (opening.clauses 𝓤 H A mem run) known-enter u8 qs ss b₁ o₁ g₁
         (λ ν δ. to-enter ν δ j) (λ ν δ. asks-enter ν δ j j-is) (λ ν δ. id⊢ 𝓤 _) (λ ν δ. bval) (λ ν δ. LL.tells B.the-type B′.the-laws)
-        (λ ν δ. and-then ! (held ! 39 refl) (and-then ! (held ! 23 refl) (and-then ! (held ! 43 refl) (and-then ! (held ! 21 refl) (no-more !)))))
+        (λ ν δ. and-then ! (held ! 45 refl) (and-then ! (held ! 27 refl) (and-then ! (held ! 49 refl) (and-then ! (held ! 25 refl) (no-more !)))))
         (λ ν δ r zs is. heard ! (r ≡ entryUnder (first (runRows j (length xs) ss (length os))) (length xs) ss) (λ e′.
         let is-bg : r ≡ bg =
         e′ ∙ ap (λ (z : Judged). entryUnder (first (runRows z (length xs) ss (length os))) (length xs) ss) e
         ∙ ap (λ (z : ℕ). entryUnder z (length xs) ss) (run-refusal-found xs ss (length os)) in
         let parts = LL.owed B.the-type B′.the-laws bg _ (subst BIs is-bg is) in
-        move ! (1 ∷ 2 ∷ 0 ∷ []) $ land ! (here !) (init ! 36 refl (LL.lawful B.the-type B′.the-laws 𝓤 H A W .typed r _ is .0)) $
-        rewrite ! 36 (λ (u : Entry). ‵ (fat fullShare B′.mir l₅ 0 (bval u))) is-bg refl $
-        assigns ! (of-opd ! (held-field ! 36 1 refl refl refl)) (here !) (init ! 34 refl (clawful .typed (bg .cursor) _ (parts .1 .0) .0)) $
-        forget ! 20 refl $ forget ! 22 refl $ forget ! 24 refl $ forget ! 26 refl $ forget ! 38 refl $
-        by ! (enters (parts .0 .1) qs l₀ l₁ l₂ l₃ l₄ l₅ l₆ l₇ l₈ l₉ l₁₀ l₁₁ l₁₂ l₁₃ l₁₄ l₁₅ l₁₆ l₁₇ l₁₈ l₁₉ l₂₀ (parts .1 .0)))))))))))))))))))))))))))
+        move ! (1 ∷ 2 ∷ 0 ∷ []) $ land ! (here !) (init ! 42 refl (LL.lawful B.the-type B′.the-laws 𝓤 H A W .typed r _ is .0)) $
+        rewrite ! 42 (λ (u : Entry). ‵ (fat fullShare B′.mir l₅ 0 (bval u))) is-bg refl $
+        assigns ! (of-opd ! (held-field ! 42 1 refl refl refl)) (here !) (init ! 40 refl (clawful .typed (bg .cursor) _ (parts .1 .0) .0)) $
+        forget ! 24 refl $ forget ! 26 refl $ forget ! 28 refl $ forget ! 30 refl $ forget ! 44 refl $
+        by ! (enters (parts .0 .1) qs l₀ l₁ l₂ l₃ l₄ l₅ l₆ l₇ l₈ l₉ l₁₀ l₁₁ l₁₂ l₁₃ l₁₄ l₁₅ l₁₆ l₁₇ l₁₈ l₁₉ l₂₀ l₂₁ l₂₂ l₂₃ (parts .1 .0))))))))))))))))))))))))))))))
 
 pub bb-run-spec : {M : Type 1} → bb-run.Statement.statement M
 unfolding code.routine tablesOf
@@ -449,4 +513,5 @@ bb-run-spec 𝓤 H 𝓜 𝓖 𝓡 =
     (cited 𝓤 H _ 𝓜 𝓡 code.env opening.Symbol.name opening.Symbol.routine code.calls-cursor·enter (opening.Met.met 𝓤 H 𝓜 𝓖 𝓡))
     (cited 𝓤 H _ 𝓜 𝓡 code.env take.Symbol.name take.Symbol.routine code.calls-turns·take-turn (take.Met.met 𝓤 H 𝓜 𝓖 𝓡))
     (cited 𝓤 H _ 𝓜 𝓡 code.env after.Symbol.name after.Symbol.routine code.calls-turns·turn-after (after.Met.met 𝓤 H 𝓜 𝓖 𝓡))
+    (cited 𝓤 H _ 𝓜 𝓡 code.env close.Symbol.name close.Symbol.routine code.calls-chain·close (close.Met.met 𝓤 H 𝓜 𝓖 𝓡))
     (cited 𝓤 H _ 𝓜 𝓡 code.env answer.Symbol.name answer.Symbol.routine code.calls-cursor·answer (answer.Met.met 𝓤 H 𝓜 𝓖 𝓡)))

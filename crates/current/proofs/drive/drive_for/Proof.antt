@@ -3,7 +3,7 @@ use native.Mathlib.Omega.{arith}
 use Rattle.parts.specs.Parts.{partOf}
 use Rattle.parts.proofs.Laws.{usable}
 use Rattle.current.proofs.Bounds.{repeats-le}
-use Rattle.current.proofs.Frames.{subframe-clocks, frame-clocks, frame-clocks-pos}
+use Rattle.parts.proofs.Frames.{subframe-clocks, frame-clocks, frame-clocks-pos}
 use borrow.Author.Needs.{needs}
 use Rattle.current.proofs.drive.drive_for.Statement.{statement}
 use Rattle.current.proofs.drive.drive_for.Tie as tie

@@ -11,16 +11,21 @@ place-of-requires c κs = search needs
 shared-slice-read-s : tie.Need-shared-slice-read-s
 shared-slice-read-s c = search needs
 
-advance-requires : tie.Need-advance-requires
-advance-requires c κs = search needs
+act-requires : tie.Need-act-requires
+act-requires c κs = search needs
 
-add-t16 : tie.Need-add-t16
-add-t16 c = search needs
+add-at : tie.Need-add-at
+add-at c = search needs
+
+date-by-requires : tie.Need-date-by-requires
+date-by-requires c κs = search needs
 
 returns : tie.Need-returns
-returns c = let t = c .before .before .before .before in
+returns c =
+    let b = c .before .before .before in
+    let t = b .before .before .before in
     let a = t .before .before .before .args in
-    rw (c .before .advance .ensures, t .before .place-of .ensures, drop-on (a .states .now) (a .from) (t .if1 .taken), le-ltb _ _ (c .before .before .if2 .taken))
+    rw (c .date-by .ensures, c .before .before .act .ensures, t .before .place-of .ensures, drop-on (a .states .now) (a .from) (t .if1 .taken), le-ltb _ _ (b .before .if2 .taken))
 
 returns-2 : tie.Need-returns-2
 returns-2 c = let t = c .before .before in
@@ -37,8 +42,9 @@ one-spec =
     (tie.spec
     place-of-requires
     shared-slice-read-s
-    advance-requires
-    add-t16
+    act-requires
+    add-at
+    date-by-requires
     returns
     returns-2
     returns-3)

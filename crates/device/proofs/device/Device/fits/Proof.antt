@@ -3,23 +3,17 @@ use borrow.Author.Needs.{needs}
 use Rattle.device.proofs.device.Device.fits.Statement.{statement}
 use Rattle.device.proofs.device.Device.fits.Tie as tie
 
-place-fits-requires : tie.Need-place-fits-requires
-place-fits-requires c κs = search needs
+contents-fit-requires : tie.Need-contents-fit-requires
+contents-fit-requires c κs = search needs
 
-registers-fit-requires : tie.Need-registers-fit-requires
-registers-fit-requires c κs = search needs
+position-fits-requires : tie.Need-position-fits-requires
+position-fits-requires c κs = search needs
 
 returns : tie.Need-returns
-returns c = rw (sym (c .before .before .place-fits .ensures) ∙ c .before .if1 .taken) (c .registers-fit .ensures)
+returns c = rw (sym (c .before .before .contents-fit .ensures) ∙ c .before .if1 .taken) (c .position-fits .ensures)
 
 returns-2 : tie.Need-returns-2
-returns-2 c = rw (sym (c .before .place-fits .ensures) ∙ c .if1 .left) (c .if1 .left)
+returns-2 c = rw (sym (c .before .contents-fit .ensures) ∙ c .if1 .left) (c .if1 .left)
 
 pub fits-spec : {M : Type 1} → statement M
-fits-spec =
-    tie.close
-    (tie.spec
-    place-fits-requires
-    registers-fit-requires
-    returns
-    returns-2)
+fits-spec = tie.close (tie.spec contents-fit-requires position-fits-requires returns returns-2)

@@ -1,5 +1,5 @@
 -- A record that is refused refuses its step; one that is not leaves it to the state; else the step is taken.
-use Rattle.device.specs.Step.{step}
+use Rattle.device.specs.Step.{singleStep}
 use native.Mathlib.Omega.{arith}
 use borrow.Author.Tests.{lt-ltb, le-ltb}
 use mathlib.Core.Bool.{Bool, cond}
@@ -27,7 +27,7 @@ returns c =
     let d = t .before .before .args .self in
     let s = t .before .before .args .state in
     c .refused-with .ensures
-    ∙ refused (refusedWith d) (acceptedStep (step d s))
+    ∙ refused (refusedWith d) (acceptedStep (singleStep d s))
     (first-record (known (d .registers .part)) (fits d) (ltb s 4) (j .result) (j .ensures) (t .if1 .taken))
     (t .if1 .taken)
 
@@ -43,10 +43,10 @@ returns-2 c =
     let e : 13 ≡ first (stepRefusals d s) =
     ap (λ (b : Bool). cond b 0 13) (sym (le-ltb _ _ (t .if2 .taken)))
     ∙ first-state (known (d .registers .part)) (fits d) (ltb s 4) (j .result) (j .ensures) (t .before .if1 .left) in
-    c .refused-with2 .ensures ∙ refused {n = 13} (refusedWith d) (acceptedStep (step d s)) e (omega arith)
+    c .refused-with2 .ensures ∙ refused {n = 13} (refusedWith d) (acceptedStep (singleStep d s)) e (omega arith)
 
-advance-requires : tie.Need-advance-requires
-advance-requires c κs = search needs
+single-step-requires : tie.Need-single-step-requires
+single-step-requires c κs = search needs
 
 returns-3 : tie.Need-returns-3
 returns-3 c =
@@ -57,7 +57,7 @@ returns-3 c =
     let e : 0 ≡ first (stepRefusals d s) =
     ap (λ (b : Bool). cond b 0 13) (sym (lt-ltb _ _ (t .if2 .left)))
     ∙ first-state (known (d .registers .part)) (fits d) (ltb s 4) (j .result) (j .ensures) (t .before .if1 .left) in
-    accepted {n = 0} (refusedWith d) e refl (rw (c .before .advance .ensures))
+    accepted {n = 0} (refusedWith d) e refl (rw (c .before .single-step .ensures))
 
 pub step-spec : {M : Type 1} → statement M
 step-spec =
@@ -68,5 +68,5 @@ step-spec =
     returns
     refused-with-requires-2
     returns-2
-    advance-requires
+    single-step-requires
     returns-3)

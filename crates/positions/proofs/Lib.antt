@@ -1,0 +1,3 @@
+-- Laws of positions.
+pub mod Fits
+pub mod Brought

@@ -10,16 +10,23 @@ use model::reader::{self, Contents};
 use model::set::Set;
 use model::writer;
 
-/// What the library is told. Higher bits of a command are ignored, so any may stand there.
-fn told_library(told: &Told, random: &mut Random) -> ffi::Told {
+/// What the library is told.
+pub fn told_library(told: &Told) -> ffi::Told {
     ffi::Told {
         part: told.part,
         devices: told.devices,
-        command: told.command.code() | random.byte() & 0xFC,
+        command: told.command.code(),
         configuration: told.configuration,
         tail: told.tail.number,
         tail_length: told.tail.length,
     }
+}
+
+/// Higher bits of a command are ignored, so any may stand there.
+fn told_with_any_bits(told: &Told, random: &mut Random) -> ffi::Told {
+    let mut told = told_library(told);
+    told.command |= random.byte() & 0xFC;
+    told
 }
 
 /// A number of devices: mostly few, and often enough for lists of several blocks.
@@ -82,7 +89,7 @@ fn write_case(case: &mut Case, random: &mut Random, part: u16) {
         after[..frame.len()].copy_from_slice(frame);
     }
     let found = ffi::write(
-        &told_library(&told, random),
+        &told_with_any_bits(&told, random),
         given.byte,
         given.calibration,
         given.individual,
@@ -124,7 +131,7 @@ fn reads_back(
 ) {
     let mut bytes = vec![0; given.calibration.len()];
     let mut values = vec![0; given.individual.len()];
-    let told_frame = told_library(told, random);
+    let told_frame = told_with_any_bits(told, random);
     let found = ffi::read(&told_frame, frame, &mut bytes, &mut values);
     match told.command {
         Command::Calibration => case.same("read back", &bytes[..], given.calibration),
@@ -200,7 +207,7 @@ fn read_case(case: &mut Case, random: &mut Random, part: u16) {
         }
         Err(number) => Err(*number),
     };
-    let told_frame = told_library(&told, random);
+    let told_frame = told_with_any_bits(&told, random);
     let found = ffi::read(&told_frame, &frame, &mut bytes, &mut values);
     case.same("answer", found, answer(value));
     case.same("calibration", &bytes, &bytes_after);
@@ -239,7 +246,7 @@ fn writes_again(
         Contents::Individual(list) => values.clone_from(list),
     }
     let mut out = vec![0; frame.len()];
-    let told_frame = told_library(told, random);
+    let told_frame = told_with_any_bits(told, random);
     let found = ffi::write(&told_frame, byte, &bytes, &values, &mut out);
     case.same("written again", (found.refusal, &out[..]), (0, frame));
 }
@@ -305,7 +312,7 @@ fn return_case(case: &mut Case, random: &mut Random, part: u16) {
         told.tail = sets::tail(random);
     }
     let expected = reader::read_return(told.part, told.devices, told.command, told.tail, &bytes);
-    let found = ffi::read_return(&told_library(&told, random), &bytes);
+    let found = ffi::read_return(&told_with_any_bits(&told, random), &bytes);
     case.same("answer", found, answer(expected.map(u64::from)));
     case.reach(found.refusal);
 }

@@ -1,6 +1,7 @@
 //! A set's restore: its states, and what docs/RULES.md, "The three demands", says of it, held against the library in
 //! these words.
 
+use crate::frames::told_library;
 use crate::pair::{frame_clocks, Pair};
 use crate::tally::{Case, Events};
 use cases::{sets, states, Random};
@@ -106,7 +107,7 @@ impl Restore<'_> {
             let packed = ffi::data_bytes(&returned[k], &mut bytes);
             let expected = model::bits::pack(&bits);
             case.same("return", (packed.refusal, &bytes), (0, &expected));
-            let told = told(self.set, command, self.tails[k]);
+            let told = told_library(&self.set.told(command, self.tails[k]));
             let read = ffi::read_return(&told, &bytes);
             case.same("count", (read.refusal, read.value), (0, u64::from(count)));
         }
@@ -220,7 +221,7 @@ fn front<T: Copy + Default, const N: usize>(values: &[T]) -> [T; N] {
 /// A frame's states by the library's own way: written, and put on the wire with an edge.
 pub fn library_states(set: &Set, command: Command, tail: Tail, edge: Edge) -> Vec<u8> {
     let given = set.given(command);
-    let told = told(set, command, tail);
+    let told = told_library(&set.told(command, tail));
     let slice = ffi::slice_bits(command.code(), set.part, set.configuration).value as usize;
     let bits = 24 + set.devices * slice + tail.length as usize;
     let mut frame = vec![0; bits.div_ceil(8)];
@@ -236,15 +237,4 @@ pub fn library_states(set: &Set, command: Command, tail: Tail, edge: Edge) -> Ve
     let answer = ffi::states(&frame, bits, edge.number(), &mut states);
     assert_eq!(answer.refusal, 0, "a written frame has states");
     states
-}
-
-fn told(set: &Set, command: Command, tail: Tail) -> ffi::Told {
-    ffi::Told {
-        part: set.part,
-        devices: set.devices,
-        command: command.code(),
-        configuration: set.configuration,
-        tail: tail.number,
-        tail_length: tail.length,
-    }
 }

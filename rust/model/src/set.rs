@@ -26,6 +26,19 @@ pub struct Set {
 }
 
 impl Set {
+    /// A set of a part that is known, whose bytes and values are 0 but for the configuration.
+    pub fn zeros(part: u16, devices: usize, configuration: u8) -> Set {
+        let known = Part::of(part).expect("the part is known");
+        Set {
+            part,
+            devices,
+            configuration,
+            calibration: vec![0; known.banks() * devices],
+            global: 0,
+            individual: vec![0; known.values(configuration) * devices],
+        }
+    }
+
     /// Numbers 1, 2, 4 and 6, as its four frames are refused.
     pub fn judge(&self) -> Result<Part, Refusal> {
         let part = Part::of(self.part)?;

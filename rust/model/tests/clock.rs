@@ -42,15 +42,11 @@ const WAITED: (u8, u16, u16) = (7, 70, 71);
 
 /// A set of so many devices.
 fn set(part: u16, devices: usize, configuration: u8) -> Set {
-    let known = Part::of(part).unwrap();
-    Set {
-        part,
-        devices,
-        configuration,
-        calibration: vec![1; known.banks() * devices],
-        global: 3,
-        individual: vec![33; known.values(configuration) * devices],
-    }
+    let mut set = Set::zeros(part, devices, configuration);
+    set.calibration.fill(1);
+    set.global = 3;
+    set.individual.fill(33);
+    set
 }
 
 /// The states of a frame for one device.

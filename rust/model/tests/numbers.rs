@@ -16,19 +16,6 @@ const NO_TAIL: Tail = Tail {
     length: 0,
 };
 
-/// A set with zeros for what a test does not name.
-fn set(part: u16, devices: usize, configuration: u8) -> Set {
-    let known = Part::of(part).unwrap();
-    Set {
-        part,
-        devices,
-        configuration,
-        calibration: vec![0; known.banks() * devices],
-        global: 0,
-        individual: vec![0; known.values(configuration) * devices],
-    }
-}
-
 /// The set's frame of a command, read back.
 fn frame(set: &Set, command: Command, tail: Tail) -> Result<Vec<u8>, u8> {
     let told = set.told(command, tail);
@@ -49,19 +36,19 @@ fn tail(number: u64, length: u32) -> Tail {
 
 #[test]
 fn a_configuration() {
-    let bytes = frame(&set(6974, 1, 0), Command::Configuration, NO_TAIL);
+    let bytes = frame(&Set::zeros(6974, 1, 0), Command::Configuration, NO_TAIL);
     assert_eq!(bytes, Ok(vec![0xE8, 0xFC, 0, 0, 0, 0]));
 }
 
 #[test]
 fn b_configuration_of_two() {
-    let bytes = frame(&set(6974, 2, 1), Command::Configuration, NO_TAIL);
+    let bytes = frame(&Set::zeros(6974, 2, 1), Command::Configuration, NO_TAIL);
     assert_eq!(bytes, Ok(vec![0xE8, 0xFC, 0, 1, 1, 1, 1, 1, 1]));
 }
 
 #[test]
 fn c_calibration() {
-    let mut set = set(6974, 1, 0);
+    let mut set = Set::zeros(6974, 1, 0);
     set.calibration = vec![0xA9, 0x10, 0x01];
     let bytes = frame(&set, Command::Calibration, NO_TAIL);
     assert_eq!(bytes, Ok(vec![0xE8, 0x54, 0, 0xA9, 0x10, 0x01]));
@@ -69,7 +56,7 @@ fn c_calibration() {
 
 #[test]
 fn d_global() {
-    let mut set = set(6974, 1, 0);
+    let mut set = Set::zeros(6974, 1, 0);
     set.global = 96;
     let bytes = frame(&set, Command::Global, NO_TAIL);
     assert_eq!(bytes, Ok(vec![0xE8, 0xA8, 0, 0x60, 0x60, 0x60]));
@@ -77,7 +64,7 @@ fn d_global() {
 
 #[test]
 fn e_individual_of_a_6974() {
-    let mut set = set(6974, 1, 0);
+    let mut set = Set::zeros(6974, 1, 0);
     set.individual = vec![2560; 24];
     let expected = [vec![0xE8, 0, 0], [0xA0, 0x0A, 0x00].repeat(12)].concat();
     assert_eq!(frame(&set, Command::Individual, NO_TAIL), Ok(expected));
@@ -85,7 +72,7 @@ fn e_individual_of_a_6974() {
 
 #[test]
 fn f_individual_of_a_6975() {
-    let mut set = set(6975, 1, 0);
+    let mut set = Set::zeros(6975, 1, 0);
     set.individual = vec![1; 24];
     let group = [0x00, 0x04, 0x00, 0x10, 0x00, 0x40, 0x01];
     let expected = [vec![0xE8, 0, 0], group.repeat(6)].concat();
@@ -99,7 +86,9 @@ fn returned_of_three(part: u16) -> Vec<u8> {
     chain::fresh(&mut devices, part).unwrap();
     chain::set_fault(&mut devices, 1, 1, true).unwrap();
     chain::set_fault(&mut devices, 3, 1, true).unwrap();
-    let states = set(part, 3, 0).states(Command::Calibration, sent).unwrap();
+    let states = Set::zeros(part, 3, 0)
+        .states(Command::Calibration, sent)
+        .unwrap();
     let returned = chain::run(&mut devices, &states, states.len() + 23).unwrap();
     let bytes = data_bytes(&returned, 100).unwrap();
     let count = read_return(part, 3, Command::Calibration, sent, &bytes);
@@ -115,7 +104,7 @@ fn g_return_of_three() {
 #[test]
 fn h_tail() {
     let sent = tail(0b101, 3);
-    let set = set(6974, 1, 0);
+    let set = Set::zeros(6974, 1, 0);
     let mut bytes = frame(&set, Command::Configuration, sent).unwrap();
     assert_eq!(bytes, [0xE8, 0xFC, 0, 0, 0, 0, 0xA0]);
     bytes[6] = 0xA1;
@@ -170,7 +159,7 @@ fn k_lit_clocks_of_a_6975() {
 /// What a shorter chain returns is what the next one is sent.
 #[test]
 fn all_1023_with_open_leds() {
-    let mut states = set(6974, 1023, 0)
+    let mut states = Set::zeros(6974, 1023, 0)
         .states(Command::Configuration, NO_TAIL)
         .unwrap();
     for length in [341; 3] {
@@ -217,7 +206,7 @@ fn numbers_of_devices_and_tail_lengths() {
 
 #[test]
 fn the_largest_value_of_a_6974() {
-    let mut set = set(6974, 1, 0);
+    let mut set = Set::zeros(6974, 1, 0);
     set.individual[23] = 4095;
     assert!(frame(&set, Command::Individual, NO_TAIL).is_ok());
     set.individual[23] = 4096;
@@ -226,7 +215,7 @@ fn the_largest_value_of_a_6974() {
 
 #[test]
 fn the_largest_global_byte_of_a_multiplexed_glb4_6975() {
-    let mut set = set(6975, 1, 0x11);
+    let mut set = Set::zeros(6975, 1, 0x11);
     set.global = 3;
     assert!(frame(&set, Command::Global, NO_TAIL).is_ok());
     set.global = 4;
@@ -235,13 +224,13 @@ fn the_largest_global_byte_of_a_multiplexed_glb4_6975() {
 
 #[test]
 fn configuration_of_a_6972() {
-    let bytes = frame(&set(6972, 1, 0), Command::Configuration, NO_TAIL);
+    let bytes = frame(&Set::zeros(6972, 1, 0), Command::Configuration, NO_TAIL);
     assert_eq!(bytes, Ok(vec![0xE8, 0xFC, 0, 0, 0]));
 }
 
 #[test]
 fn calibration_of_a_6972() {
-    let mut set = set(6972, 1, 0);
+    let mut set = Set::zeros(6972, 1, 0);
     set.calibration = vec![0xA9, 0x10];
     let bytes = frame(&set, Command::Calibration, NO_TAIL);
     assert_eq!(bytes, Ok(vec![0xE8, 0x54, 0, 0xA9, 0x10]));
@@ -249,7 +238,7 @@ fn calibration_of_a_6972() {
 
 #[test]
 fn global_of_a_6972() {
-    let mut set = set(6972, 1, 0);
+    let mut set = Set::zeros(6972, 1, 0);
     set.global = 96;
     let bytes = frame(&set, Command::Global, NO_TAIL);
     assert_eq!(bytes, Ok(vec![0xE8, 0xA8, 0, 0x60, 0x60]));
@@ -257,7 +246,7 @@ fn global_of_a_6972() {
 
 #[test]
 fn individual_of_a_6972() {
-    let mut set = set(6972, 1, 0);
+    let mut set = Set::zeros(6972, 1, 0);
     set.individual = vec![2560; 16];
     let expected = [vec![0xE8, 0, 0], [0xA0, 0x0A, 0x00].repeat(8)].concat();
     assert_eq!(frame(&set, Command::Individual, NO_TAIL), Ok(expected));
@@ -265,7 +254,7 @@ fn individual_of_a_6972() {
 
 #[test]
 fn individual_of_a_6973() {
-    let mut set = set(6973, 1, 0);
+    let mut set = Set::zeros(6973, 1, 0);
     set.individual = vec![1; 16];
     let group = [0x00, 0x04, 0x00, 0x10, 0x00, 0x40, 0x01];
     let expected = [vec![0xE8, 0, 0], group.repeat(4)].concat();
@@ -299,7 +288,7 @@ fn subframes_and_leads_of_a_6972() {
 
 #[test]
 fn the_largest_value_of_a_6972() {
-    let mut set = set(6972, 1, 0);
+    let mut set = Set::zeros(6972, 1, 0);
     set.individual[15] = 4095;
     assert!(frame(&set, Command::Individual, NO_TAIL).is_ok());
     set.individual[15] = 4096;
@@ -308,7 +297,7 @@ fn the_largest_value_of_a_6972() {
 
 #[test]
 fn the_largest_global_byte_of_a_multiplexed_glb4_6973() {
-    let mut set = set(6973, 1, 0x11);
+    let mut set = Set::zeros(6973, 1, 0x11);
     set.global = 3;
     assert!(frame(&set, Command::Global, NO_TAIL).is_ok());
     set.global = 4;

@@ -101,15 +101,12 @@ fn places_that_a_16_output_part_does_not_use_hold_0() {
 
 /// A set with values that differ.
 fn set(part: u16, devices: usize, configuration: u8) -> Set {
-    let known = Part::of(part).unwrap();
-    let values = devices * known.values(configuration);
+    let zeros = Set::zeros(part, devices, configuration);
     Set {
-        part,
-        devices,
-        configuration,
-        calibration: (1..=known.banks() * devices).map(|b| b as u8).collect(),
+        calibration: (1..=zeros.calibration.len()).map(|b| b as u8).collect(),
         global: 3,
-        individual: (1..=values as u16).collect(),
+        individual: (1..=zeros.individual.len() as u16).collect(),
+        ..zeros
     }
 }
 

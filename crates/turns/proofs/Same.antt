@@ -29,7 +29,8 @@ use Rattle.intake.specs.declared.taken.Taken.{Taken}
 use Rattle.calls.specs.Chain.{allFit, blank}
 use Rattle.cursor.specs.declared.cursor.Cursor.{Cursor}
 use Rattle.cursor.specs.Cursor.{indexOf, cursor, turnByState, nextTurn}
-use Rattle.turns.specs.Front.{isPassing, passes, phaseRun, phaseTaken, frontTaken, sliceStart, deviceTaken, putAll, putEnd, highCount, frontAfter, leaveCursor, leaveOut, deviceTurn, turnedOut, Running, turning, turns, started, enough, frontRun, Turned}
+use Rattle.turns.specs.Front.{isPassing, passes, phaseRun, phaseTaken, frontTaken, sliceStart, deviceTaken, putAll, putEnd, highCount, frontAfter}
+use Rattle.turns.specs.Front.{leaveCursor, leaveOut, deviceTurn, turnedOut, Running, turning, turns, started, enough, frontRun, Turned}
 use Rattle.turns.proofs.LeavingStates.{put-full, length-put, put-append, highCount-fit, length-header-states}
 use Rattle.turns.proofs.Timed.{Timed, stamped, timed, states, stepTimed, runTimed, passOn, timed-none, timed-append, states-timed, states-stamped}
 use Rattle.turns.proofs.Header.{run-header}

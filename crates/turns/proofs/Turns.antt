@@ -21,7 +21,8 @@ use Rattle.calls.specs.Chain.{blank}
 use Rattle.cursor.specs.declared.cursor.Cursor.{Cursor}
 use Rattle.turns.specs.declared.front.PhaseRun.{PhaseRun}
 use Rattle.cursor.specs.Cursor.{indexOf, cursor, turnByState, nextTurn, beginRun, halted}
-use Rattle.turns.specs.Front.{passes, phaseRun, phaseTaken, frontTaken, sliceStart, deviceTaken, putEnd, highCount, frontAfter, leaving, leaveCursor, leaveOut, deviceTurn, within, turned, turnedOut, Running, turnAt, turning, turns, started, enough, Turned, turnTaken, cursorTo, cursorAfter, leaveAfter, leaveRoom}
+use Rattle.turns.specs.Front.{passes, phaseRun, phaseTaken, frontTaken, sliceStart, deviceTaken, putEnd, highCount, frontAfter, leaving, leaveCursor, leaveOut}
+use Rattle.turns.specs.Front.{deviceTurn, within, turned, turnedOut, Running, turnAt, turning, turns, started, enough, Turned, turnTaken, cursorTo, cursorAfter, leaveAfter, leaveRoom}
 use Rattle.turns.proofs.LeavingStates.{highCount-within, length-put}
 use Rattle.turns.proofs.Phases.{phaseRun-low, phaseRun-along}
 use Rattle.tables.proofs.Booleans.{cond-both}

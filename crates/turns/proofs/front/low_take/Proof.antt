@@ -5,7 +5,6 @@ use borrow.Author.Needs.{needs}
 use Rattle.phases.specs.Phases.{phaseOf, windowOf}
 use Rattle.phases.specs.declared.phase.Phase.{Phase}
 use Rattle.turns.specs.Front.{phaseRun, hearAll, huntsOn}
-use Rattle.turns.specs.declared.front.PhaseRun.{PhaseRun}
 use Rattle.turns.specs.declared.front.Heard.{Heard}
 use Rattle.turns.proofs.Cases.{lowTaken-none}
 use Rattle.turns.proofs.Phases.{heard-on}

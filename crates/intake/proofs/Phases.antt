@@ -4,7 +4,7 @@ use mathlib.Core.Path.{_≡_, refl, sym, ap, _∙_, subst}
 use mathlib.Core.Bool.{Bool, true, false, cond, true≢false}
 use mathlib.Core.List.{List, [], _∷_}
 use mathlib.Core.Logic.{⊎-elim}
-use Prim.Native.Nat.{ℕ, _+_, _%_, _<_, _≤_}
+use Prim.Native.Nat.{ℕ, _+_, _/_, _%_, _<_, _≤_}
 use native.Mathlib.Omega.{arith}
 use lib.Dec.{ltb, lit<}
 use lib.ListN.{length, getD, drop}
@@ -13,18 +13,21 @@ use types.Run.{OneOf}
 use denote.Enum.Declared.{tagOf}
 use Rattle.phases.proofs.phase.Phase.{the-type}
 use borrow.Author.Tests.{le-ltb, lt-ltb}
+use Rattle.parts.specs.Parts.{partOf, fieldWidth, fieldLimit}
 use Rattle.parts.specs.declared.command.Command.{Command}
 use Rattle.phases.specs.Phases.{phaseOf, heard, inHeader, headed}
-use Rattle.device.specs.Step.{step, stepHigh, at, moved, sliceLength}
+use Rattle.device.specs.Step.{step, stepHigh, at, moved, sending, sliceLength}
 use Rattle.phases.proofs.Places.{Small, phase-place, phase-small}
 use Rattle.phases.proofs.Rising.{rising-small, opening-small, counting-small}
 use Rattle.phases.specs.declared.phase.Phase.{Phase}
 use Rattle.phases.specs.declared.phase.Phase.the-variants.{Hunting, Opening, Counting, Slice, Passing, Lost}
-use Rattle.phases.specs.declared.phase.Sent.the-variants.{Nothing}
+use Rattle.phases.specs.declared.phase.Sent.the-variants.{Nothing, One, Header}
+use Rattle.registers.specs.Held.{took, fault, raised}
 use Rattle.registers.specs.declared.registers.Registers.{Registers}
+use Rattle.storing.specs.Stored.{stored}
 use Rattle.device.specs.declared.device.Device.{Device}
 use Rattle.device.specs.declared.device.Stepped.{Stepped}
-use Rattle.intake.specs.Intake.{stopped, datedStep, stepIn, highTaken, unlessSent, headedAll, highsEnd, oneTaken}
+use Rattle.intake.specs.Intake.{stopped, datedStep, stepIn, highTaken, unlessSent, headedAll, highsEnd, full}
 use Rattle.intake.specs.declared.taken.Taken.{Taken}
 use Rattle.intake.specs.declared.highs.Headed.{Headed}
 use Rattle.intake.proofs.Clauses.{drop-on}
@@ -171,27 +174,25 @@ high-lost r (s ∷ rest) i = go (ltb s 2) refl (high-lost r rest (i + 1)) where
   go false e ih =
       high-at r Lost s rest i (lit< tt) e ∙ ih ∙ ap (λ (j : ℕ). stopped (at r Lost) j Nothing) (sym (high-lost-cons s rest i e))
 
--- a device whose next step sends
-high-sends : (r : Registers) (p : Phase) (rest : List ℕ) (i : ℕ) → Small p
-    → ((s : ℕ) → after (datedStep (i + 1) r (stepHigh r p s)) (drop 1 rest) i ≡ stopped (datedStep (i + 1) r (stepHigh r p s) .device) (i + 1) (stepHigh r p s .sent))
-    → highTaken (at r p) rest i ≡ oneTaken (at r p) rest i
-high-sends r p [] i h f = high-none (at r p) i
-high-sends r p (s ∷ rest) i h f = go (ltb s 2) refl where
-  go : (t : Bool) → ltb s 2 ≡ t → highTaken (at r p) (s ∷ rest) i ≡ oneTaken (at r p) (s ∷ rest) i
-  go true e =
-      high-low (at r p) s rest i e
-      ∙ sym (ap (λ (t : Bool). cond t (stopped (at r p) i Nothing) (stopped (stepIn (i + 1) (at r p) s .device) (i + 1) (step (at r p) s .sent))) e)
-  go false e =
-      high-at r p s rest i h e ∙ f s
-      ∙ ap (λ (x : Stepped). stopped (datedStep (i + 1) r x .device) (i + 1) (x .sent)) (sym (step-high r p s h e))
-      ∙ sym (ap (λ (t : Bool). cond t (stopped (at r p) i Nothing) (stopped (stepIn (i + 1) (at r p) s .device) (i + 1) (step (at r p) s .sent))) e)
+pub high-passing : (r : Registers) (ss : List ℕ) (i : ℕ) → i < length ss → 2 ≤ getD ss i 0
+    → highTaken (at r Passing) (drop i ss) i ≡ stopped (at r Passing) (i + 1) (One (getD ss i 0))
+high-passing r ss i h l =
+    ap (λ (rest : List ℕ). highTaken (at r Passing) rest i) (drop-on ss i h)
+    ∙ high-at r Passing (getD ss i 0) (drop (i + 1) ss) i (lit< tt) (le-ltb (getD ss i 0) 2 l)
 
-pub high-passing : (r : Registers) (rest : List ℕ) (i : ℕ) → highTaken (at r Passing) rest i ≡ oneTaken (at r Passing) rest i
-high-passing r rest i = high-sends r Passing rest i (lit< tt) (λ s. refl)
+-- the registers after one bit more than the slice has
+abbrev pub overfilled : Registers → Command → ℕ → ℕ → Registers
+overfilled r c t s = took r (t / fieldWidth (partOf (r .part)) c) (s % 2) (fieldLimit (partOf (r .part)) c)
 
-pub high-over : (r : Registers) (c : Command) (n t : ℕ) (rest : List ℕ) (i : ℕ) → sliceLength r c ≤ t
-    → highTaken (at r (Slice c n t)) rest i ≡ oneTaken (at r (Slice c n t)) rest i
-high-over r c n t rest i h = high-sends r (Slice c n t) rest i (lit< tt) (λ s. rw (le-ltb (t + 1) (sliceLength r c) (omega arith)) refl)
+pub high-over : (r : Registers) (c : Command) (n t : ℕ) (ss : List ℕ) (i : ℕ) → sliceLength r c ≤ t → i < length ss → 2 ≤ getD ss i 0
+    → highTaken (at r (Slice c n t)) (drop i ss) i ≡ full r (overfilled r c t (getD ss i 0) .slice) c n (i + 1)
+high-over r c n t ss i q h l =
+    ap (λ (rest : List ℕ). highTaken (at r (Slice c n t)) rest i) (drop-on ss i h)
+    ∙ high-at r (Slice c n t) (getD ss i 0) (drop (i + 1) ss) i (lit< tt) (le-ltb (getD ss i 0) 2 l)
+    ∙ ap (λ (b : Bool). after (datedStep (i + 1) r (cond b (moved now (Slice c n (t + 1))) (sending (stored now c) Passing (Header c (raised n (fault now c)))))) (drop (i + 1) ss) i)
+    (le-ltb (t + 1) (sliceLength r c) (omega arith)) where
+      now : Registers
+      now = overfilled r c t (getD ss i 0)
 
 -- ---- by what the header's states left
 
@@ -217,13 +218,6 @@ high-by d ss i h l g e =
 pub onward-header : (r : Registers) (ss : List ℕ) (p : Phase) (i : ℕ) (h : Headed) → h ≡ headedAll p (drop i ss) i → inHeader (h .phase) ≡ true
     → onward r ss h ≡ stopped (at r (h .phase)) (h .at) Nothing
 onward-header r ss p i h e = subst (Stops r ss) (sym e) (headed-stops r ss (drop i ss) p i refl)
-
-pub onward-passing : (r : Registers) (ss : List ℕ) (h : Headed) → h .phase ≡ Passing
-    → onward r ss h ≡ oneTaken (at r (h .phase)) (drop (h .at) ss) (h .at)
-onward-passing r ss h e =
-    ap (λ (p : Phase). highTaken (at r p) (drop (h .at) ss) (h .at)) e
-    ∙ high-passing r (drop (h .at) ss) (h .at)
-    ∙ ap (λ (p : Phase). oneTaken (at r p) (drop (h .at) ss) (h .at)) (sym e)
 
 pub onward-lost : (r : Registers) (ss : List ℕ) (h : Headed) → h .phase ≡ Lost
     → onward r ss h ≡ stopped (at r (h .phase)) (highsEnd (drop (h .at) ss) (h .at)) Nothing

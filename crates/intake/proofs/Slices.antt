@@ -26,9 +26,9 @@ use Rattle.registers.specs.declared.registers.Registers.{Registers}
 use Rattle.intake.specs.Intake.{stopped, datedStep, highTaken, filled, least, collecting, full}
 use Rattle.intake.specs.declared.taken.Taken.{Taken}
 use Rattle.intake.specs.declared.slice.Filled.{Filled}
-use Rattle.intake.proofs.Dated.{dated-slice}
 use Rattle.intake.proofs.Clauses.{drop-on, filled-none, filled-end, filled-low, filled-on}
 use Rattle.intake.proofs.Phases.{after, high-at}
+use Rattle.intake.proofs.Settled.{dated-slice}
 
 -- ---- numbers
 

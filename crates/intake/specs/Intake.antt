@@ -5,7 +5,7 @@ use mathlib.Core.Bool.{cond}
 use mathlib.Core.List.{List, [], _∷_}
 use lib.Dec.{ltb, leb}
 use Rattle.parts.specs.declared.command.Command.{Command}
-use Rattle.phases.specs.Phases.{pushed, inHeader, headed}
+use Rattle.phases.specs.Phases.{placeOf, pushed, inHeader, headed}
 use Rattle.registers.specs.Held.{withSlice, fault, raised}
 use Rattle.positions.specs.Running.{dated}
 use Rattle.storing.specs.Stored.{stored}
@@ -18,6 +18,7 @@ use Rattle.registers.specs.declared.registers.Registers.{Registers}
 use Rattle.device.specs.declared.device.Device.{Device}
 use Rattle.device.specs.declared.device.Stepped.{Stepped}
 use Rattle.intake.specs.declared.taken.Taken.{Taken}
+use Rattle.intake.specs.declared.taken.Progress.{Progress}
 use Rattle.intake.specs.declared.highs.Headed.{Headed}
 use Rattle.intake.specs.declared.slice.Filled.{Filled}
 
@@ -52,6 +53,30 @@ highTaken d (s ∷ ss) i =
     let x : Stepped = stepIn (i + 1) d s in
     cond (ltb s 2) (stopped d i Nothing) (unlessSent (x .sent) (highTaken (x .device) ss (i + 1)) (stopped (x .device) (i + 1) (x .sent)))
 
+-- ---- how far it got
+
+-- all that changes in a device before it sends a header, and what it sent
+abbrev pub progressOf : Taken → Progress
+progressOf t = record { slice = t .device .registers .slice; place = t .device .place; at = t .at; sent = t .sent }
+
+-- what a progress makes of registers: a header is sent with the last bit of a slice, which is stored in that clock
+abbrev pub settledBy : Sent → ℕ → Registers → List ℕ → Registers
+settledBy Nothing t r sl = withSlice r sl
+settledBy (One s) t r sl = withSlice r sl
+settledBy (Header c n) t r sl = dated t r (stored (withSlice r sl) c)
+
+-- and of a device
+abbrev pub settled : Device → Progress → Taken
+settled d p = stopped (record { registers = settledBy (p .sent) (p .at) (d .registers) (p .slice); place = p .place }) (p .at) (p .sent)
+
+-- nothing was sent
+abbrev pub halfway : List ℕ → Phase → ℕ → Progress
+halfway sl p i = record { slice = sl; place = placeOf p; at = i; sent = Nothing }
+
+-- a slice is whole, and its header is sent on
+abbrev pub completed : Registers → List ℕ → Command → ℕ → ℕ → Progress
+completed r sl c n i = record { slice = sl; place = placeOf Passing; at = i; sent = Header c (raised n (fault r c)) }
+
 -- ---- the loops inside
 
 -- a phase takes the high states of a header
@@ -75,11 +100,6 @@ filled v (suc b) (s ∷ ss) i = cond (ltb s 2) (record { value = v; at = i }) (f
 -- the smaller of two numbers
 abbrev pub least : ℕ → ℕ → ℕ
 least a b = cond (leb a b) a b
-
--- one high state
-abbrev pub oneTaken : Device → List ℕ → ℕ → Taken
-oneTaken d [] i = stopped d i Nothing
-oneTaken d (s ∷ ss) i = cond (ltb s 2) (stopped d i Nothing) (stopped (stepIn (i + 1) d s .device) (i + 1) (stepIn (i + 1) d s .sent))
 
 -- within a slice, whose fields so far are sl; and once it is full
 abbrev pub collecting : Registers → List ℕ → Command → ℕ → ℕ → Device

@@ -3,10 +3,10 @@ ghost use mathlib.Core.Path.{_≡_};
 ghost use Prim.Native.Nat.{_<_, _≤_};
 ghost use lib.ListN.{length, getD, drop};
 ghost use Rattle.device.specs.Step.{at};
-ghost use Rattle.phases.specs.declared.phase.Sent.the-variants.{Nothing};
-ghost use Rattle.intake.specs.Intake.{stopped, highTaken, headedAll, highsEnd};
-use crate::taken::Taken;
-use crate::taken::one;
+ghost use Rattle.phases.specs.declared.phase.Phase.the-variants.{Passing};
+ghost use Rattle.intake.specs.Intake.{highTaken, progressOf, headedAll, highsEnd};
+use crate::taken::Progress;
+use crate::taken::stop;
 use device::Device;
 use phases::Phase;
 use phases::Sent;
@@ -19,42 +19,52 @@ pub struct Headed {
 }
 
 // High states, from a place on, until the device sends, a low state or the end.
-pub fn take(device: Device, states: &[u8], from: usize) -> Taken
-    ensures { λ r. ⌜ r ≡ highTaken device (drop from (now (states .entry))) from ⌝ }
+pub fn take(device: Device, states: &[u8], from: usize) -> Progress
+    ensures { λ r. ⌜ r ≡ progressOf (highTaken device (drop from (now (states .entry))) from) ⌝ }
 {
     if from < states.len() && states[from] >= 2 {
         return high(device, states, from);
     }
-    Taken {
-        device,
+    let slice = device.registers.slice;
+    let place = device.place;
+    Progress {
+        slice,
+        place,
         at: from,
         sent: Sent::Nothing,
     }
 }
 
-// Nothing was sent.
-fn quiet(registers: Registers, phase: Phase, from: usize) -> Taken
-    ensures { λ r. ⌜ r ≡ stopped (at registers phase) from Nothing ⌝ }
+// A passing device sends a high state on.
+fn pass(registers: Registers, states: &[u8], from: usize) -> Progress
+    ensures { λ r. ⌜ r ≡ progressOf (highTaken (at registers Passing) (drop from (now (states .entry))) from) ⌝ }
 {
-    Taken {
-        device: Device {
-            registers,
-            place: phases::place_of(phase),
-        },
-        at: from,
-        sent: Sent::Nothing,
+    if from < states.len() {
+        let s = states[from];
+        if s >= 2 {
+            let slice = registers.slice;
+            return Progress {
+                slice,
+                place: phases::place_of(Phase::Passing),
+                at: from + 1,
+                sent: Sent::One(s),
+            };
+        }
     }
+    let slice = registers.slice;
+    stop(slice, Phase::Passing, from)
 }
 
-// High states: those of a header, and then what the phase says. A record is passed on where it is used, so that it is moved once.
-fn high(device: Device, states: &[u8], from: usize) -> Taken
+// High states: those of a header, and then what the phase says.
+fn high(device: Device, states: &[u8], from: usize) -> Progress
     requires { ⌜ (from < length (now states)) × (2 ≤ getD (now states) from 0) ⌝ }
-    ensures { λ r. ⌜ r ≡ highTaken device (drop from (now (states .entry))) from ⌝ }
+    ensures { λ r. ⌜ r ≡ progressOf (highTaken device (drop from (now (states .entry))) from) ⌝ }
 {
     let place = device.place;
     let headed = head_all(phases::phase_of(place), states, from);
     let phase = headed.phase;
     let next = headed.at;
+    let slice = device.registers.slice;
     match phase {
         Phase::Slice {
             command,
@@ -66,12 +76,12 @@ fn high(device: Device, states: &[u8], from: usize) -> Taken
             if taken < bits {
                 crate::slice::gather(device.registers, command, count, taken, states, next)
             } else {
-                one(device.registers, phase, states, next)
+                crate::slice::overfill(device.registers, command, count, taken, states, next)
             }
         }
-        Phase::Passing => one(device.registers, phase, states, next),
-        Phase::Lost => quiet(device.registers, phase, highs_end(states, next)),
-        _ => quiet(device.registers, phase, next),
+        Phase::Passing => pass(device.registers, states, next),
+        Phase::Lost => stop(slice, phase, highs_end(states, next)),
+        _ => stop(slice, phase, next),
     }
 }
 

@@ -1,13 +1,12 @@
-// The rest of a slice in one call. A field's bits are gathered in a local.
+// The rest of a slice in one call: the slice is kept in a local, as a field's bits are, and no record is moved.
 ghost use mathlib.Core.Path.{_≡_};
 ghost use Prim.Native.Nat.{_-_, _<_, _≤_};
 ghost use lib.ListN.{length, drop};
 ghost use Rattle.device.specs.Step.{at, sliceLength};
 ghost use Rattle.phases.specs.declared.phase.Phase.the-variants.{Slice};
-ghost use Rattle.phases.specs.declared.phase.Sent.the-variants.{Nothing};
-ghost use Rattle.intake.specs.Intake.{stopped, collecting, full, highTaken, filled, least};
-use crate::taken::Taken;
-use device::Device;
+ghost use Rattle.intake.specs.Intake.{highTaken, progressOf, halfway, completed, filled, least};
+use crate::taken::Progress;
+use crate::taken::stop;
 use parts::Command;
 use phases::Phase;
 use phases::Sent;
@@ -27,9 +26,9 @@ pub fn gather(
     taken: u16,
     states: &[u8],
     from: usize,
-) -> Taken
+) -> Progress
     requires { ⌜ taken < sliceLength registers command ⌝ }
-    ensures { λ r. ⌜ r ≡ highTaken (at registers (Slice command count taken)) (drop from (now (states .entry))) from ⌝ }
+    ensures { λ r. ⌜ r ≡ progressOf (highTaken (at registers (Slice command count taken)) (drop from (now (states .entry))) from) ⌝ }
 {
     let part = registers.part;
     let width = slices::field_width(command, part) as usize;
@@ -40,7 +39,7 @@ pub fn gather(
     let mut i = from;
     while i < states.len() {
         if states[i] < 2 {
-            return part_of(registers, slice, command, count, t as u16, i);
+            return part_of(slice, command, count, t as u16, i);
         }
         let k = t / width;
         let v = slice[k];
@@ -53,7 +52,7 @@ pub fn gather(
             return whole(registers, slice, command, count, i);
         }
     }
-    part_of(registers, slice, command, count, t as u16, i)
+    part_of(slice, command, count, t as u16, i)
 }
 
 // The smaller of two numbers.
@@ -81,47 +80,59 @@ fn fill(value: u16, states: &[u8], from: usize, end: usize) -> Filled
     Filled { value: v, at: i }
 }
 
+// A slice that has all its bits takes one more, and is whole: no record that fits stands so.
+pub fn overfill(
+    registers: Registers,
+    command: Command,
+    count: u16,
+    taken: u16,
+    states: &[u8],
+    from: usize,
+) -> Progress
+    requires { ⌜ sliceLength registers command ≤ taken ⌝ }
+    ensures { λ r. ⌜ r ≡ progressOf (highTaken (at registers (Slice command count taken)) (drop from (now (states .entry))) from) ⌝ }
+{
+    if from < states.len() {
+        let s = states[from];
+        if s >= 2 {
+            let filled = registers.take_bit(command, taken, s % 2);
+            let slice = filled.slice;
+            return whole(registers, slice, command, count, from + 1);
+        }
+    }
+    let slice = registers.slice;
+    part_of(slice, command, count, taken, from)
+}
+
 // The states end, or a low one comes, within a slice.
-fn part_of(
+fn part_of(slice: [u16; 48], command: Command, count: u16, taken: u16, from: usize) -> Progress
+    ensures { λ r. ⌜ r ≡ halfway slice (Slice command count taken) from ⌝ }
+{
+    stop(
+        slice,
+        Phase::Slice {
+            command,
+            count,
+            taken,
+        },
+        from,
+    )
+}
+
+// The last bit of a slice came.
+fn whole(
     registers: Registers,
     slice: [u16; 48],
     command: Command,
     count: u16,
-    taken: u16,
     from: usize,
-) -> Taken
-    ensures { λ r. ⌜ r ≡ stopped (collecting registers slice command count taken) from Nothing ⌝ }
-{
-    let mut held = registers;
-    held.slice = slice;
-    Taken {
-        device: Device {
-            registers: held,
-            place: phases::place_of(Phase::Slice {
-                command,
-                count,
-                taken,
-            }),
-        },
-        at: from,
-        sent: Sent::Nothing,
-    }
-}
-
-// The last bit of a slice came, in the clock of its place: what waited before it may have become active.
-fn whole(registers: Registers, slice: [u16; 48], command: Command, count: u16, from: usize) -> Taken
-    ensures { λ r. ⌜ r ≡ full registers slice command count from ⌝ }
+) -> Progress
+    ensures { λ r. ⌜ r ≡ completed registers slice command count from ⌝ }
 {
     let raised = registers::raise(count, registers.fault_of(command));
-    let length = positions::length_in(registers);
-    let position = positions::position_by(registers, from);
-    let shown = positions::show_by(registers, from);
-    let stored = storing::store(shown, slice, command);
-    Taken {
-        device: Device {
-            registers: positions::date(stored, length, position, from),
-            place: phases::place_of(Phase::Passing),
-        },
+    Progress {
+        slice,
+        place: phases::place_of(Phase::Passing),
         at: from,
         sent: Sent::Header {
             command,

@@ -1,12 +1,10 @@
-// What a device takes at once, and the least of it: one high state.
+// How far a device got with the states at hand, and what that makes of it.
 ghost use mathlib.Core.Path.{_≡_};
-ghost use lib.ListN.{drop};
-ghost use Rattle.device.specs.Step.{at};
-ghost use Rattle.intake.specs.Intake.{datedBy, oneTaken};
+ghost use Rattle.intake.specs.Intake.{halfway, settled};
 use device::Device;
 use phases::Phase;
+use phases::Place;
 use phases::Sent;
-use registers::Registers;
 
 // The device, the place of the next state, and what was sent.
 pub struct Taken {
@@ -15,49 +13,51 @@ pub struct Taken {
     pub sent: Sent,
 }
 
-// One high state.
-pub fn one(registers: Registers, phase: Phase, states: &[u8], from: usize) -> Taken
-    ensures { λ r. ⌜ r ≡ oneTaken (at registers phase) (drop from (now (states .entry))) from ⌝ }
+// How far a device got: its slice and its place in a frame, which are all that changes before it sends a header, the place of the next
+// state, and what was sent. So no record is moved while states are taken.
+pub struct Progress {
+    pub slice: [u16; 48],
+    pub place: Place,
+    pub at: usize,
+    pub sent: Sent,
+}
+
+// The states end, or one comes that the device does not take, and nothing was sent.
+pub fn stop(slice: [u16; 48], phase: Phase, from: usize) -> Progress
+    ensures { λ r. ⌜ r ≡ halfway slice phase from ⌝ }
 {
-    let device = Device {
-        registers,
+    Progress {
+        slice,
         place: phases::place_of(phase),
-    };
-    if from < states.len() {
-        let s = states[from];
-        if s >= 2 {
-            let before = device.registers;
-            let next = device.act(s);
-            let after = next.device;
-            let sent = next.sent;
-            let at = from + 1;
-            return Taken {
-                device: date_by(sent, before, after, at),
-                at,
-                sent,
-            };
-        }
-    }
-    Taken {
-        device,
         at: from,
         sent: Sent::Nothing,
     }
 }
 
-// What a state made of registers; a store is dated by the state's clock.
-fn date_by(sent: Sent, before: Registers, device: Device, clock: usize) -> Device
-    ensures { λ r. ⌜ r ≡ datedBy sent clock before device ⌝ }
+// What that makes of the device. A header is sent with the last bit of a slice, which is stored in that clock.
+pub fn settle(device: Device, progress: Progress) -> Taken
+    ensures { λ r. ⌜ r ≡ settled device progress ⌝ }
 {
-    if let Sent::Header { .. } = sent {
-        let place = device.place;
-        let length = positions::length_in(before);
-        let position = positions::position_by(before, clock);
-        let registers = positions::show_from(before, device.registers, clock);
-        return Device {
-            registers: positions::date(registers, length, position, clock),
-            place,
+    let slice = progress.slice;
+    let place = progress.place;
+    let at = progress.at;
+    let sent = progress.sent;
+    if let Sent::Header { command, .. } = sent {
+        let stored = storing::store(device.registers, slice, command);
+        return Taken {
+            device: Device {
+                registers: positions::date(device.registers, stored, at),
+                place,
+            },
+            at,
+            sent,
         };
     }
-    device
+    let mut registers = device.registers;
+    registers.slice = slice;
+    Taken {
+        device: Device { registers, place },
+        at,
+        sent,
+    }
 }

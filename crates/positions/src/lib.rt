@@ -2,11 +2,8 @@
 mod positions;
 mod running;
 
-pub use positions::length_in;
 pub use positions::position_fits;
 pub use positions::refit;
 pub use running::date;
 pub use running::has_ended;
 pub use running::position_by;
-pub use running::show_by;
-pub use running::show_from;

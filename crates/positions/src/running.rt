@@ -1,8 +1,7 @@
 // A device's position within a run, as the run keeps it: less the clocks of the run that were over when it was written. So a device is
 // looked at only where a slice is stored in it, and at the end.
 ghost use mathlib.Core.Path.{_≡_};
-ghost use Rattle.positions.specs.Positions.{lengthIn, placedAt, refit};
-ghost use Rattle.positions.specs.Running.{runOn, hasEnded, shownBy, positionBy, keptFrom};
+ghost use Rattle.positions.specs.Running.{runOn, hasEnded, positionBy, keptFrom, dated};
 use crate::positions::length_in;
 use crate::positions::refit_from;
 use registers::Registers;
@@ -25,41 +24,24 @@ pub fn position_by(registers: Registers, clock: usize) -> u64
     if on < length { on } else { on % length }
 }
 
-// The registers, which show what waited in them if a frame has ended by a clock.
-pub fn show_by(registers: Registers, clock: usize) -> Registers
-    ensures { λ r. ⌜ r ≡ shownBy clock registers registers ⌝ }
+// The registers that a slice leaves which is stored in a clock, where `new` is what the line state made of `old`. What waited in the old ones
+// is shown if a frame has ended by then, and only then is anything shown written.
+pub fn date(old: Registers, new: Registers, clock: usize) -> Registers
+    ensures { λ r. ⌜ r ≡ dated clock old new ⌝ }
 {
-    if has_ended(registers, clock) {
-        registers.activate()
-    } else {
-        registers
-    }
-}
-
-// The registers `new`, which show what waited in `old` if a frame has ended by a clock.
-pub fn show_from(old: Registers, new: Registers, clock: usize) -> Registers
-    ensures { λ r. ⌜ r ≡ shownBy clock old new ⌝ }
-{
-    if has_ended(old, clock) {
+    let length = length_in(old);
+    let position = position_by(old, clock);
+    let ended = has_ended(old, clock);
+    let kept = keep_from(refit_from(length, new, position), clock);
+    let mut next = new;
+    next.position = kept;
+    if ended {
         let waiting0 = old.waiting0;
         let waiting1 = old.waiting1;
-        let mut next = new;
         next.active = old.waiting;
         next.active0 = waiting0;
         next.active1 = waiting1;
-        return next;
     }
-    new
-}
-
-// The registers that a store in a clock leaves, at the position that it leaves, as the run keeps it; before it the frame had so many clocks,
-// and the device was at a position of it.
-pub fn date(registers: Registers, length: u64, position: u64, clock: usize) -> Registers
-    ensures { λ r. ⌜ r ≡ placedAt registers (keptFrom clock (refit length (lengthIn registers) position)) ⌝ }
-{
-    let position = keep_from(refit_from(length, registers, position), clock);
-    let mut next = registers;
-    next.position = position;
     next
 }
 

@@ -3,7 +3,7 @@ ghost use mathlib.Core.Path.{_≡_};
 ghost use Prim.Native.Nat.{_+_, _*_, _/_, _<_};
 ghost use Rattle.parts.specs.Parts.{partOf, fieldWidth, fieldLimit};
 ghost use Rattle.phases.specs.Phases.{pushed};
-ghost use Rattle.registers.specs.Held.{took, fault, raised, activated, flagged, zeros};
+ghost use Rattle.registers.specs.Held.{took, fault, raised, flagged, zeros};
 use parts::Command;
 
 #[repr(C)]
@@ -85,19 +85,6 @@ impl Registers {
             Command::Global => self.overtemperature,
             Command::Configuration => self.openled,
         }
-    }
-
-    // Waiting values become active.
-    pub fn activate(self) -> Registers
-        ensures { λ r. ⌜ r ≡ activated self ⌝ }
-    {
-        let waiting0 = self.waiting0;
-        let waiting1 = self.waiting1;
-        let mut next = self;
-        next.active = self.waiting;
-        next.active0 = waiting0;
-        next.active1 = waiting1;
-        next
     }
 
     // The fault of a kind is set: 0 overtemperature, else open LED.

@@ -30,6 +30,7 @@ use Rattle.intake.specs.Intake.{stopped, datedBy, datedStep, stepIn, unlessSent
 use Rattle.intake.specs.declared.taken.Taken.{Taken}
 use Rattle.intake.proofs.Clauses.{drop-on, high-end}
 use Rattle.intake.proofs.Phases.{high-low-at}
+use Rattle.intake.proofs.Settled.{Settles, settled-high}
 use Rattle.tables.proofs.Booleans.{cond-both}
 use Rattle.turns.specs.Front.{isPassing, passes, phaseOnly, phaseStep, phaseRun, phaseTaken, frontTaken, sliceStart, deviceTaken, afterHeader, lowTaken}
 use Rattle.turns.specs.declared.front.PhaseRun.{PhaseRun}
@@ -274,3 +275,16 @@ pub device-high : (d : Device) (p : Sent) (ss : List ℕ) (i : ℕ) → i < leng
 device-high d (Header c n) ss i h l e = refl
 device-high d Nothing ss i h l e = front-by d ss i false false h (le-ltb (getD ss i 0) 2 l) e
 device-high d (One b) ss i h l e = front-by d ss i false false h (le-ltb (getD ss i 0) 2 l) e
+
+-- ---- what it took is settled in its record
+
+front-settles : (d : Device) (ss : List ℕ) (i : ℕ) → Settles d (frontTaken d ss i)
+front-settles d [] i = refl
+front-settles d (s ∷ ss) i =
+    cond-both (Settles d) (ltb s 2) (phaseTaken d (phaseRun (phaseOf (d .place)) (s ∷ ss) i)) (cond (passes d) (stopped d i (One 0)) (highTaken d (s ∷ ss) i))
+    (λ _. refl) (λ _. cond-both (Settles d) (passes d) (stopped d i (One 0)) (highTaken d (s ∷ ss) i) (λ _. refl) (λ _. settled-high (s ∷ ss) d i))
+
+pub device-settles : (d : Device) (p : Sent) (ss : List ℕ) (i : ℕ) → Settles d (deviceTaken d p ss i)
+device-settles d (Header c n) ss i = settled-high ss (sliceStart d c n) i
+device-settles d Nothing ss i = front-settles d ss i
+device-settles d (One b) ss i = front-settles d ss i

@@ -1,10 +1,11 @@
 // What the device of a turn takes.
 ghost use mathlib.Core.Path.{_≡_};
 ghost use lib.ListN.{drop};
+ghost use Rattle.intake.specs.Intake.{progressOf};
 ghost use Rattle.turns.specs.Front.{isLost, afterHeader, lowTaken, deviceTaken};
 ghost use Rattle.turns.specs.Front.{phaseOnly, phaseStep, phaseRun, hearAll, huntsOn};
 use device::Device;
-use intake::Taken;
+use intake::Progress;
 use phases::Phase;
 use phases::Sent;
 
@@ -20,10 +21,9 @@ pub struct Heard {
     pub at: usize,
 }
 
-// By the header under way and the next state. A passing device takes no high state: the front moves on. High states are taken in one place,
-// so that the whole turn is compiled into the loop of a run and moves a record as seldom as can be.
-pub fn device_take(device: Device, pending: Sent, states: &[u8], at: usize) -> Taken
-    ensures { λ r. ⌜ r ≡ deviceTaken device pending (drop at (now (states .entry))) at ⌝ }
+// By the header under way and the next state. A passing device takes no high state: the front moves on.
+pub fn device_take(device: Device, pending: Sent, states: &[u8], at: usize) -> Progress
+    ensures { λ r. ⌜ r ≡ progressOf (deviceTaken device pending (drop at (now (states .entry))) at) ⌝ }
 {
     let next = after_header(device, pending);
     if at < states.len() {
@@ -31,8 +31,11 @@ pub fn device_take(device: Device, pending: Sent, states: &[u8], at: usize) -> T
             return low_take(next, pending, states, at);
         }
         if next.place.phase == 4 {
-            return Taken {
-                device: next,
+            let slice = next.registers.slice;
+            let place = next.place;
+            return Progress {
+                slice,
+                place,
                 at,
                 sent: Sent::One(0),
             };
@@ -59,12 +62,15 @@ fn after_header(device: Device, pending: Sent) -> Device
 }
 
 // From a low state on as long as the phase alone goes on, so that a flood moves no record. After a header the state is the first device's.
-fn low_take(device: Device, pending: Sent, states: &[u8], at: usize) -> Taken
-    ensures { λ r. ⌜ r ≡ lowTaken device pending (drop at (now (states .entry))) at ⌝ }
+fn low_take(device: Device, pending: Sent, states: &[u8], at: usize) -> Progress
+    ensures { λ r. ⌜ r ≡ progressOf (lowTaken device pending (drop at (now (states .entry))) at) ⌝ }
 {
     if let Sent::Header { .. } = pending {
-        return Taken {
-            device,
+        let slice = device.registers.slice;
+        let place = device.place;
+        return Progress {
+            slice,
+            place,
             at,
             sent: Sent::Nothing,
         };
@@ -74,11 +80,10 @@ fn low_take(device: Device, pending: Sent, states: &[u8], at: usize) -> Taken
     let heard = hear_all(phases::window_of(before), states, at);
     let run = run_phase(hunt_on(before, at, heard), states, heard.at);
     let phase = run.phase;
-    let reached = phases::place_of(phase);
-    let mut next = device;
-    next.place = reached;
-    Taken {
-        device: next,
+    let slice = device.registers.slice;
+    Progress {
+        slice,
+        place: phases::place_of(phase),
         at: run.at,
         sent: Sent::Nothing,
     }

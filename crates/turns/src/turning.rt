@@ -17,7 +17,8 @@ pub fn take_turn(device: Device, cursor: Cursor, states: &[u8]) -> Taken
     let at = cursor.at;
     if cursor.front < cursor.count {
         let pending = cursor.pending;
-        return crate::front::device_take(device, pending, states, at);
+        let progress = crate::front::device_take(device, pending, states, at);
+        return intake::settle(device, progress);
     }
     Taken {
         device,

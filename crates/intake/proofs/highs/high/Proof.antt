@@ -2,13 +2,11 @@
 use mathlib.Core.Path.{_≡_, sym, ap, _∙_}
 use lib.ListN.{drop}
 use native.Mathlib.Omega.{arith}
-use Prim.Native.Nat.{ℕ}
 use Rattle.phases.specs.Phases.{phaseOf}
 use Rattle.device.specs.Step.{at}
 use Rattle.phases.specs.declared.phase.Phase.{Phase}
-use Rattle.phases.specs.declared.phase.Sent.the-variants.{Nothing}
-use Rattle.intake.specs.Intake.{highTaken, headedAll, stopped}
-use Rattle.intake.proofs.Phases.{onward, high-by, high-over, inHeader-tag, onward-header, onward-passing, onward-lost}
+use Rattle.intake.specs.Intake.{highTaken, progressOf, halfway, headedAll}
+use Rattle.intake.proofs.Phases.{onward, high-by, inHeader-tag, onward-header, onward-lost}
 use borrow.Author.Needs.{needs}
 use Rattle.intake.proofs.highs.high.Statement.{statement}
 use Rattle.intake.proofs.highs.high.Tie as tie
@@ -28,14 +26,14 @@ slice-bits-requires c κs = search needs
 gather-requires : tie.Need-gather-requires
 gather-requires c κs = search needs
 
-one-requires : tie.Need-one-requires
-one-requires c κs = search needs
+overfill-requires : tie.Need-overfill-requires
+overfill-requires c κs = omega (arith, c .if1 .left, c .before .slice-bits .ensures)
 
 enum-told : tie.Need-enum-told
 enum-told c = search needs
 
-one-requires-2 : tie.Need-one-requires-2
-one-requires-2 c κs = search needs
+pass-requires : tie.Need-pass-requires
+pass-requires c κs = search needs
 
 enum-told-2 : tie.Need-enum-told-2
 enum-told-2 c = search needs
@@ -43,11 +41,11 @@ enum-told-2 c = search needs
 highs-end-requires : tie.Need-highs-end-requires
 highs-end-requires c κs = search needs
 
-quiet-requires : tie.Need-quiet-requires
-quiet-requires c κs = search needs
+stop-requires : tie.Need-stop-requires
+stop-requires c κs = search needs
 
-quiet-requires-2 : tie.Need-quiet-requires-2
-quiet-requires-2 c κs = search needs
+stop-requires-2 : tie.Need-stop-requires-2
+stop-requires-2 c κs = search needs
 
 -- what the states of a header left
 headed : (c : tie.After-head-all)
@@ -65,48 +63,44 @@ after-header c =
     let s = c .before .before .before .before in
     high-by (s .args .device) (s .args .states .now) (s .args .from) (c .head-all .result) (s .pre .0) (s .pre .1) (headed c)
 
+-- by the phase that they left
+left-at : (c : tie.After-head-all) (p : Phase) → c .head-all .result .phase ≡ p
+    → let a = c .before .before .before .before .args in
+    let q = c .head-all .result in
+    progressOf (highTaken (at (a .device .registers) p) (drop (q .at) (a .states .now)) (q .at))
+    ≡ progressOf (highTaken (a .device) (drop (a .from) (a .states .now)) (a .from))
+left-at c p e =
+    let a = c .before .before .before .before .args in
+    let q = c .head-all .result in
+    sym (ap progressOf (after-header c ∙ ap (λ (x : Phase). highTaken (at (a .device .registers) x) (drop (q .at) (a .states .now)) (q .at)) e))
+
 returns : tie.Need-returns
-returns c =
-    let h = c .before .before .before .before .before .before in
-    let a = h .before .before .before .before .args in
-    let q = h .head-all .result in
-    c .gather .ensures
-    ∙ sym (after-header h ∙ ap (λ (p : Phase). highTaken (at (a .device .registers) p) (drop (q .at) (a .states .now)) (q .at)) (c .before .before .before .before .phase .given .1))
+returns c = c .gather .ensures ∙ left-at (c .before .before .before .before .before .before .before) _ (c .before .before .before .before .phase .given .1)
 
 -- a slice that has all its bits takes one more
 returns-2 : tie.Need-returns-2
-returns-2 c =
-    let h = c .before .before .before .before .before .before in
-    let a = h .before .before .before .before .args in
-    let q = h .head-all .result in
-    let f = c .before .before .before .before .phase .given in
-    c .one .ensures
-    ∙ sym (after-header h ∙ ap (λ (p : Phase). highTaken (at (a .device .registers) p) (drop (q .at) (a .states .now)) (q .at)) (f .1)
-    ∙ high-over (a .device .registers) (f .0 .0) (f .0 .1 .0) (f .0 .1 .1 .0) (drop (q .at) (a .states .now)) (q .at)
-    (omega (arith, c .before .if1 .left, c .before .before .slice-bits .ensures)))
+returns-2 c = c .overfill .ensures ∙ left-at (c .before .before .before .before .before .before .before) _ (c .before .before .before .before .phase .given .1)
 
 returns-3 : tie.Need-returns-3
-returns-3 c =
-    let h = c .before .before .before in
-    let a = h .before .before .before .before .args in
-    c .one2 .ensures ∙ sym (after-header h ∙ onward-passing (a .device .registers) (a .states .now) (h .head-all .result) (c .before .enum-told .given .1))
+returns-3 c = c .pass .ensures ∙ left-at (c .before .before .before .before) _ (c .before .enum-told .given .1)
 
 returns-4 : tie.Need-returns-4
 returns-4 c =
-    let h = c .before .before .before .before in
+    let h = c .before .before .before .before .before in
     let a = h .before .before .before .before .args in
     let q = h .head-all .result in
-    c .quiet .ensures
-    ∙ ap (λ (j : ℕ). stopped (at (a .device .registers) (q .phase)) j Nothing) (c .before .highs-end .ensures)
-    ∙ sym (after-header h ∙ onward-lost (a .device .registers) (a .states .now) q (c .before .before .enum-told2 .given .1))
+    c .stop .ensures
+    ∙ ap (halfway (a .device .registers .slice) (q .phase)) (c .before .highs-end .ensures)
+    ∙ sym (ap progressOf (after-header h ∙ onward-lost (a .device .registers) (a .states .now) q (c .before .before .enum-told2 .given .1)))
 
 returns-5 : tie.Need-returns-5
 returns-5 c =
-    let h = c .before .before in
+    let h = c .before .before .before in
     let a = h .before .before .before .before .args in
     let q = h .head-all .result in
-    c .quiet2 .ensures
-    ∙ sym (after-header h ∙ onward-header (a .device .registers) (a .states .now) (phaseOf (a .device .place)) (a .from) q (headed h) (inHeader-tag (q .phase) (c .before .match .keys4)))
+    c .stop2 .ensures
+    ∙ sym (ap progressOf (after-header h
+    ∙ onward-header (a .device .registers) (a .states .now) (phaseOf (a .device .place)) (a .from) q (headed h) (inHeader-tag (q .phase) (c .before .match .keys4))))
 
 pub high-spec : {M : Type 1} → statement M
 high-spec =
@@ -117,13 +111,13 @@ high-spec =
     enum-known-phase
     slice-bits-requires
     gather-requires
-    one-requires
+    overfill-requires
     enum-told
-    one-requires-2
+    pass-requires
     enum-told-2
     highs-end-requires
-    quiet-requires
-    quiet-requires-2
+    stop-requires
+    stop-requires-2
     returns
     returns-2
     returns-3

@@ -1,7 +1,8 @@
-use mathlib.Core.Path.{sym}
+use mathlib.Core.Path.{sym, ap}
 use mathlib.Core.Logic.{⊎-elim}
 use lib.ListN.{getD}
 use borrow.Author.Tests.{leb-false}
+use Rattle.intake.specs.Intake.{progressOf}
 use Rattle.intake.proofs.Clauses.{high-end}
 use Rattle.intake.proofs.Phases.{high-low-at}
 use borrow.Author.Needs.{needs}
@@ -19,9 +20,10 @@ returns c = search needs
 
 returns-2 : tie.Need-returns-2
 returns-2 c =
-    let a = c .before .before .args in
-    ⊎-elim (λ w. sym (high-low-at (a .device) (a .states .now) (a .from) (w .0 .taken) (leb-false 2 (getD (a .states .now) (a .from) 0) (w .2 .left))))
-    (λ w. sym (high-end (a .device) (a .states .now) (a .from) (a .from) (w .left))) (c .if1 .came)
+    let t = c .before .before in
+    let a = t .before .before .args in
+    sym (ap progressOf (⊎-elim (λ w. high-low-at (a .device) (a .states .now) (a .from) (w .0 .taken) (leb-false 2 (getD (a .states .now) (a .from) 0) (w .2 .left)))
+    (λ w. high-end (a .device) (a .states .now) (a .from) (a .from) (w .left)) (t .if1 .came)))
 
 pub take-spec : {M : Type 1} → statement M
 take-spec = tie.close (tie.spec shared-slice-read-if2 high-requires returns returns-2)

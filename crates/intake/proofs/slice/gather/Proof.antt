@@ -2,12 +2,13 @@
 use mathlib.Core.Path.{_≡_, refl, sym, ap, _∙_}
 use Prim.Native.Nat.{ℕ, _+_, _-_, _/_, _%_, _<_, _≤_}
 use lib.ListN.{length, getD, set, drop, length-set}
-use Rattle.intake.specs.Intake.{highTaken, collecting, filled}
+use Rattle.intake.specs.Intake.{highTaken, collecting, filled, progressOf}
 use Rattle.device.specs.Step.{at, sliceLength}
 use Rattle.phases.specs.declared.phase.Phase.the-variants.{Slice}
 use Rattle.parts.specs.Parts.{partOf, fieldWidth, fieldLimit}
 use Rattle.intake.proofs.Slices.{FieldTaken, fieldTaken, slot-width, slice-le, least-right, goes-more, goes-full}
 use Rattle.intake.proofs.Clauses.{high-end}
+use Rattle.intake.proofs.Settled.{full-progress}
 use native.Mathlib.Omega.{arith}
 use Rattle.intake.proofs.Phases.{high-low-at}
 use Rattle.parts.proofs.Laws.{usable}
@@ -88,7 +89,7 @@ returns : tie.Need-returns Inv-loop μ-loop
 returns c = let o = c .before .before .before .before in
     let a = o .before .before .before .before .before .before .args in
     let v = o .loop .inv in
-    c .part-of .ensures ∙ sym (v .5 ∙ high-low-at _ (a .states .now) (o .loop .i) (c .before .before .before .loop-test .taken) (c .before .if1 .taken))
+    c .part-of .ensures ∙ sym (ap progressOf (v .5 ∙ high-low-at _ (a .states .now) (o .loop .i) (c .before .before .before .loop-test .taken) (c .before .if1 .taken)))
 
 div-k : tie.Need-div-k Inv-loop μ-loop
 div-k c = let o = c .before .before .before in
@@ -190,7 +191,8 @@ returns-2 c = let o = c .before .before .before .before .before .before .before 
     let sl = set (o .loop .slice) (o .loop .t / w) (f .value % o .before .before .before .field-limit .result) in
     let t = o .loop .t + (f .at - o .loop .i) in
     let l : sliceLength (a .registers) (a .command) ≤ t = omega (arith, v .2, c .before .if2 .taken) in
-    c .whole .ensures ∙ sym (v .5 ∙ u .same ∙ goes-full (a .registers) (a .command) (a .count) (a .states .now) sl t (f .at) l)
+    c .whole .ensures
+    ∙ sym (ap progressOf (v .5 ∙ u .same ∙ goes-full (a .registers) (a .command) (a .count) (a .states .now) sl t (f .at) l) ∙ full-progress (a .registers) sl (a .command) (a .count) (f .at))
 
 loop-less : tie.Need-loop-less Inv-loop μ-loop
 loop-less c = let u = turn-of (c .before .before .before) in
@@ -227,7 +229,7 @@ returns-3 : tie.Need-returns-3 Inv-loop μ-loop
 returns-3 c = let o = c .before .before in
     let a = o .before .before .before .before .before .before .args in
     let v = o .loop .inv in
-    c .part-of2 .ensures ∙ sym (v .5 ∙ high-end _ (a .states .now) (o .loop .i) (o .loop .i) (c .before .loop-test .left))
+    c .part-of2 .ensures ∙ sym (ap progressOf (v .5 ∙ high-end _ (a .states .now) (o .loop .i) (o .loop .i) (c .before .loop-test .left)))
 
 pub gather-spec : {M : Type 1} → statement M
 gather-spec =

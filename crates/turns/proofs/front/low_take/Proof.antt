@@ -4,6 +4,7 @@ use lib.ListN.{drop}
 use borrow.Author.Needs.{needs}
 use Rattle.phases.specs.Phases.{phaseOf, windowOf}
 use Rattle.phases.specs.declared.phase.Phase.{Phase}
+use Rattle.intake.specs.Intake.{progressOf}
 use Rattle.turns.specs.Front.{phaseRun, hearAll, huntsOn}
 use Rattle.turns.specs.declared.front.Heard.{Heard}
 use Rattle.turns.proofs.Cases.{lowTaken-none}
@@ -15,7 +16,7 @@ enum-told : tie.Need-enum-told
 enum-told c = search needs
 
 returns : tie.Need-returns
-returns c = rw (c .enum-told .given .1)
+returns c = rw (c .before .before .enum-told .given .1)
 
 phase-of-requires : tie.Need-phase-of-requires
 phase-of-requires c κs = search needs
@@ -37,7 +38,7 @@ place-of-requires c κs = search needs
 
 returns-2 : tie.Need-returns-2
 returns-2 c =
-    let r = c .before in
+    let r = c .before .before in
     let u = r .before in
     let h = u .before in
     let w = h .before in
@@ -53,7 +54,7 @@ returns-2 c =
     (u .hunt-on .ensures ∙ ap (λ (q : Phase). huntsOn q (a .at) (h .hear-all .result)) (f .phase-of .ensures))
     ∙ ap (λ (x : Heard). phaseRun (huntsOn p (a .at) x) (drop (x .at) (a .states .now)) (x .at)) heard
     ∙ sym (heard-on (a .states .now) p (a .at)) in
-    rw (c .place-of .ensures) (lowTaken-none (a .device) (a .pending) (drop (a .at) (a .states .now)) (a .at) _ (m .match .keys2) went)
+    rw (c .place-of .ensures) (ap progressOf (lowTaken-none (a .device) (a .pending) (drop (a .at) (a .states .now)) (a .at) _ (m .match .keys2) went))
 
 pub low-take-spec : {M : Type 1} → statement M
 low-take-spec =

@@ -1,4 +1,4 @@
--- A restore: the four frames of a set through a chain in any phases, then a frame boundary. Each frame goes by `framed-all`; the relation
+-- A restore: the four frames of a set through a chain in any phases. Each frame goes by `framed-all`; the relation
 -- between what is a device's own and its registers grows by one register with each frame. Assumes nothing.
 use mathlib.Core.Path.{_≡_, refl, ap, _∙_}
 use mathlib.Core.Bool.{Bool, true, false}
@@ -15,10 +15,10 @@ use Rattle.parts.specs.declared.command.Command.the-variants.{Individual, Calib
 use Rattle.model.specs.Lists.{Pairwise, howMany}
 use Rattle.machine.specs.Machine.{andThen}
 use Rattle.model.specs.Device.{Values, Registers, Device, at, sliceLength, multiplexed, withIndividual, load, fault, faults, activated}
-use Rattle.model.specs.Device.{frameStates, stepDevice, runChain, boundary, registersIn}
+use Rattle.model.specs.Device.{frameStates, stepDevice, runChain, registersIn}
 use Rattle.model.specs.Set.{Own, OwnProper, sliceOf}
 use Rattle.model.specs.Restore.{Piece, pieceStates, pieceOf, piecesOf, returnsOf, InUse, RegistersHold}
-use Rattle.model.proofs.Lists.{pairwise-map, howMany-le}
+use Rattle.model.proofs.Lists.{howMany-le}
 use Rattle.machine.proofs.Machine.{chain-append, chain-nil, length-chain}
 use Rattle.model.proofs.Wire.{return-states}
 use Rattle.model.proofs.Frame.{loadAll, Fits, passings, framed-all, quiet, quiet-sends}
@@ -198,11 +198,6 @@ module _ (w : Part) (o : Own) (r : Registers) where
       rw (load-individual w o (ready .0) r (ready .1) (configured .1))
       ((h .0, global-own mode (o .individual) (r .waiting) ∙ h .1), in-use-own mode (o .individual) (r .waiting))
 
-pub registers-boundary : (ds : List Device) → registersIn (boundary ds) ≡ map activated (registersIn ds)
-unfolding boundary
-registers-boundary [] = refl
-registers-boundary (d ∷ ds) = rw (registers-boundary ds)
-
 pieces-then : (ds : List Device) (p : Piece) (ps : List Piece) {t u : List Device} {o q : List (List State)}
     → sendPiece ds p ≡ (t, o) → sendPieces t ps ≡ (u, q) → sendPieces ds (p ∷ ps) ≡ (u, o ++ q)
 unfolding sendPieces
@@ -257,10 +252,3 @@ module _ (w : Part) (os : List Own) (edge : Command → Edge) (gap tail : Comman
       let f1 = pieces-then (passings r1) (piece Calibration) (piece Global ∷ piece Individual ∷ []) e2 f2 in
       let e = pieces-then ds (piece Configuration) (piece Calibration ∷ piece Global ∷ piece Individual ∷ []) e1 f1 in
       simp faults-kept at e
-
-  -- Restored: after the four frames, any low clocks and a boundary, for a chain in any phases whose devices have the set's part
-  pub restored : (ds : List Device) (last : List Bool) → 0 < length ds → length (registersIn ds) < 1024 → Pairwise (Ready w) os (registersIn ds)
-      → Pairwise RegistersHold os (registersIn (boundary ((runChain ((sendPieces ds (piecesOf w os edge gap tail)) .0) (lows last)) .0)))
-  restored ds last l h b =
-      rw (registers-boundary, quiet, sent-four ds l h b, registers-passings)
-      (pairwise-map (AllWaiting w) RegistersHold activated (to-holds w) os (afterFour w os (registersIn ds)) (stage4 w os (registersIn ds) b))

@@ -256,14 +256,6 @@ runDevice d ls = run stepDevice d ls
 abbrev pub runChain : List Device → List State → List Device × List State
 runChain ds ls = chain stepDevice ds ls
 
--- a device after a frame boundary
-abbrev pub bounded : Device → Device
-bounded d = at (activated (d .registers)) (d .phase)
-
--- a frame boundary, for the whole chain
-unfoldable pub boundary : List Device → List Device
-boundary ds = map bounded ds
-
 -- a device whose flag of a kind is set, 0 overtemperature and else open LED
 abbrev pub faulted : ℕ → Bool → Device → Device
 faulted kind flag d = at (flagged kind flag (d .registers)) (d .phase)

@@ -1,0 +1,2 @@
+-- Laws of a watchdog within a run.
+pub mod Clocks

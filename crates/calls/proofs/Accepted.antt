@@ -20,6 +20,7 @@ pub record Accepted (ds : List Device) (ss : List ℕ) (room : ℕ) : Type 0 whe
   pub some : 0 < length ds
   pub few : length ds < 1024
   pub enoughRoom : roomFor (length ss) ≤ room
+  pub below : allBelow ss 4 ≡ true
   pub fit : allFit ds ≡ true
 
 pub accepted-run : (ds : List Device) (ss : List ℕ) (room : ℕ) → eqb (runRefusal ds ss room) 0 ≡ true → Accepted ds ss room
@@ -29,4 +30,4 @@ accepted-run ds ss room e =
     let n = and-both (leb 1 (length ds)) (leb (length ds) 1023) (not-false (isCount (length ds)) (c .1 .0)) in
     let l : length ds ≤ 1023 = leb-true (length ds) 1023 (n .1) in
     let f = and-both (allBelow ss 4) (allFit ds) (not-false (allBelow ss 4 && allFit ds) (c .1 .1 .1 .1 .0)) in
-    record { some = leb-true 1 (length ds) (n .0); few = omega (arith, l); enoughRoom = ltb-false room (roomFor (length ss)) (c .1 .1 .1 .0); fit = f .1 }
+    record { some = leb-true 1 (length ds) (n .0); few = omega (arith, l); enoughRoom = ltb-false room (roomFor (length ss)) (c .1 .1 .1 .0); below = f .0; fit = f .1 }

@@ -8,6 +8,7 @@ use lib.ListN.{length, getD, set, replicate}
 use Rattle.bits.specs.Bits.{digit, over}
 use Rattle.parts.specs.Parts.{known, isCount}
 use Rattle.tables.specs.Refusals.{Row, _when_, first, content}
+use Rattle.watch.specs.Watch.{isBit, isLimit}
 use Rattle.device.specs.Step.{freshDevice, faulted}
 use Rattle.tables.specs.Lists.{allBelow}
 use Rattle.device.specs.declared.device.Device.{Device}
@@ -17,23 +18,23 @@ use Rattle.calls.specs.Chain.{through, allKnown, sameParts, allFit, blan
 abbrev pub chainRows : List Device → List Row
 chainRows ds = (1 when not (allKnown ds)) ∷ (2 when not (isCount (length ds))) ∷ (4 when not (sameParts ds)) ∷ []
 
--- ---- make fresh: told the part, it takes the records whatever they hold
+-- ---- make fresh: told the part, the watchdog's bit and its limit, it takes the records whatever they hold
 
 -- when it is refused
-abbrev pub freshTable : ℕ → ℕ → List Row
-freshTable part n = (1 when not (known part)) ∷ (2 when not (isCount n)) ∷ []
+abbrev pub freshTable : ℕ → ℕ → ℕ → ℕ → List Row
+freshTable part bit limit n = (1 when not (known part)) ∷ (2 when not (isCount n)) ∷ (13 when not (isBit bit && isLimit limit)) ∷ []
 
 -- the number, or 0
-unfoldable pub freshRefusal : ℕ → ℕ → ℕ
-freshRefusal part n = first (freshTable part n)
+unfoldable pub freshRefusal : ℕ → ℕ → ℕ → ℕ → ℕ
+freshRefusal part bit limit n = first (freshTable part bit limit n)
 
 -- every record becomes that of a fresh device
-abbrev pub freshDevices : ℕ → List Device → List Device
-freshDevices part ds = replicate (length ds) (freshDevice part)
+abbrev pub freshDevices : ℕ → ℕ → ℕ → List Device → List Device
+freshDevices part bit limit ds = replicate (length ds) (freshDevice part bit limit)
 
 -- the records afterwards
-abbrev pub freshAfter : ℕ → List Device → List Device
-freshAfter part ds = content (freshRefusal part (length ds)) ds (freshDevices part ds)
+abbrev pub freshAfter : ℕ → ℕ → ℕ → List Device → List Device
+freshAfter part bit limit ds = content (freshRefusal part bit limit (length ds)) ds (freshDevices part bit limit ds)
 
 -- ---- run: line states, and room for the states returned
 

@@ -4,18 +4,18 @@ use Prim.Native.Nat.{ℕ}
 use mathlib.Core.Bool.{Bool, true}
 use mathlib.Core.List.{List, [], _∷_}
 use lib.Dec.{eqb}
-use Rattle.machine.specs.Machine.{clocks}
+use Rattle.machine.specs.Machine.{relays}
 use Rattle.parts.specs.Parts.{known}
-use Rattle.device.specs.Step.{tickedDevice, freshDevice}
+use Rattle.device.specs.Step.{freshDevice}
 use Rattle.device.specs.Judgement.{fits}
-use Rattle.device.specs.Run.{stepRecord}
+use Rattle.device.specs.Run.{clockRecord}
 use Rattle.device.specs.declared.device.Device.{Device}
 use Rattle.tables.specs.Lists.{every}
 
--- the devices after line states, one to a clock, and what the last one sent: in each clock every device advances by one, and then the state
--- acts on device 1 and what each device sends on the next
+-- the devices after line states, one to a clock, and what the last one sent: in each clock every device advances by one, the state acts on device
+-- 1 and what each device sends on the next, and every device watches its lines, by what it was sent
 abbrev pub through : List Device → List ℕ → List Device × List ℕ
-through ds ss = clocks stepRecord tickedDevice ds ss
+through ds ss = relays clockRecord ds ss
 
 -- a record is of a part
 abbrev pub hasPart : ℕ → Device → Bool
@@ -36,4 +36,4 @@ allFit ds = every fits ds
 
 -- stands where a list has no device
 abbrev pub blank : Device
-blank = freshDevice 0
+blank = freshDevice 0 0 0

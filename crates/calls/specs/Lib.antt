@@ -1,5 +1,6 @@
--- The plain chain of records, the three calls on it, lists of calls, and what a caller knows by them.
+-- The plain chain of records, the three calls on it, lists of calls, what a caller knows by them, and when watchdogs expire in them.
 pub mod Chain
 pub mod Calls
 pub mod History
 pub mod Told
+pub mod Expiry

@@ -144,23 +144,24 @@ pub all-swept : (number : ℕ) (f : Device → Device) (xs : List Device)
     → sweep f (all-of number xs .from) (turnsOf (all-of number xs)) xs ≡ content number xs (map f xs)
 all-swept number f xs = swept f number 0 (length xs) xs (map f xs) (λ _. whole f xs)
 
-abbrev pub fresh-of : ℕ → List Device → Span
-fresh-of part xs = all-of (freshRefusal part (length xs)) xs
+module _ (part bit limit : ℕ) where
+  abbrev pub fresh-of : List Device → Span
+  fresh-of xs = all-of (freshRefusal part bit limit (length xs)) xs
 
-pub fresh-swept : (part : ℕ) (xs : List Device)
-    → sweep (λ _. freshDevice part) (fresh-of part xs .from) (turnsOf (fresh-of part xs)) xs ≡ freshAfter part xs
-fresh-swept part xs =
-    all-swept (freshRefusal part (length xs)) (λ _. freshDevice part) xs
-    ∙ ap (content (freshRefusal part (length xs)) xs) (replicated (freshDevice part) xs)
+  pub fresh-swept : (xs : List Device)
+      → sweep (λ _. freshDevice part bit limit) (fresh-of xs .from) (turnsOf (fresh-of xs)) xs ≡ freshAfter part bit limit xs
+  fresh-swept xs =
+      all-swept (freshRefusal part bit limit (length xs)) (λ _. freshDevice part bit limit) xs
+      ∙ ap (content (freshRefusal part bit limit (length xs)) xs) (replicated (freshDevice part bit limit) xs)
 
-abbrev pub fresh-change : (part : ℕ) (xs : List Device) → Change xs
-fresh-change part xs = record {
-  span = fresh-of part xs;
-  change = λ _. freshDevice part;
-  last = freshAfter part xs;
-  within = all-within (freshRefusal part (length xs)) xs;
-  swept = fresh-swept part xs;
-}
+  abbrev pub fresh-change : (xs : List Device) → Change xs
+  fresh-change xs = record {
+    span = fresh-of xs;
+    change = λ _. freshDevice part bit limit;
+    last = freshAfter part bit limit xs;
+    within = all-within (freshRefusal part bit limit (length xs)) xs;
+    swept = fresh-swept xs;
+  }
 
 -- every device is brought up to a clock, where the run was accepted
 abbrev pub close-change : (number clock : ℕ) (xs : List Device) → Change xs

@@ -12,15 +12,16 @@ ghost use Rattle.turns.specs.Ending.{byClockDevice};
 use cursor::Ran;
 use device::Device;
 
-// Makes a chain fresh: told the part, it takes the records whatever they hold. The refusal's number, or 0.
+// Makes a chain fresh: told the part, and the bit and the limit of every watchdog, it takes the records whatever they hold. The refusal's
+// number, or 0.
 #[no_mangle]
-pub extern "C" fn bb_fresh(chain: &mut [Device], part: u16) -> u8
-    ensures { λ r. ⌜ (r ≡ freshRefusal part (length (now (chain .entry)))) × (now (chain .exit) ≡ freshAfter part (now (chain .entry))) ⌝ }
+pub extern "C" fn bb_fresh(chain: &mut [Device], part: u16, bit: u8, limit: u32) -> u8
+    ensures { λ r. ⌜ (r ≡ freshRefusal part bit limit (length (now (chain .entry)))) × (now (chain .exit) ≡ freshAfter part bit limit (now (chain .entry))) ⌝ }
 {
-    let span = changes::fresh_span(part, chain.len());
+    let span = changes::fresh_span(part, bit, limit, chain.len());
     let mut i = span.from;
     while i < span.to {
-        chain[i] = Device::fresh(part);
+        chain[i] = Device::fresh(part, bit, limit);
         i += 1;
     }
     span.refusal

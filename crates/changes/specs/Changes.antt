@@ -13,8 +13,8 @@ abbrev pub span : ℕ → ℕ → ℕ → Span
 span refusal from to = record { refusal = refusal; from = cond (eqb refusal 0) from 0; to = cond (eqb refusal 0) to 0 }
 
 -- all records, for a fresh chain
-abbrev pub freshSpan : ℕ → ℕ → Span
-freshSpan part n = span (first (freshTable part n)) 0 n
+abbrev pub freshSpan : ℕ → ℕ → ℕ → ℕ → Span
+freshSpan part bit limit n = span (first (freshTable part bit limit n)) 0 n
 
 -- one device's record, for a fault setting
 abbrev pub faultSpan : Judged → ℕ → ℕ → ℕ → Span

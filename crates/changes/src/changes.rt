@@ -19,10 +19,10 @@ pub struct Span {
 }
 
 // The records that a call for a fresh chain changes.
-pub fn fresh_span(part: u16, n: usize) -> Span
-    ensures { λ r. ⌜ r ≡ freshSpan part n ⌝ }
+pub fn fresh_span(part: u16, bit: u8, limit: u32, n: usize) -> Span
+    ensures { λ r. ⌜ r ≡ freshSpan part bit limit n ⌝ }
 {
-    span_under(fresh_refusal(part, n), 0, n)
+    span_under(fresh_refusal(part, bit, limit, n), 0, n)
 }
 
 // All records, where a call that has a refusal's number is accepted.

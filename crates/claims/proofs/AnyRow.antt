@@ -1,6 +1,6 @@
 -- The claim about any row, from the model's theorems and the laws of light. Assumes nothing.
 use mathlib.Core.Path.{_≡_, refl, subst, _∙_}
-use mathlib.Core.Bool.{Bool}
+use mathlib.Core.Bool.{Bool, false}
 use mathlib.Core.List.{List, _++_, map, flatten, append-nil}
 use Prim.Native.Nat.{ℕ, suc, _+_, _-_, _*_, _^_, _≤_, _<_}
 use native.Mathlib.Nat.{mul-pos}
@@ -10,8 +10,9 @@ use lib.ListN.{length, length-map, length-replicate, take, getD}
 use lib.Pow.{pow-mono}
 use Rattle.parts.specs.Parts.{Part, outputs, multiplex, glb4, subframes, phaseCount}
 use Rattle.tables.proofs.Table.{everyPlace-at}
-use Rattle.parts.specs.Wire.{Edge, lows, clocked}
+use Rattle.parts.specs.Wire.{State, Edge, lows, clocked}
 use Rattle.parts.specs.declared.command.Command.{Command}
+use Rattle.parts.specs.declared.command.Command.the-variants.{Individual}
 use Rattle.parts.proofs.Laws.{usable, usable-row}
 use Rattle.parts.proofs.Frames.{frame-clocks-pos}
 use Rattle.subframes.proofs.Claims.{frame-on, window-lead}
@@ -23,23 +24,29 @@ use Rattle.model.specs.Restore.{piecesOf, piecesStates, statesUntil, returnsOf}
 use Rattle.model.proofs.Lists.{All-replicate}
 use Rattle.model.proofs.Frame.{quiet-sends}
 use Rattle.model.proofs.Restore.{Ready, pieces-sent, sent-four}
-use Rattle.clocked.specs.Clock.{Clocked, registersOf, Placed, Running, runClocked, devicesIn, lastBoundary}
+use Rattle.clocked.specs.Clock.{Clocked, registersOf, Placed, Running, devicesIn, lastBoundary}
 use Rattle.clocked.specs.Cut.{CutClocked}
 use Rattle.clocked.proofs.Erase.{returned}
-use Rattle.clocked.proofs.Restored.{restored}
-use Rattle.clocked.proofs.Cut.{cut}
+use Rattle.watchdog.specs.Watched.{Watched, clocksIn, runWatched, expires, expiredWithin}
+use Rattle.watchdog.specs.Faded.{faded}
+use Rattle.watchdog.proofs.Faint.{returned as watched-returned}
+use Rattle.watchdog.proofs.Restored.{cut-watched, restored-watched}
 use Rattle.claims.specs.Claims.{RowRestores, AnyRow, fourBanks, oneBank, ones}
 
-module _ (p : Part) (os : List Own) (cs : List Clocked) (edge : Command → Edge) (gap tail : Command → List Bool) (last : List Bool)
-    (some : 1 ≤ length cs) (few : length cs ≤ 1023) (running : Running p) (ready : Pairwise (Ready p) os (registersIn (devicesIn cs))) (placed : All Placed cs) where
-  all-returned : (runClocked cs (piecesStates p os edge gap tail ++ lows last)) .1 ≡ flatten (map clocked (returnsOf tail (registersIn (devicesIn cs))))
+module _ (p : Part) (os : List Own) (ws : List Watched) (edge : Command → Edge) (gap tail : Command → List Bool) (last : List Bool)
+    (some : 1 ≤ length ws) (few : length ws ≤ 1023) (running : Running p) (ready : Pairwise (Ready p) os (registersIn (devicesIn (clocksIn ws)))) (placed : All Placed (clocksIn ws)) where
+  abbrev given : List State
+  given = piecesStates p os edge gap tail ++ lows last
+
+  all-returned : (runWatched ws (piecesStates p os edge gap tail ++ lows last)) .1 ≡ flatten (map clocked (returnsOf tail (registersIn (devicesIn (clocksIn ws)))))
   all-returned =
-      let ds : List Device = devicesIn cs in
-      let n : length ds ≡ length cs = length-map cs (λ (c : Clocked). c .device) in
+      let ds : List Device = devicesIn (clocksIn ws) in
+      let n : length ds ≡ length ws = length-map (clocksIn ws) (λ (c : Clocked). c .device) ∙ length-map ws (λ (w : Watched). w .clocked) in
       let m : length (registersIn ds) ≡ length ds = length-map ds (λ (d : Device). d .registers) in
       let one : 1 ≤ length ds = omega (arith, n, some) in
       let then : List Device = (runChain ds (piecesStates p os edge gap tail)) .0 in
-      returned cs (piecesStates p os edge gap tail ++ lows last)
+      watched-returned ws given
+      ∙ returned (clocksIn ws) given
       ∙ rw (
         chain-append stepDevice ds (piecesStates p os edge gap tail) (lows last),
         quiet-sends last then (rw (length-chain stepDevice ds (piecesStates p os edge gap tail)) one),
@@ -48,20 +55,21 @@ module _ (p : Part) (os : List Own) (cs : List Clocked) (edge : Command → Edge
         sent-four p os edge gap tail ds one (omega (arith, n, m, few)) ready,
       )
 
-  all-cut : (k device : ℕ) (o : Own) (z : Clocked) → 1 ≤ device → device ≤ length os → k ≤ length (piecesStates p os edge gap tail ++ lows last)
-      → let after : ℕ → Clocked = λ j. getD ((runClocked cs (take j (piecesStates p os edge gap tail ++ lows last))) .0) (device - 1) z in
-      CutClocked (λ c j. leb (statesUntil p os gap tail c device) j) k (lastBoundary after k) (getD os (device - 1) o) (registersOf (getD cs (device - 1) z))
-      (registersOf (after k))
-  all-cut k device o z one within l =
-      let after : ℕ → Clocked = λ j. getD ((runClocked cs (take j (piecesStates p os edge gap tail ++ lows last))) .0) (device - 1) z in
+  all-cut : (k device : ℕ) (o : Own) (z : Watched) → 1 ≤ device → device ≤ length os → k ≤ length (piecesStates p os edge gap tail ++ lows last)
+      → ((clock : ℕ) → statesUntil p os gap tail Individual device ≤ clock → clock ≤ k → expires ws (piecesStates p os edge gap tail ++ lows last) clock device ≡ false)
+      → let after : ℕ → Clocked = λ j. getD ((runWatched ws (take j (piecesStates p os edge gap tail ++ lows last))) .0) (device - 1) z .clocked in
+      CutClocked (λ c j. leb (statesUntil p os gap tail c device) j) k (lastBoundary after k) (getD os (device - 1) o)
+      (faded (expiredWithin ws (piecesStates p os edge gap tail ++ lows last) k device) (registersOf (getD ws (device - 1) z .clocked))) (registersOf (after k))
+  all-cut k device o z one within l calm =
+      let after : ℕ → Clocked = λ j. getD ((runWatched ws (take j given)) .0) (device - 1) z .clocked in
       let e : suc (device - 1) ≡ device = omega arith in
-      subst (λ (n : ℕ). CutClocked (λ c j. leb (statesUntil p os gap tail c n) j) k (lastBoundary after k) (getD os (device - 1) o) (registersOf (getD cs (device - 1) z))
-      (registersOf (after k))) e
-      (cut p os edge gap tail last cs ready (device - 1) o z (omega arith) k l)
+      subst (λ (n : ℕ). CutClocked (λ c j. leb (statesUntil p os gap tail c n) j) k (lastBoundary after k) (getD os (device - 1) o)
+      (faded (expiredWithin ws given k n) (registersOf (getD ws (device - 1) z .clocked))) (registersOf (after k))) e
+      (cut-watched p os edge gap tail last ws ready k (device - 1) o z (omega arith) l (rw e calm))
 
-  row-restores : RowRestores p os cs edge gap tail last
+  row-restores : RowRestores p os ws edge gap tail last
   row-restores = record {
-    restored = restored p os edge gap tail cs some (omega arith) running ready placed last;
+    restored = λ returns calm. restored-watched p os edge gap tail last ws ready some (omega arith) running placed calm returns;
     returned = all-returned;
     cut = all-cut;
   }

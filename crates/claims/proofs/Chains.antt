@@ -16,10 +16,11 @@ use Rattle.calls.proofs.Accepted.{accepted-run}
 use Rattle.model.proofs.Lists.{All-weaker}
 use Rattle.link.specs.View.{Arrays}
 use Rattle.link.proofs.View.{Sound}
-use Rattle.link.proofs.Device.{agree, keep}
+use Rattle.link.proofs.Device.{agree-watched, keep}
 use Rattle.link.proofs.Calls.{Whole, own-refusal, whole-calls, whole-start, length-afterCalls, length-after}
 use Rattle.link.proofs.Modelled.{call-same}
 use Rattle.link.proofs.Flags.{flag-calls, flag-start}
+use Rattle.link.proofs.Told.{told-calls, told-start}
 use Rattle.turns.proofs.Room.{room-enough}
 use Rattle.parts.specs.Parts.{multiplex}
 use Rattle.lit_now.specs.LitNow.{deviceAt, litNowRefusal, litNow}
@@ -30,7 +31,7 @@ use Rattle.claims.specs.Claims.{start, startPart, StepModelled, CallMode
 pub step-modelled : StepModelled
 step-modelled d s a f =
     let o : Sound d = record { fit = f; arrays = a } in
-    (agree d s o, keep d s o .fit)
+    (agree-watched d s o, keep d s o .fit)
 
 pub call-modelled : CallModelled
 call-modelled = call-same
@@ -42,20 +43,23 @@ room ds ss out e =
     (room-enough ds ss (a .fit), a .enoughRoom)
 
 -- a chain that was made fresh, and what was called since
-pub whole-premises : (p : ℕ) (records : List Device) (earlier : List Call) → refusalOf records (fresh p) ≡ 0 → Whole (startPart p records earlier) (start p records earlier)
+pub whole-premises : (p bit limit : ℕ) (records : List Device) (earlier : List Call) → refusalOf records (fresh p bit limit) ≡ 0
+    → Whole (startPart p bit limit records earlier) (start p bit limit records earlier)
 unfolding afterCalls
-whole-premises p records earlier e = whole-calls p (after records (fresh p)) earlier (whole-start p records e)
+whole-premises p bit limit records earlier e = whole-calls p (after records (fresh p bit limit)) earlier (whole-start p bit limit records e)
 
-pub length-start : (p : ℕ) (records : List Device) (earlier : List Call) → length (start p records earlier) ≡ length records
-length-start p records earlier = length-afterCalls records (fresh p ∷ earlier)
+pub length-start : (p bit limit : ℕ) (records : List Device) (earlier : List Call) → length (start p bit limit records earlier) ≡ length records
+length-start p bit limit records earlier = length-afterCalls records (fresh p bit limit ∷ earlier)
 
 pub kept : Kept
-kept p records earlier c e =
-    let w = whole-premises p records earlier e in
-    let l = length-start p records earlier in
-    let now = start p records earlier in (
+unfolding afterCalls
+kept p bit limit records earlier c e =
+    let w = whole-premises p bit limit records earlier e in
+    let l = length-start p bit limit records earlier in
+    let now = start p bit limit records earlier in (
       l,
       w .onePart,
+      told-calls (bit, limit) (after records (fresh p bit limit)) earlier (told-start p bit limit records e),
       All-weaker Sound (λ d. fits d ≡ true) (λ d o. o .fit) now (w .sound),
       All-weaker Sound Arrays (λ d o. o .arrays) now (w .sound),
       own-refusal _ now c w ∙ ap (λ (n : ℕ). first (ownTable n c)) l,
@@ -63,8 +67,9 @@ kept p records earlier c e =
 
 pub flags : Flags
 unfolding afterCalls
-flags p records earlier device kind e one many small =
-    flag-calls device kind one small (after records (fresh p)) earlier false (rw (length-after records (fresh p)) many) (flag-start p records device kind e)
+flags p bit limit records earlier device kind e one many small =
+    flag-calls device kind one small (after records (fresh p bit limit)) earlier false (rw (length-after records (fresh p bit limit)) many)
+    (flag-start p bit limit records device kind e)
 
 pub lit-mux0 : (ds : List Device) (device output : ℕ) → litNowRefusal ds device output ≡ 0 → multiplex (deviceAt ds device .registers .configuration) ≡ 0
     → litNow ds device output .phase ≡ 0

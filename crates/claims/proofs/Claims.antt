@@ -18,6 +18,7 @@ use Rattle.claims.proofs.Tables.{accepted-exactly}
 use Rattle.claims.proofs.Chains as chains
 use Rattle.claims.proofs.Edges as edges
 use Rattle.claims.proofs.Demand as demand
+use Rattle.claims.proofs.Watchdogs.{watchdogs-hold}
 use Rattle.claims.proofs.Compared as compared
 use Rattle.claims.proofs.RestoredSame.{restored-same}
 use Rattle.claims.proofs.Scheduled.{sum-over-schedule}
@@ -26,6 +27,7 @@ use Rattle.claims.proofs.AnyRow.{any-row}
 use Rattle.claims.proofs.Examples.{examples-hold}
 use Rattle.claims.proofs.EdgeExamples.{edge-examples-hold}
 use Rattle.claims.proofs.ClockExamples.{clock-examples-hold}
+use Rattle.claims.proofs.WatchExamples.{watch-examples-hold}
 
 pub acceptedExactly : claim.AcceptedExactly
 acceptedExactly = accepted-exactly
@@ -57,6 +59,12 @@ sentOn = edges.sent-on
 pub demandThree : claim.DemandThree
 demandThree = demand.demand-three
 
+pub demandThreeExpired : claim.DemandThreeExpired
+demandThreeExpired = demand.demand-three-expired
+
+pub demandThreeEach : claim.DemandThreeEach
+demandThreeEach = demand.demand-three-each
+
 pub counted : claim.Counted
 counted = demand.counted
 
@@ -65,6 +73,9 @@ restorable = demand.restorable
 
 pub longestWait : claim.LongestWait
 longestWait = demand.longest-wait
+
+pub watchdogs : claim.Watchdogs
+watchdogs = watchdogs-hold
 
 pub room : claim.Room
 room = chains.room
@@ -130,3 +141,6 @@ edgeExamplesHold = edge-examples-hold
 
 pub clockExamplesHold : claim.ClockExamplesHold
 clockExamplesHold = clock-examples-hold
+
+pub watchExamplesHold : claim.WatchExamplesHold
+watchExamplesHold = watch-examples-hold

@@ -16,9 +16,10 @@ use Rattle.parts.specs.Wire.{commandCount, header, frame, clockedAt}
 use Rattle.frames.specs.Frames.{frameBits, frameOf}
 use Rattle.frame_writer.specs.Writing.{writeRefusal, written, writtenOut}
 use Rattle.frame_reader.specs.Reading.{heldFields, readRefusal}
-use Rattle.machine.specs.Machine.{run, chain, clock}
+use Rattle.machine.specs.Machine.{run, relay, relayOne}
+use Rattle.watch.specs.Watch.{lastOf, moved, watching, expired}
 use Rattle.positions.specs.Positions.{ticked}
-use Rattle.device.specs.Run.{stepRecord}
+use Rattle.device.specs.Run.{stepRecord, watched, clockRecord}
 use Rattle.subframes.specs.Subframes.{howManyFrom}
 use Rattle.subframes.specs.Answers.{onAnswer, leadAnswer}
 use Rattle.subframes.specs.declared.answer.Asked.the-variants.{Is}
@@ -91,7 +92,7 @@ currents = (
 -- of the 16-output parts, l to s, and what follows
 sixteen : Each (drop 11 examples)
 unfolding bits number fields split padded bytesOf over commandCount header frame clockedAt frameBits frameOf
-    writeRefusal written writtenOut heldFields readRefusal threeStates chain run clock ticked stepRecord howManyFrom onAnswer leadAnswer positionOver
+    writeRefusal written writtenOut heldFields readRefusal threeStates relay relayOne run lastOf moved watching expired watched clockRecord ticked stepRecord howManyFrom onAnswer leadAnswer positionOver
 sixteen = (
   ((refl, refl, refl), tt),
   (
@@ -123,7 +124,7 @@ sixteen = (
 
 pub examples-hold : Each examples
 unfolding bits number fields split padded bytesOf over commandCount header frame clockedAt frameBits frameOf
-    writeRefusal written writtenOut heldFields readRefusal threeStates chain run clock ticked stepRecord howManyFrom onAnswer leadAnswer
+    writeRefusal written writtenOut heldFields readRefusal threeStates relay relayOne run lastOf moved watching expired watched clockRecord ticked stepRecord howManyFrom onAnswer leadAnswer
 examples-hold = (
   ((refl, refl, refl), tt),
   (

@@ -4,6 +4,7 @@ pub mod Sent
 pub mod Chains
 pub mod Edges
 pub mod Demand
+pub mod Watchdogs
 pub mod Compared
 pub mod RestoredSame
 pub mod Scheduled
@@ -12,4 +13,5 @@ pub mod AnyRow
 pub mod Examples
 pub mod EdgeExamples
 pub mod ClockExamples
+pub mod WatchExamples
 pub mod Claims

@@ -57,10 +57,10 @@ accepts s tail ds w h l =
     )
 
 pub restored-same : RestoredSame
-restored-same p records earlier during later s edge gap tail last b e r t =
-    let ds : List Device = start p records earlier in
+restored-same p bit limit records earlier during later s edge gap tail last b e r t c =
+    let ds : List Device = start p bit limit records earlier in
     let now : List Device = afterCalls ds (during ++ later) in
     let w = whole-runs (s .part) ds during (whole b) (b .runs) in
     let v = whole-settles (s .part) (afterCalls ds during) later w r in
     holds-same s now (accepts s tail now (b .writable) (subst (Whole (s .part)) (sym (calls-append ds during later)) v) (devices b ∙ sym (length-afterCalls ds (during ++ later))))
-    (held b edge gap last e later r t)
+    (held b edge gap last e later r t c)

@@ -149,18 +149,18 @@ packs-states states out =
 
 table-refusal : (ds : List Device) (c : Call) → refusalOf ds c ≡ first (tableOf ds c)
 unfolding refusalOf freshRefusal runRefusal faultRefusal
-table-refusal ds (fresh part) = refl
+table-refusal ds (fresh part bit limit) = refl
 table-refusal ds (run ss out) = refl
 table-refusal ds (fault device kind flag) = refl
 
 -- the numbers of each table rise
 table-rises : (ds : List Device) (c : Call) → rows.above 0 (tableOf ds c) ≡ true
-table-rises ds (fresh part) = refl
+table-rises ds (fresh part bit limit) = refl
 table-rises ds (run ss out) = refl
 table-rises ds (fault device kind flag) = refl
 
 table-numbered : (ds : List Device) (c : Call) → rows.numbered (tableOf ds c) ≡ true
-table-numbered ds (fresh part) = refl
+table-numbered ds (fresh part bit limit) = refl
 table-numbered ds (run ss out) = refl
 table-numbered ds (fault device kind flag) = refl
 

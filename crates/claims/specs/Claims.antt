@@ -16,7 +16,7 @@ use Rattle.parts.specs.Parts.{Part, max6972, max6973, max6974, max6975, multipl
 use Rattle.tables.specs.Refusals.{first}
 use Rattle.parts.specs.Wire.{State, high, Edge, edgeAt, stateAt, stateCode, statesAt, statesOf, lows, clocked, header, frame}
 use Rattle.parts.specs.declared.command.Command.{Command}
-use Rattle.parts.specs.declared.command.Command.the-variants.{Individual}
+use Rattle.parts.specs.declared.command.Command.the-variants.{Individual, Configuration}
 use Rattle.serial.specs.States.{dataBits, frameStates, frameRows, clockedAnswer, clockedOut, stateRows, dataBytesAnswer, dataBytesOut}
 use Rattle.serial.specs.declared.states.Converted.the-variants as L
 use Rattle.frames.specs.Frames.{toldOf, fieldCount, tailBits, frameOf}
@@ -31,6 +31,7 @@ use Rattle.return_reader.specs.declared.answer.ReturnRead.the-variants as R
 use Rattle.frame_laws.specs.RoundTrip.{ReadBack, WrittenAgain, byteRead, bytesRead, valuesRead}
 use Rattle.phases.specs.Phases.{phaseOf, windowOf}
 use Rattle.positions.specs.Positions.{lengthIn}
+use Rattle.watch.specs.Watch.{enabled}
 use Rattle.device.specs.Step.{singleStep, sliceLength}
 use Rattle.device.specs.Judgement.{fits, judgement, stepRefusals, acceptedStep, refusedWith, stepAnswer}
 use Rattle.device.specs.declared.device.Device.{Device}
@@ -38,19 +39,24 @@ use Rattle.device.specs.declared.device.Answer.{Answer}
 use Rattle.calls.specs.Chain.{blank}
 use Rattle.calls.specs.Calls.{roomFor, runDevices, returned, runTable, runRoom}
 use Rattle.calls.specs.History.{Call, fresh, run, tableOf, refusalOf, effect, after, afterCalls, statesGiven, answered, answers, Runs, Settles}
-use Rattle.calls.specs.Told.{partTold, flagIn, flagTold, ownTable}
+use Rattle.calls.specs.Told.{partTold, watchTold, flagIn, flagTold, ownTable}
+use Rattle.calls.specs.Expiry.{expires, expiredWithin, CalmCalls, Calm}
 use Rattle.model.specs.Lists.{All, Pairwise}
 use Rattle.model.specs.Device.{faults, fault, counted, begun, registersIn}
 use Rattle.model.specs.Edge.{lowRun, RisesAs}
 use Rattle.model.specs.Device as model
 use Rattle.model.specs.Set.{Set, Own, OwnProper, owned}
 use Rattle.model.specs.Restore.{piecesStates, statesUntil, returnsOf, RegistersHold}
-use Rattle.clocked.specs.Clock.{Clocked, Placed, Running, stepClocked, runClocked, devicesIn, lastBoundary}
+use Rattle.clocked.specs.Clock.{Clocked, Placed, Running, runClocked, devicesIn, lastBoundary}
 use Rattle.clocked.specs.Clock as clock
 use Rattle.clocked.specs.Cut.{CutClocked}
+use Rattle.watchdog.specs.Watched.{Watched, clocksIn, stepWatched, runWatched}
+use Rattle.watchdog.specs.Watched as watchdog
+use Rattle.watchdog.specs.Faded.{faded, faint}
+use Rattle.watchdog.specs.Still.{Stopped, sentBy}
 use Rattle.device.specs.Run.{stepRecord}
 use Rattle.device.specs.Run as stepping
-use Rattle.link.specs.View.{deviceOf, clockedOf, registersOf, Arrays, registersAt, registersAll, Holds}
+use Rattle.link.specs.View.{deviceOf, clockedOf, watchedOf, registersOf, Arrays, registersAt, registersAll, Holds}
 use Rattle.link.specs.Called.{called}
 use Rattle.link.specs.Restore.{Writable, framePart, restorePart, restoreStates, restoreThen, gapAfter, tailsOf, arrival}
 use Rattle.cursor.specs.Answer.{ran, runAnswer}
@@ -83,7 +89,7 @@ use Rattle.answers.specs.declared.answer.Answer.{Answer as RowAnswer}
 use Rattle.capi_bits.specs.PartAnswers.{partRows, ofPart}
 use Rattle.capi_frames.specs.FrameAnswers.{returnReadNumber}
 use Rattle.claims.specs.Tables.{Exactly, Answers, Leaves, convertedNumber, writtenNumber, readNumber, askedNumber, leadNumber, clocksNumber, argumentsNumber}
-use Rattle.claims.specs.Examples.{Each, examples, edgeExamples, clockExamples}
+use Rattle.claims.specs.Examples.{Each, examples, edgeExamples, clockExamples, watchExamples}
 
 -- each is a byte
 abbrev pub Bytes : List ℕ → Type 0
@@ -208,8 +214,8 @@ pub record InGroups : Type 0 where
       → frameOf (toldOf part devices Individual configuration) tail values
       ≡ bytesOf (header Individual 0) ++ (groupBytes (partOf part .width) (inGroups (partOf part .width) values) ++ bytesOf (tailBits tail))
 
--- ---- demand 2: registers. The device that reads like docs/RULES.md is model/specs/Device, its clock clocked/specs/Clock; a record is seen as one
--- by link/specs/View
+-- ---- demand 2: registers. The device that reads like docs/RULES.md is model/specs/Device, its clock clocked/specs/Clock, its watchdog
+-- watch/specs/Watch and watchdog/specs/Watched; a record is seen as one by link/specs/View
 
 -- one line state: a record that fits takes the single step as the model's device does, and still fits
 abbrev pub StepModelled : Type 0
@@ -217,16 +223,16 @@ StepModelled =
     (d : Device) (s : ℕ)
     → Arrays d
     → fits d ≡ true
-    → ((clockedOf ((stepRecord d s) .0), map stateAt ((stepRecord d s) .1)) ≡ stepClocked (clockedOf d) (stateAt s)) × (fits ((stepRecord d s) .0) ≡ true)
+    → ((watchedOf ((stepRecord d s) .0), map stateAt ((stepRecord d s) .1)) ≡ stepWatched (watchedOf d) (stateAt s)) × (fits ((stepRecord d s) .0) ≡ true)
 
--- a call: an accepted fresh, run or fault setting does to the records what it does to the model's devices and their clocks, and a run returns
--- the same
+-- a call: an accepted fresh, run or fault setting does to the records what it does to the model's devices, their clocks and their watchdogs, and
+-- a run returns the same
 abbrev pub CallModelled : Type 0
 CallModelled =
     (ds : List Device) (c : Call)
     → All Arrays ds
     → refusalOf ds c ≡ 0
-    → _≡_ {A = List Clocked × List State} (map clockedOf (after ds c), map stateAt (answered ds c)) (called (map clockedOf ds) c)
+    → _≡_ {A = List Watched × List State} (map watchedOf (after ds c), map stateAt (answered ds c)) (called (map watchedOf ds) c)
 
 -- a frame is 524,288 clocks, or 131,072 where GLB4 is set on a 6973 or a 6975
 pub record FrameLength : Type 0 where
@@ -289,13 +295,13 @@ SentOn =
 
 -- ---- demand 3
 
--- any records, told to be a part's and made fresh, and any calls after that
-abbrev pub start : ℕ → List Device → List Call → List Device
-start p records earlier = afterCalls records (fresh p ∷ earlier)
+-- any records, told to be a part's and a watchdog's bit and limit, made fresh, and any calls after that
+abbrev pub start : ℕ → ℕ → ℕ → List Device → List Call → List Device
+start p bit limit records earlier = afterCalls records (fresh p bit limit ∷ earlier)
 
 -- the part told to the last accepted fresh of them
-abbrev pub startPart : ℕ → List Device → List Call → ℕ
-startPart p records earlier = partTold (after records (fresh p)) p earlier
+abbrev pub startPart : ℕ → ℕ → ℕ → List Device → List Call → ℕ
+startPart p bit limit records earlier = partTold (after records (fresh p bit limit)) p earlier
 
 -- a device's position next returns to 0 within n clocks
 abbrev pub ReturnsWithin : ℕ → Device → Type 0
@@ -306,92 +312,154 @@ abbrev pub Waited : List Device → List ℕ → List Call → Type 0
 Waited now restore calls = All (ReturnsWithin (length (statesGiven now calls) - length restore)) (runDevices now restore)
 
 -- the fresh was accepted; then a set for as many devices and the part told last, which the writer accepts, and the calls of a restore
-pub record RestorePremises (p : ℕ) (records : List Device) (earlier during : List Call) (s : Set) (tail : Command → Tail) : Type 0 where
-  pub accepted : refusalOf records (fresh p) ≡ 0
+pub record RestorePremises (p bit limit : ℕ) (records : List Device) (earlier during : List Call) (s : Set) (tail : Command → Tail) : Type 0 where
+  pub accepted : refusalOf records (fresh p bit limit) ≡ 0
   pub writable : Writable s tail
   pub devices : s .devices ≡ length records
-  pub part : s .part ≡ startPart p records earlier
+  pub part : s .part ≡ startPart p bit limit records earlier
   -- until the fourth frame ends no fault flag changes
-  pub runs : Runs (start p records earlier) during
+  pub runs : Runs (start p bit limit records earlier) during
 
--- what holds of a chain `now`, as it stood before the restore, once the calls `during` gave the first k states of the set's restore
-pub record Outcome (now : List Device) (during : List Call) (s : Set) (edge : Command → Edge) (gap : Command → List Bool) (tail : Command → Tail)
-    (last : List Bool) (k : ℕ) : Type 0 where
-  -- all four frames were given; then fault settings, runs of low states and calls that change nothing, until each position has returned to 0:
-  -- each device's registers in use hold the values of its own slices
+-- what holds of a chain `now`, as it stood before the restore, once the calls `during` gave the first k states of the set's restore. Each device may
+-- expire before the clock `from` of the restore, and `before` says what then stands for its old registers: those that it had, by whether it has
+-- expired in the restore
+pub record Outcome (from : ℕ → ℕ) (before : Bool → model.Registers → model.Registers) (now : List Device) (during : List Call) (s : Set)
+    (edge : Command → Edge) (gap : Command → List Bool) (tail : Command → Tail) (last : List Bool) (k : ℕ) : Type 0 where
+  -- all four frames were given; then fault settings, runs of low states and calls that change nothing, until each position has returned to 0; to the
+  -- end of the last of these clocks no device expires from its clock on: each device's registers in use hold the values of its own slices
   pub restored :
       length (restoreStates s edge gap tail) ≤ k
       → (later : List Call)
       → Settles (afterCalls now during) later
       → Waited now (restoreStates s edge gap tail) (during ++ later)
+      → CalmCalls from now (during ++ later)
       → Pairwise Holds (owned s) (afterCalls now (during ++ later))
   -- j frames were given, and of what follows them at most the clocks at low load: the runs wrote the first j returns, with the exact edge, and
-  -- nothing else
+  -- nothing else, whatever expires
   pub returned :
       (j : ℕ)
       → length (restorePart s edge gap tail j) ≤ k
       → k ≤ length (restorePart s edge gap tail j) + length (gapAfter gap last j)
       → answers now during ≡ flatten (map statesOf (take j (returnsOf (tailsOf tail) (registersAll now))))
-  -- in each device, 1 to N, each group is new exactly where its slice had fully arrived; what is active is what waited at the device's last
-  -- boundary in the restore, or the old active values where none fell
+  -- up to the cut no device expires from its clock on: in each device, 1 to N, each group is new exactly where its slice had fully arrived; what is
+  -- active is what waited at the device's last boundary in the restore, or the old active values where none fell
   pub cut :
       (device : ℕ) (o : Own)
       → 1 ≤ device
       → device ≤ s .devices
       → k ≤ length (restoreThen s edge gap tail last)
+      → CalmCalls from now during
       → let after : ℕ → Clocked = λ j. clockedOf (getD (runDevices now (take j (restoreThen s edge gap tail last))) (device - 1) blank) in
-      CutClocked (λ c j. leb (arrival s gap tail c device) j) k (lastBoundary after k) (getD (owned s) (device - 1) o) (registersAt now device)
-      (registersAt (afterCalls now during) device)
+      CutClocked (λ c j. leb (arrival s gap tail c device) j) k (lastBoundary after k) (getD (owned s) (device - 1) o)
+      (before (expiredWithin now (restoreThen s edge gap tail last) k device) (registersAt now device)) (registersAt (afterCalls now during) device)
 
 -- any records made fresh, any calls, then the calls of a restore, whose runs gave the first k states of it, for any k and any edge of each frame
-abbrev pub DemandThree : Type 0
-DemandThree =
-    (p : ℕ) (records : List Device) (earlier during : List Call) (s : Set) (edge : Command → Edge) (gap : Command → List Bool) (tail : Command → Tail)
+abbrev pub Restores : (Set → (Command → Edge) → (Command → List Bool) → (Command → Tail) → ℕ → ℕ) → (Bool → model.Registers → model.Registers) → Type 0
+Restores from before =
+    (p bit limit : ℕ) (records : List Device) (earlier during : List Call) (s : Set) (edge : Command → Edge) (gap : Command → List Bool) (tail : Command → Tail)
     (last : List Bool) (k : ℕ)
-    → RestorePremises p records earlier during s tail
-    → statesGiven (start p records earlier) during ≡ take k (restoreThen s edge gap tail last)
-    → Outcome (start p records earlier) during s edge gap tail last k
+    → RestorePremises p bit limit records earlier during s tail
+    → statesGiven (start p bit limit records earlier) during ≡ take k (restoreThen s edge gap tail last)
+    → Outcome (from s edge gap tail) before (start p bit limit records earlier) during s edge gap tail last k
+
+-- demand 3: no watchdog expires from the restore's first clock to the end, and what is not new is old
+abbrev pub DemandThree : Type 0
+DemandThree = Restores (λ s edge gap tail device. 1) (λ expired old. old)
+
+-- request Five, the second claim: watchdogs may expire up to the last clock of the configuration frame, the clocks before it and its tail included,
+-- and none expires after it to the end. The end and the returns are as they are, and the cut too, save that an individual group is wholly 0 in
+-- place of old once its device has expired in the restore
+abbrev pub DemandThreeExpired : Type 0
+DemandThreeExpired = Restores (λ s edge gap tail device. length (framePart s edge gap tail Configuration) + 1) faded
+
+-- both follow from this: each device may expire in any clock before that of its own individual slice's last bit
+abbrev pub DemandThreeEach : Type 0
+DemandThreeEach = Restores (λ s edge gap tail device. arrival s gap tail Individual device) faded
 
 -- what the runs write while the frame after the first j comes in, packed, is what the return reader accepts: it gives the number of flags up
 abbrev pub Counted : Type 0
 Counted =
-    (p : ℕ) (records : List Device) (earlier former during : List Call) (s : Set) (edge : Command → Edge) (gap : Command → List Bool) (tail : Command → Tail)
+    (p bit limit : ℕ) (records : List Device) (earlier former during : List Call) (s : Set) (edge : Command → Edge) (gap : Command → List Bool) (tail : Command → Tail)
     (last : List Bool) (j : ℕ)
-    → RestorePremises p records earlier (former ++ during) s tail
+    → RestorePremises p bit limit records earlier (former ++ during) s tail
     → j < 4
     → let c : Command = getD restoreOrder j Individual in
-    let now : List Device = afterCalls (start p records earlier) former in
-    statesGiven (start p records earlier) former ≡ restorePart s edge gap tail j
+    let now : List Device = afterCalls (start p bit limit records earlier) former in
+    statesGiven (start p bit limit records earlier) former ≡ restorePart s edge gap tail j
     → statesGiven now during ≡ framePart s edge gap tail c ++ map stateCode (lows last)
-    → returns.returnRead (s .part) (s .devices) c (tail c) (bytesOf (dataBits (answers now during))) ≡ R.Count (faults c (registersAll (start p records earlier)))
+    → returns.returnRead (s .part) (s .devices) c (tail c) (bytesOf (dataBits (answers now during))) ≡ R.Count (faults c (registersAll (start p bit limit records earlier)))
+
+-- the enabling bit of a device's watchdog is clear in a configuration
+abbrev pub Clear : ℕ → Device → Type 0
+Clear configuration d = enabled (d .registers .watch) configuration ≡ false
+
+-- each count of a device and n clocks more are below its limit
+abbrev pub Short : ℕ → Device → Type 0
+Short n d = (d .registers .watch .din .still + n < d .registers .watch .limit) × (d .registers .watch .loadi .still + n < d .registers .watch .limit)
+
+-- of a chain `now`: one run of the restore of a set, and one of low states
+pub record RestoredBy (p bit limit : ℕ) (records : List Device) (earlier : List Call) (s : Set) (edge : Command → Edge) (gap : Command → List Bool) (tail : Command → Tail)
+    (last : List Bool) (now : List Device) (restore wait : Call) : Type 0 where
+  pub restoreAccepted : refusalOf now restore ≡ 0
+  pub waitAccepted : refusalOf (afterCalls now (restore ∷ [])) wait ≡ 0
+  pub premises : RestorePremises p bit limit records earlier (restore ∷ []) s tail
+  pub given : statesGiven now (restore ∷ []) ≡ restoreThen s edge gap tail []
+  pub settles : Settles (afterCalls now (restore ∷ [])) (wait ∷ [])
+  pub waited : Waited now (restoreStates s edge gap tail) (restore ∷ wait ∷ [])
+  pub restored : CalmCalls (λ device. arrival s gap tail Individual device) now (restore ∷ wait ∷ []) → Pairwise Holds (owned s) (afterCalls now (restore ∷ wait ∷ []))
+  -- a set that clears the enabling bits: none expires after the configuration frame; in a chain in which they are clear, none at all
+  pub cleared : All (Clear (s .configuration)) now → CalmCalls (λ device. length (framePart s edge gap tail Configuration) + 1) now (restore ∷ wait ∷ [])
+  pub clear : All (Clear (s .configuration)) now → All (λ d. Clear (d .registers .configuration) d) now → Calm now (restore ∷ wait ∷ [])
+  -- watchdogs whose limits are longer than the two runs: none at all, enabled or not
+  pub short : All (Short (length (restoreThen s edge gap tail last))) now → Calm now (restore ∷ wait ∷ [])
 
 -- nothing above is empty: whatever was called since an accepted fresh, one run of the restore of any set for the chain and one of 524,288 low
--- states are accepted, meet the premises above, and restore the set
+-- states are accepted, meet the premises above, and restore the set; the premises on expiries are met by clear bits, and by long limits
 abbrev pub Restorable : Type 0
 Restorable =
-    (p : ℕ) (records : List Device) (earlier : List Call) (s : Set) (edge : Command → Edge) (gap : Command → List Bool) (tail : Command → Tail) (last : List Bool)
+    (p bit limit : ℕ) (records : List Device) (earlier : List Call) (s : Set) (edge : Command → Edge) (gap : Command → List Bool) (tail : Command → Tail) (last : List Bool)
     (out room : List ℕ)
-    → refusalOf records (fresh p) ≡ 0
+    → refusalOf records (fresh p bit limit) ≡ 0
     → Writable s tail
     → s .devices ≡ length records
-    → s .part ≡ startPart p records earlier
+    → s .part ≡ startPart p bit limit records earlier
     → roomFor (length (restoreStates s edge gap tail)) ≤ length out
     → length last ≡ 524288
     → roomFor 524288 ≤ length room
-    → let now : List Device = start p records earlier in
-    let restore : Call = run (restoreStates s edge gap tail) out in
-    let wait : Call = run (map stateCode (lows last)) room in
-    (refusalOf now restore ≡ 0)
-    × (refusalOf (afterCalls now (restore ∷ [])) wait ≡ 0)
-    × RestorePremises p records earlier (restore ∷ []) s tail
-    × (statesGiven now (restore ∷ []) ≡ restoreThen s edge gap tail [])
-    × Settles (afterCalls now (restore ∷ [])) (wait ∷ [])
-    × Waited now (restoreStates s edge gap tail) (restore ∷ wait ∷ [])
-    × Pairwise Holds (owned s) (afterCalls now (restore ∷ wait ∷ []))
+    → RestoredBy p bit limit records earlier s edge gap tail last (start p bit limit records earlier) (run (restoreStates s edge gap tail) out)
+    (run (map stateCode (lows last)) room)
 
 -- no wait is longer: whatever a device holds, its position returns to 0 within 524,288 clocks
 abbrev pub LongestWait : Type 0
 LongestWait = (d : Device) → ReturnsWithin 524288 d
+
+-- ---- the watchdog
+
+-- of any lent records, in an accepted run of states
+pub record Watchdogs : Type 0 where
+  -- where each enabling bit is clear at the end of each clock, every device but for its watchdog is as without one, and the returns too
+  pub clear :
+      (ds : List Device) (ss out : List ℕ)
+      → All Arrays ds
+      → refusalOf ds (run ss out) ≡ 0
+      → ((clock : ℕ) → 1 ≤ clock → clock ≤ length ss → All (λ d. Clear (d .registers .configuration) d) (runDevices ds (take clock ss)))
+      → _≡_ {A = List Clocked × List State} (map clockedOf (runDevices ds ss), map stateAt (returned ds ss)) (runClocked (map clockedOf ds) (map stateAt ss))
+  -- whatever expires: but for individual values every device is as without a watchdog, and the returns too
+  pub expiry :
+      (ds : List Device) (ss out : List ℕ)
+      → All Arrays ds
+      → refusalOf ds (run ss out) ≡ 0
+      → (map faint (map clockedOf (runDevices ds ss)) ≡ map faint ((runClocked (map clockedOf ds) (map stateAt ss)) .0))
+      × (map stateAt (returned ds ss) ≡ (runClocked (map clockedOf ds) (map stateAt ss)) .1)
+  -- device 1, 2, .. expires only where one of its two lines has not changed for as many clocks as its limit, by what it was sent in them
+  pub stopped :
+      (ds : List Device) (ss out : List ℕ) (clock device : ℕ)
+      → All Arrays ds
+      → refusalOf ds (run ss out) ≡ 0
+      → 1 ≤ device
+      → device ≤ length ds
+      → expires ds ss clock device ≡ true
+      → Stopped (watchedOf (getD ds (device - 1) blank)) (sentBy (take (device - 1) (map watchedOf ds)) (take clock (map stateAt ss)))
 
 -- ---- the calls themselves
 
@@ -402,15 +470,16 @@ Room =
     → refusalOf ds (run ss out) ≡ 0
     → (length (returned ds ss) ≤ roomFor (length ss)) × (roomFor (length ss) ≤ length out)
 
--- after an accepted fresh and any calls, there are as many records, each of the part told last, each fits and has arrays of the lengths of
--- their types, and no call is refused for them
+-- after an accepted fresh and any calls, there are as many records, each of the part told last and with the watchdog's bit and limit told last, each
+-- fits and has arrays of the lengths of their types, and no call is refused for them
 abbrev pub Kept : Type 0
 Kept =
-    (p : ℕ) (records : List Device) (earlier : List Call) (c : Call)
-    → refusalOf records (fresh p) ≡ 0
-    → let now : List Device = start p records earlier in
+    (p bit limit : ℕ) (records : List Device) (earlier : List Call) (c : Call)
+    → refusalOf records (fresh p bit limit) ≡ 0
+    → let now : List Device = start p bit limit records earlier in
     (length now ≡ length records)
-    × All (λ d. d .registers .part ≡ startPart p records earlier) now
+    × All (λ d. d .registers .part ≡ startPart p bit limit records earlier) now
+    × All (λ d. (d .registers .watch .bit, d .registers .watch .limit) ≡ watchTold (after records (fresh p bit limit)) (bit, limit) earlier) now
     × All (λ d. fits d ≡ true) now
     × All Arrays now
     × (refusalOf now c ≡ first (ownTable (length records) c))
@@ -419,12 +488,12 @@ Kept =
 -- accepted fresh gave, and 0 where there was none
 abbrev pub Flags : Type 0
 Flags =
-    (p : ℕ) (records : List Device) (earlier : List Call) (device kind : ℕ)
-    → refusalOf records (fresh p) ≡ 0
+    (p bit limit : ℕ) (records : List Device) (earlier : List Call) (device kind : ℕ)
+    → refusalOf records (fresh p bit limit) ≡ 0
     → 1 ≤ device
     → device ≤ length records
     → kind < 2
-    → flagIn (getD (start p records earlier) (device - 1) blank .registers) kind ≡ digit (flagTold (after records (fresh p)) device kind false earlier)
+    → flagIn (getD (start p bit limit records earlier) (device - 1) blank .registers) kind ≡ digit (flagTold (after records (fresh p bit limit)) device kind false earlier)
 
 -- ---- is it running?
 
@@ -444,17 +513,19 @@ HoldsSame =
     → Pairwise Holds (owned s) ds
     → comparison s ds ≡ same
 
--- after a restore, and whatever settles until each position has returned to 0: a comparison of that set and that chain is not refused, and says
--- same
+-- after a restore, and whatever settles until each position has returned to 0, where no device expires from the clock of its individual slice on:
+-- a comparison of that set and that chain is not refused, and says same
 abbrev pub RestoredSame : Type 0
 RestoredSame =
-    (p : ℕ) (records : List Device) (earlier during later : List Call) (s : Set) (edge : Command → Edge) (gap : Command → List Bool) (tail : Command → Tail)
+    (p bit limit : ℕ) (records : List Device) (earlier during later : List Call) (s : Set) (edge : Command → Edge) (gap : Command → List Bool) (tail : Command → Tail)
     (last : List Bool)
-    → RestorePremises p records earlier during s tail
-    → statesGiven (start p records earlier) during ≡ restoreThen s edge gap tail last
-    → Settles (afterCalls (start p records earlier) during) later
-    → Waited (start p records earlier) (restoreStates s edge gap tail) (during ++ later)
-    → comparison s (afterCalls (start p records earlier) (during ++ later)) ≡ same
+    → RestorePremises p bit limit records earlier during s tail
+    → let now : List Device = start p bit limit records earlier in
+    statesGiven now during ≡ restoreThen s edge gap tail last
+    → Settles (afterCalls now during) later
+    → Waited now (restoreStates s edge gap tail) (during ++ later)
+    → CalmCalls (λ device. arrival s gap tail Individual device) now (during ++ later)
+    → comparison s (afterCalls now (during ++ later)) ≡ same
 
 -- neither refused nor same: the first difference
 abbrev pub Named : Type 0
@@ -580,20 +651,23 @@ pub record Largest : Type 0 where
 
 -- ---- any row: nothing above is said of a number of banks or a width
 
--- what a restore does to devices of the model that have the row p, in any phases, with any registers and at any positions, where os is each
--- device's own
-pub record RowRestores (p : Part) (os : List Own) (cs : List Clocked) (edge : Command → Edge) (gap tail : Command → List Bool) (last : List Bool) : Type 0 where
+-- what a restore does to devices of the model that have the row p, in any phases, with any registers and watchdogs and at any positions, where os is
+-- each device's own, and each expires in no clock from that of its individual slice on
+pub record RowRestores (p : Part) (os : List Own) (ws : List Watched) (edge : Command → Edge) (gap tail : Command → List Bool) (last : List Bool) : Type 0 where
   pub restored :
-      All (clock.ReturnsWithin (length last)) ((runClocked cs (piecesStates p os edge gap tail)) .0)
-      → Pairwise RegistersHold os (registersIn (devicesIn ((runClocked cs (piecesStates p os edge gap tail ++ lows last)) .0)))
-  pub returned : (runClocked cs (piecesStates p os edge gap tail ++ lows last)) .1 ≡ flatten (map clocked (returnsOf tail (registersIn (devicesIn cs))))
+      All (clock.ReturnsWithin (length last)) (clocksIn ((runWatched ws (piecesStates p os edge gap tail)) .0))
+      → watchdog.CalmFrom (statesUntil p os gap tail Individual) ws (piecesStates p os edge gap tail ++ lows last)
+      → Pairwise RegistersHold os (registersIn (devicesIn (clocksIn ((runWatched ws (piecesStates p os edge gap tail ++ lows last)) .0))))
+  pub returned : (runWatched ws (piecesStates p os edge gap tail ++ lows last)) .1 ≡ flatten (map clocked (returnsOf tail (registersIn (devicesIn (clocksIn ws)))))
   pub cut :
-      (k device : ℕ) (o : Own) (z : Clocked)
+      (k device : ℕ) (o : Own) (z : Watched)
       → 1 ≤ device
       → device ≤ length os
       → k ≤ length (piecesStates p os edge gap tail ++ lows last)
-      → let after : ℕ → Clocked = λ j. getD ((runClocked cs (take j (piecesStates p os edge gap tail ++ lows last))) .0) (device - 1) z in
-      CutClocked (λ c j. leb (statesUntil p os gap tail c device) j) k (lastBoundary after k) (getD os (device - 1) o) (clock.registersOf (getD cs (device - 1) z))
+      → ((clock : ℕ) → statesUntil p os gap tail Individual device ≤ clock → clock ≤ k → watchdog.expires ws (piecesStates p os edge gap tail ++ lows last) clock device ≡ false)
+      → let after : ℕ → Clocked = λ j. getD ((runWatched ws (take j (piecesStates p os edge gap tail ++ lows last))) .0) (device - 1) z .clocked in
+      CutClocked (λ c j. leb (statesUntil p os gap tail c device) j) k (lastBoundary after k) (getD os (device - 1) o)
+      (faded (watchdog.expiredWithin ws (piecesStates p os edge gap tail ++ lows last) k device) (clock.registersOf (getD ws (device - 1) z .clocked)))
       (clock.registersOf (after k))
 
 -- a made-up row of four banks with values of 8 bits, and one of one bank with values of 10 bits
@@ -610,13 +684,13 @@ ones p = record { configuration = 0; calibration = replicate (p .banks) 1; globa
 -- demand 3 and the light of any row; a fifth row may have any number of banks and any width, and one that a record has room for is usable
 pub record AnyRow : Type 0 where
   pub restores :
-      (p : Part) (os : List Own) (cs : List Clocked) (edge : Command → Edge) (gap tail : Command → List Bool) (last : List Bool)
-      → 1 ≤ length cs
-      → length cs ≤ 1023
+      (p : Part) (os : List Own) (ws : List Watched) (edge : Command → Edge) (gap tail : Command → List Bool) (last : List Bool)
+      → 1 ≤ length ws
+      → length ws ≤ 1023
       → Running p
-      → Pairwise (λ o r. OwnProper p o × (r .part ≡ p)) os (registersIn (devicesIn cs))
-      → All Placed cs
-      → RowRestores p os cs edge gap tail last
+      → Pairwise (λ o r. OwnProper p o × (r .part ≡ p)) os (registersIn (devicesIn (clocksIn ws)))
+      → All Placed (clocksIn ws)
+      → RowRestores p os ws edge gap tail last
   pub frameOn :
       (p : Part) (configuration global : ℕ)
       → 1 ≤ subframes p configuration
@@ -644,3 +718,7 @@ EdgeExamplesHold = Each edgeExamples
 -- 4a to 4i hold
 abbrev pub ClockExamplesHold : Type 0
 ClockExamplesHold = Each clockExamples
+
+-- 5a to 5l hold
+abbrev pub WatchExamplesHold : Type 0
+WatchExamplesHold = Each watchExamples

@@ -1,5 +1,5 @@
--- The lettered examples of docs/RULES.md, a to z, of where load rises 2a to 2i, and of a device's clock 4a to 4i, as lists in the order of their
--- letters and with the numbers given there.
+-- The lettered examples of docs/RULES.md, a to z, of where load rises 2a to 2i, of a device's clock 4a to 4i, and of its watchdog 5a to 5l, as lists in
+-- the order of their letters and with the numbers given there.
 use Prim.Native.Nat.{ℕ, zero, suc, _-_}
 use mathlib.Core.Path.{_≡_}
 use mathlib.Core.Bool.{Bool, true, false, _&&_}
@@ -10,7 +10,7 @@ use lib.ListN.{length, take, replicate}
 use Rattle.bits.specs.Bits.{bits, fields, bytesOf}
 use Rattle.parts.specs.Parts.{partOf}
 use Rattle.tables.specs.Refusals.{first}
-use Rattle.parts.specs.Wire.{State, lows, highs, stateCode, Edge, early, exact, late, frame, statesAt, statesOf}
+use Rattle.parts.specs.Wire.{State, lows, highs, stateCode, Edge, early, exact, late, header, frame, statesAt, statesOf}
 use Rattle.parts.specs.declared.command.Command.{Command}
 use Rattle.parts.specs.declared.command.Command.the-variants.{Individual, Calibration, Global, Configuration}
 use Rattle.serial.specs.States.{dataBits}
@@ -22,15 +22,18 @@ use Rattle.frames.specs.declared.told.Tail.{Tail}
 use Rattle.frame_writer.specs.declared.answer.Written.the-variants as W
 use Rattle.phases.specs.Phases.{placeOf}
 use Rattle.phases.specs.declared.phase.Phase.{Phase}
-use Rattle.phases.specs.declared.phase.Phase.the-variants.{Hunting, Opening, Lost}
+use Rattle.phases.specs.declared.phase.Phase.the-variants.{Hunting, Opening, Slice, Passing, Lost}
 use Rattle.registers.specs.Held.{holding, showing, zeros, bankBytes}
 use Rattle.registers.specs.declared.registers.Registers.{Registers}
 use Rattle.positions.specs.Positions.{placedAt}
 use Rattle.device.specs.Step.{at, faulted, freshDevice}
-use Rattle.device.specs.Run.{run}
+use Rattle.watch.specs.Watch.{line, expired}
+use Rattle.watch.specs.declared.watch.Watch.{Watch}
+use Rattle.device.specs.Run.{run, clockRecord}
 use Rattle.device.specs.declared.device.Device.{Device}
 use Rattle.calls.specs.Calls.{returned}
 use Rattle.calls.specs.Chain.{through}
+use Rattle.calls.specs.Expiry.{expires}
 use Rattle.subframes.specs.Subframes.{isOn}
 use Rattle.subframes.specs.Answers.{onAnswer, leadAnswer}
 use Rattle.schedule.specs.Light.{isEven}
@@ -44,14 +47,23 @@ use Rattle.current.specs.Answers.{current, currentOut}
 abbrev told : ℕ → ℕ → Command → Told
 told part devices command = toldOf part devices command 0
 
+-- 0, 1, .. up to below n
+abbrev count : ℕ → List ℕ
+count zero = []
+count (suc n) = count n ++ n ∷ []
+
 -- a list again and again
 abbrev times : ℕ → List ℕ → List ℕ
 times zero xs = []
 times (suc n) xs = xs ++ times n xs
 
+-- a fresh device of a part, its watchdog enabled by bit 1, with the longest limit
+abbrev new : ℕ → Device
+new part = freshDevice part 1 2000000
+
 -- three devices of a part, of which the first and the last have open LEDs
 abbrev pub threeDevices : ℕ → List Device
-threeDevices part = faulted (freshDevice part) 1 1 ∷ freshDevice part ∷ faulted (freshDevice part) 1 1 ∷ []
+threeDevices part = faulted (new part) 1 1 ∷ new part ∷ faulted (new part) 1 1 ∷ []
 
 -- a calibration frame for them, each with these bytes, and with the tail 0xA5 in 8 bits
 unfoldable pub threeStates : List ℕ → List ℕ
@@ -64,13 +76,32 @@ twoStates edge = statesAt edge (frame Calibration 0 (fields 8 (1 ∷ 2 ∷ 3 ∷
 -- a device of a part, by its configuration and its position; the global byte 7 waits and 9 is active
 abbrev pub placed : ℕ → ℕ → ℕ → Device
 placed part configuration position =
-    let r : Registers = zeros part in
+    let r : Registers = new part .registers in
     let q : Registers = holding r configuration (r .calibration) 7 (r .waiting0) (r .waiting1) (r .slice) in
     at (placedAt (showing q 0 0 9 (q .active0) (q .active1)) position) (Hunting 0)
 
 -- the 48 states of a frame for one device of three banks, of which the last stores these bytes
 unfoldable pub oneStates : Command → List ℕ → List ℕ
 oneStates command bytes = statesOf (frame command 0 (fields 8 bytes) [])
+
+-- a watchdog that bit 1 enables: its limit, the levels of data and load, and their counts
+abbrev pub dog : ℕ → ℕ → ℕ → ℕ → ℕ → Watch
+dog limit dataLevel loadLevel dataCount loadCount = record { din = line dataCount dataLevel; loadi = line loadCount loadLevel; limit = limit; bit = 1 }
+
+-- a 6974 with a configuration, a phase, the fields that have come of a slice, a position and a watchdog; the values 1 wait in MUX0 and 2 in MUX1, 3 and
+-- 4 are active; the global byte 7 waits and 9 is active
+abbrev pub guarded : ℕ → Phase → List ℕ → ℕ → Watch → Device
+guarded configuration phase slots position w =
+    let r : Registers = holding (zeros 6974 w) configuration (replicate 3 0) 7 (replicate 24 1) (replicate 24 2) (slots ++ replicate (48 - length slots) 0) in
+    at (placedAt (showing r 0 0 9 (replicate 24 3) (replicate 24 4)) position) phase
+
+-- one whose slice of three bytes lacks its last bit
+abbrev pub nearly : ℕ → Command → List ℕ → Watch → Device
+nearly configuration command slots w = guarded configuration (Slice command 0 23) slots 10 w
+
+-- one that waits for SYNC, its enabling bit set
+abbrev pub idle : ℕ → Watch → Device
+idle position w = guarded 0x02 (Hunting 0) [] position w
 
 -- ---- what an example says
 
@@ -103,6 +134,16 @@ pub data Example : Type 0 where
   stands : List Device → List ℕ → List ℕ → List ℕ → List ℕ → Example
   -- a device that is given these states by the single step is at a position
   steps : Device → List ℕ → ℕ → Example
+  -- a device that is sent these states in one clock has this watchdog at its end, and has expired in it or not
+  watches : Device → List ℕ → Watch → Bool → Example
+  -- each of its values that wait, MUX0 and MUX1, and each that is active is this
+  shows : Device → List ℕ → ℕ → ℕ → ℕ → ℕ → Example
+  -- its phase, its calibration bytes and its position; the global byte that waits, and the active one
+  stays : Device → List ℕ → Phase → List ℕ → ℕ → ℕ → ℕ → Example
+  -- a chain that is given these states has these watchdogs
+  guards : List Device → List ℕ → List Watch → Example
+  -- in each clock of these states device 1 of a chain expires or not
+  expiring : List Device → List ℕ → List Bool → Example
 
 -- what is answered of every output of a parity with a value, at every clock of every ON subframe, in every phase that there is
 abbrev pub Lights : ℕ → ℕ → Bool → (ℕ → Bool) → Type 0
@@ -112,6 +153,10 @@ Lights part value even said =
     → isOn (partOf part) configuration global s ≡ true
     → isEven output ≡ even
     → litAnswer part configuration global value output s clock phase ≡ Is (said clock)
+
+-- the registers of a device that was sent these states in one clock
+abbrev pub after : Device → List ℕ → Registers
+after d sent = (clockRecord d sent) .0 .registers
 
 -- the lent lists have room for what the frame holds
 abbrev pub Says : Example → Type 0
@@ -129,14 +174,28 @@ Says (output part number n) = first (litRows part 0 0 number 0 0 0) ≡ n
 Says (draws part configuration bytes global values total average remainder) =
     (current (setOf part 1 configuration bytes global values) 3 ≡ record { total = total; average = average; remainder = remainder; refusal = 0 })
     × (currentOut (setOf part 1 configuration bytes global values) (replicate 3 0) ≡ total ∷ average ∷ remainder ∷ [])
-Says (comes states phase) = (part : ℕ) → (run (freshDevice part) (map stateCode states)) .0 .place ≡ placeOf phase
-Says (holds edge states bytes) = map (λ d. bankBytes (d .registers)) ((through (freshDevice 6974 ∷ freshDevice 6974 ∷ []) (take states (twoStates edge))) .0) ≡ bytes
-Says (passes edge states) = (run (freshDevice 6974) (twoStates edge)) .1 ≡ states
+Says (comes states phase) = (part bit limit : ℕ) → (run (freshDevice part bit limit) (map stateCode states)) .0 .place ≡ placeOf phase
+Says (holds edge states bytes) = map (λ d. bankBytes (d .registers)) ((through (new 6974 ∷ new 6974 ∷ []) (take states (twoStates edge))) .0) ≡ bytes
+Says (passes edge states) = (run (new 6974) (twoStates edge)) .1 ≡ states
 Says (stands ds states positions waiting active) =
     (map (λ d. d .registers .position) ((through ds states) .0) ≡ positions)
     × (map (λ d. d .registers .waiting) ((through ds states) .0) ≡ waiting)
     × (map (λ d. d .registers .active) ((through ds states) .0) ≡ active)
 Says (steps d states position) = (run d states) .0 .registers .position ≡ position
+Says (watches d sent w has) = (after d sent .watch ≡ w) × (expired (after d sent .watch) ≡ has)
+Says (shows d sent waiting0 waiting1 active0 active1) =
+    (after d sent .waiting0 ≡ replicate 24 waiting0)
+    × (after d sent .waiting1 ≡ replicate 24 waiting1)
+    × (after d sent .active0 ≡ replicate 24 active0)
+    × (after d sent .active1 ≡ replicate 24 active1)
+Says (stays d sent phase bytes position waiting active) =
+    ((clockRecord d sent) .0 .place ≡ placeOf phase)
+    × (after d sent .calibration ≡ bytes)
+    × (after d sent .position ≡ position)
+    × (after d sent .waiting ≡ waiting)
+    × (after d sent .active ≡ active)
+Says (guards ds states ws) = map (λ d. d .registers .watch) ((through ds states) .0) ≡ ws
+Says (expiring ds states said) = map (λ clock. expires ds states (suc clock) 1) (count (length said)) ≡ said
 
 -- all that stands under one letter
 abbrev pub All-say : List Example → Type 0
@@ -236,7 +295,7 @@ clockExamples =
     -- a return to 0 on the clock of a store: the old waiting values become active, the new ones wait
     (a says comesTo 6974 0x00 524240 Global (replicate 3 5) 0 5 7 ∷ [])
     -- two devices, a configuration frame of 72 states
-    ∷ (b says stands (freshDevice 6974 ∷ freshDevice 6974 ∷ []) (statesOf (frame Configuration 0 (fields 8 (replicate 6 0)) [])) (72 ∷ 72 ∷ []) (0 ∷ 0 ∷ []) (0 ∷ 0 ∷ []) ∷ [])
+    ∷ (b says stands (new 6974 ∷ new 6974 ∷ []) (statesOf (frame Configuration 0 (fields 8 (replicate 6 0)) [])) (72 ∷ 72 ∷ []) (0 ∷ 0 ∷ []) (0 ∷ 0 ∷ []) ∷ [])
     -- a 6975 at 200,001 when GLB4 is stored
     ∷ (c says comesTo 6975 0x00 199953 Configuration (replicate 3 0x10) 68929 7 9 ∷ [])
     -- at 131,072: 0, and nothing becomes active
@@ -252,4 +311,42 @@ clockExamples =
     ∷ (h says comesTo 6974 0x00 199953 Configuration (replicate 3 0x10) 200001 7 9 ∷ [])
     -- the single step through the same configuration at 200,000
     ∷ (i says steps (placed 6975 0x00 200000) (oneStates Configuration (replicate 3 0x10)) 68928 ∷ [])
+    ∷ []
+
+-- a device whose individual slice, each value 5, lacks its last bit, with both lines still for so many clocks, of a limit of 10
+abbrev stored : ℕ → Device
+stored still = guarded 0x02 (Slice Individual 0 287) (replicate 23 5 ++ 2 ∷ []) 10 (dog 10 1 1 still still)
+
+-- 5a to 5l, bit 1
+abbrev pub watchExamples : List Lettered
+watchExamples =
+    -- limit 1, configuration 0x03: expiry on its last bit, counts 1 and 1
+    (a says watches (nearly 0x00 Configuration (0x03 ∷ 0x03 ∷ 0x01 ∷ []) (dog 1 1 1 0 0)) (3 ∷ []) (dog 1 1 1 1 1) true
+    ∷ shows (nearly 0x00 Configuration (0x03 ∷ 0x03 ∷ 0x01 ∷ []) (dog 1 1 1 0 0)) (3 ∷ []) 0 0 0 0
+    ∷ guards (guarded 0x00 (Hunting 0) [] 10 (dog 1 0 0 0 0) ∷ []) (oneStates Configuration (replicate 3 0x03)) (dog 1 1 1 1 1 ∷ []) ∷ [])
+    -- count 9 of limit 10, a still line, the bit cleared on this clock: no expiry, counts 0
+    ∷ (b says watches (nearly 0x02 Configuration [] (dog 10 0 1 9 9)) (2 ∷ []) (dog 10 0 1 0 0) false
+    ∷ shows (nearly 0x02 Configuration [] (dog 10 0 1 9 9)) (2 ∷ []) 1 2 3 4 ∷ [])
+    -- boundary and expiry in one clock: active values 0, and the global byte that waited is active
+    ∷ (c says shows (idle 524287 (dog 10 0 0 9 9)) [] 0 0 0 0 ∷ stays (idle 524287 (dog 10 0 0 9 9)) [] (Hunting 0) (replicate 3 0) 0 7 7 ∷ [])
+    -- store and expiry: the slice just stored is 0; without the expiry it waits
+    ∷ (d says shows (stored 9) (3 ∷ []) 0 0 0 0 ∷ shows (stored 8) (3 ∷ []) 5 2 3 4 ∷ [])
+    -- a burst onto levels 0 and 1 with counts 500: counts 0, levels 0 and 1
+    ∷ (e says watches (idle 10 (dog 1000 0 1 500 500)) (statesOf (header Calibration 0)) (dog 1000 0 1 0 0) false ∷ [])
+    -- two devices, states 0 1 0 1 0: device 2 counts 5 and 5, device 1 0 and 5
+    ∷ (f says guards (idle 10 (dog 100 0 0 0 0) ∷ idle 10 (dog 100 0 0 0 0) ∷ []) (0 ∷ 1 ∷ 0 ∷ 1 ∷ 0 ∷ []) (dog 100 0 0 0 5 ∷ dog 100 0 0 5 5 ∷ []) ∷ [])
+    -- bit clear, states 1 3 3: levels 1 and 1; the bit then set, state 3: counts 1 and 1
+    ∷ (g says guards (guarded 0x00 (Hunting 0) [] 10 (dog 100 0 0 0 0) ∷ []) (1 ∷ 3 ∷ 3 ∷ []) (dog 100 1 1 0 0 ∷ [])
+    ∷ guards (idle 10 (dog 100 1 1 0 0) ∷ []) (3 ∷ []) (dog 100 1 1 1 1 ∷ []) ∷ [])
+    -- limit 3, four still clocks: expiry on the third and the fourth
+    ∷ (h says expiring (idle 10 (dog 3 0 0 0 0) ∷ []) (replicate 4 0) (false ∷ false ∷ true ∷ true ∷ []) ∷ [])
+    -- limit 4, states 1 0 1 0: expiry on the fourth, by the load line alone
+    ∷ (i says expiring (idle 10 (dog 4 0 0 0 0) ∷ []) (1 ∷ 0 ∷ 1 ∷ 0 ∷ []) (false ∷ false ∷ false ∷ true ∷ []) ∷ [])
+    -- MUX1 is cleared while D0 is 0, and global bytes are not
+    ∷ (j says shows (idle 10 (dog 10 0 0 9 9)) (0 ∷ []) 0 0 0 0 ∷ stays (idle 10 (dog 10 0 0 9 9)) (0 ∷ []) (Hunting 0) (replicate 3 0) 11 7 9 ∷ [])
+    -- count 2,000,000 stays, and expires again
+    ∷ (k says watches (idle 10 (dog 2000000 0 0 2000000 2000000)) (0 ∷ []) (dog 2000000 0 0 2000000 2000000) true ∷ [])
+    -- an expiry within a calibration frame leaves that frame, the global bytes, the calibration and the position
+    ∷ (l says shows (nearly 0x02 Calibration (1 ∷ 2 ∷ 1 ∷ []) (dog 10 1 1 9 9)) (3 ∷ []) 0 0 0 0
+    ∷ stays (nearly 0x02 Calibration (1 ∷ 2 ∷ 1 ∷ []) (dog 10 1 1 9 9)) (3 ∷ []) Passing (1 ∷ 2 ∷ 3 ∷ []) 11 7 9 ∷ [])
     ∷ []

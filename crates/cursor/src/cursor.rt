@@ -18,6 +18,8 @@ pub struct Cursor {
     // A header that is on its way to the front device, or out of the chain.
     pub pending: Sent,
     pub going: bool,
+    // Where the high states that begin at the next state end; 0 until they are looked for.
+    pub end: usize,
 }
 
 // By the header under way, or by the next state.
@@ -40,6 +42,7 @@ pub fn next_turn(
             written,
             pending,
             going: true,
+            end: 0,
         };
     }
     turn_by_state(count, front, at, written, states)
@@ -59,6 +62,7 @@ pub fn turn_by_state(count: usize, front: usize, at: usize, written: usize, stat
                 written,
                 pending: Sent::Nothing,
                 going: true,
+                end: 0,
             }
         } else {
             Cursor {
@@ -69,6 +73,7 @@ pub fn turn_by_state(count: usize, front: usize, at: usize, written: usize, stat
                 written,
                 pending: Sent::Nothing,
                 going: true,
+                end: 0,
             }
         }
     } else {
@@ -80,6 +85,7 @@ pub fn turn_by_state(count: usize, front: usize, at: usize, written: usize, stat
             written,
             pending: Sent::Nothing,
             going: false,
+            end: 0,
         }
     }
 }
@@ -96,6 +102,7 @@ pub fn halt() -> Cursor
         written: 0,
         pending: Sent::Nothing,
         going: false,
+        end: 0,
     }
 }
 

@@ -31,7 +31,8 @@ fn enter_under(refusal: u8, n: usize, states: &[u8]) -> Entry
     ensures { λ r. ⌜ r ≡ entryUnder refusal n (now (states .entry)) ⌝ }
 {
     if refusal == 0 {
-        let cursor = crate::cursor::turn_by_state(n, 0, 0, 0, states);
+        let mut cursor = crate::cursor::turn_by_state(n, 0, 0, 0, states);
+        cursor.end = intake::highs_end(states, 0);
         Entry { refusal, cursor }
     } else {
         let cursor = crate::cursor::halt();

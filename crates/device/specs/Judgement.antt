@@ -6,6 +6,7 @@ use lib.Dec.{ltb, leb}
 use Rattle.parts.specs.Parts.{known}
 use Rattle.tables.specs.Refusals.{Row, _when_, first, answer}
 use Rattle.phases.specs.Phases.{placeOf, phaseOf, samePlace}
+use Rattle.watch.specs.Watch.{watchFits}
 use Rattle.positions.specs.Positions.{positionFits}
 use Rattle.widths.specs.Widths.{flagsFit, valuesFit}
 use Rattle.device.specs.Step.{singleStep, sliceLength}
@@ -35,9 +36,9 @@ placeFits q r = samePlace (placeOf (phaseOf q)) q && phaseFits (phaseOf q) r
 abbrev pub contentsFit : Device → Bool
 contentsFit d = placeFits (d .place) (d .registers) && (flagsFit (d .registers) && valuesFit (d .registers))
 
--- number 13 does not apply to the record: its contents fit, and its position is below the frame's length
+-- number 13 does not apply to the record: its contents fit, its position is below the frame's length, and its watchdog's numbers are in range
 abbrev pub fits : Device → Bool
-fits d = contentsFit d && positionFits (d .registers)
+fits d = contentsFit d && (positionFits (d .registers) && watchFits (d .registers .watch))
 
 -- a record's own rows
 abbrev pub judgement : Device → List Row

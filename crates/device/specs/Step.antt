@@ -8,6 +8,7 @@ use Rattle.parts.specs.Parts.{partOf, multiplex, fieldWidth, fieldLimit, sliceB
 use Rattle.parts.specs.Wire.{header, statesOf}
 use Rattle.parts.specs.declared.command.Command.{Command}
 use Rattle.phases.specs.Phases.{placeOf, phaseOf, heard, rising, opening, counting}
+use Rattle.watch.specs.Watch.{freshWatch}
 use Rattle.registers.specs.Held.{took, fault, raised, flagged, zeros}
 use Rattle.positions.specs.Positions.{ticked, refitted}
 use Rattle.storing.specs.Stored.{stored}
@@ -86,6 +87,6 @@ tickedDevice d = record { registers = ticked (d .registers); place = d .place }
 abbrev pub faulted : Device → ℕ → ℕ → Device
 faulted d kind flag = record { registers = flagged (d .registers) kind flag; place = d .place }
 
--- hunting, with no bit seen
-abbrev pub freshDevice : ℕ → Device
-freshDevice part = at (zeros part) (Hunting 0)
+-- hunting, with no bit seen; told its part, and its watchdog's bit and limit
+abbrev pub freshDevice : ℕ → ℕ → ℕ → Device
+freshDevice part bit limit = at (zeros part (freshWatch bit limit)) (Hunting 0)

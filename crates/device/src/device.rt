@@ -1,5 +1,8 @@
 // The single step of a device, by value, and the events that are no clock.
 ghost use mathlib.Core.Path.{_≡_};
+ghost use mathlib.Core.Bool.{_&&_};
+ghost use Rattle.watch.specs.Watch.{watchFits};
+ghost use Rattle.positions.specs.Positions.{positionFits};
 ghost use Rattle.device.specs.Step.{sending, collected, stepHigh, step, singleStep, faulted, freshDevice};
 ghost use Rattle.tables.specs.Refusals.{first};
 ghost use Rattle.device.specs.Judgement.{contentsFit, fits, judgement, refusedWith, stepAnswer};
@@ -69,7 +72,7 @@ impl Device {
     pub fn fits(self) -> bool
         ensures { λ r. ⌜ r ≡ fits self ⌝ }
     {
-        self.contents_fit() && positions::position_fits(self.registers)
+        self.contents_fit() && clocks_fit(self.registers)
     }
 
     // Its place, flags and values are ones that a device can come to.
@@ -107,15 +110,22 @@ impl Device {
         }
     }
 
-    // A fresh device of a part: zeros, no faults, hunting.
-    pub fn fresh(part: u16) -> Device
-        ensures { λ r. ⌜ r ≡ freshDevice part ⌝ }
+    // A fresh device of a part: zeros, no faults, hunting, and a watchdog of a bit and a limit.
+    pub fn fresh(part: u16, bit: u8, limit: u32) -> Device
+        ensures { λ r. ⌜ r ≡ freshDevice part bit limit ⌝ }
     {
         Device {
-            registers: Registers::zero(part),
+            registers: Registers::zero(part, watch::fresh(bit, limit)),
             place: phases::place_of(Phase::Hunting { window: 0 }),
         }
     }
+}
+
+// The position is below the frame's length, and the watchdog's numbers are in range.
+fn clocks_fit(registers: Registers) -> bool
+    ensures { λ r. ⌜ r ≡ (positionFits registers && watchFits (registers .watch)) ⌝ }
+{
+    positions::position_fits(registers) && watch::watch_fits(registers.watch)
 }
 
 // A refused device comes back as it came in.

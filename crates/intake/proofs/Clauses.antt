@@ -1,9 +1,10 @@
 -- What each definition of the intake does with the state at index i: at the end, at a state that stops it, and at one that it takes. Each
 -- is the definition's own clause, for the rest of a list from i on. Assumes nothing.
-use mathlib.Core.Path.{_≡_, refl}
+use mathlib.Core.Path.{_≡_, refl, sym}
 use mathlib.Core.Bool.{true, false}
 use mathlib.Core.List.{List, _∷_}
 use Prim.Native.Nat.{ℕ, suc, _+_, _%_, _<_, _≤_}
+use native.Mathlib.Nat.{add-assoc}
 use native.Mathlib.Numerals.{add-one}
 use lib.ListN.{length, getD, drop, drop-of-length-le}
 use lib.Seq.{drop-cons}
@@ -50,6 +51,15 @@ highs-low ss i k h l = rw (drop-on ss i h, lt-ltb (getD ss i 0) 2 l) refl
 pub highs-on : (ss : List ℕ) (i k : ℕ) → i < length ss → 2 ≤ getD ss i 0 → highsEnd (drop i ss) k ≡ highsEnd (drop (i + 1) ss) (k + 1)
 unfolding highsEnd
 highs-on ss i k h l = rw (drop-on ss i h, le-ltb (getD ss i 0) 2 l) refl
+
+-- m states behind i, a high one moves the end on
+pub highs-further : (ss : List ℕ) (i m : ℕ) → i + m < length ss → 2 ≤ getD ss (i + m) 0
+    → highsEnd (drop (i + m) ss) (i + m) ≡ highsEnd (drop (i + (m + 1)) ss) (i + (m + 1))
+highs-further ss i m h l = rw (sym (add-assoc i m 1)) (highs-on ss (i + m) (i + m) h l)
+
+-- the same place, by another name
+pub highs-same : (ss : List ℕ) (e i m n : ℕ) → m ≡ n → e ≡ highsEnd (drop (i + m) ss) (i + m) → e ≡ highsEnd (drop (i + n) ss) (i + n)
+highs-same ss e i m n s h = rw (sym s) h
 
 -- ---- a field
 

@@ -1,6 +1,7 @@
 // High states, in any phase.
 ghost use mathlib.Core.Path.{_≡_};
-ghost use Prim.Native.Nat.{_<_, _≤_};
+ghost use mathlib.Core.Bool.{true};
+ghost use Prim.Native.Nat.{_<_, _≤_, _+_};
 ghost use lib.ListN.{length, getD, drop};
 ghost use Rattle.device.specs.Step.{at};
 ghost use Rattle.phases.specs.declared.phase.Phase.the-variants.{Passing};
@@ -105,8 +106,48 @@ fn head_all(phase: Phase, states: &[u8], from: usize) -> Headed
     Headed { phase: p, at: i }
 }
 
-// Where high states end.
+// Where high states end: blocks of them first, then state by state.
 pub fn highs_end(states: &[u8], from: usize) -> usize
+    ensures { λ r. ⌜ r ≡ highsEnd (drop from (now (states .entry))) from ⌝ }
+{
+    low_or_end(states, high_blocks(states, from))
+}
+
+// Where blocks of high states alone end.
+fn high_blocks(states: &[u8], from: usize) -> usize
+    ensures { λ r. ⌜ highsEnd (drop from (now (states .entry))) from ≡ highsEnd (drop r (now (states .entry))) r ⌝ }
+{
+    let mut i = from;
+    while i < states.len() {
+        if states.len() - i < 64 {
+            return i;
+        }
+        if !block_high(states, i) {
+            return i;
+        }
+        i += 64;
+    }
+    i
+}
+
+// Whether a block of states is high. No early end, so that the loop is vectorised.
+fn block_high(states: &[u8], from: usize) -> bool
+    requires { ⌜ from + 64 ≤ length (now states) ⌝ }
+    ensures { λ r. ⌜ (r ≡ true → highsEnd (drop from (now (states .entry))) from ≡ highsEnd (drop (from + 64) (now (states .entry))) (from + 64)) ⌝ }
+{
+    let mut low: u8 = 0;
+    let mut j: usize = 0;
+    while j < 64 {
+        if states[from + j] < 2 {
+            low = 1;
+        }
+        j += 1;
+    }
+    low == 0
+}
+
+// The place of the first low state, or the end.
+fn low_or_end(states: &[u8], from: usize) -> usize
     ensures { λ r. ⌜ r ≡ highsEnd (drop from (now (states .entry))) from ⌝ }
 {
     let mut i = from;

@@ -51,7 +51,7 @@ device-of {𝓤 = 𝓤} {H = H} {A = A} d is = record { value = d; values = vals
 
 -- the record's size in bytes, as its `Laws` has it. It is all that a change of the record's fields changes here
 abbrev pub size : ℕ
-size = 320
+size = 360
 
 -- where element i lies: it fits a word, and it is `place`
 pub place-fits : (i n : ℕ) → i < n → n * size < 2 ^ 63 → i * size < 2 ^ 64

@@ -25,7 +25,10 @@ use Rattle.device.specs.declared.device.Device.{Device}
 use Rattle.device.specs.declared.device.Stepped.{Stepped}
 use Rattle.storing.proofs.Lists.{length-strided, length-bytes}
 use Rattle.tables.proofs.Booleans.{cond-both}
-use Rattle.device.specs.Run.{stepRecord}
+use Rattle.machine.proofs.Machine.{run-holds}
+use Rattle.watch.specs.Watch.{expired}
+use Rattle.watch.specs.declared.watch.Watch.{Watch}
+use Rattle.device.specs.Run.{stepRecord, underWatch, watched, clockRecord}
 use Rattle.link.specs.View.{Sizes, Arrays}
 
 -- ---- the two ways in which registers change
@@ -89,10 +92,21 @@ pub tick-arrays : (d : Device) → Arrays d → Arrays (tickedDevice d)
 unfolding ticked
 tick-arrays d h = placed-sizes (cond-both Sizes (eqb (next (d .registers)) 0) _ _ (λ _. showing-sizes h (h .waiting0) (h .waiting1)) (λ _. h))
 
+-- the end of a clock: the watchdog, and what an expiry leaves
+under-sizes : (r : Registers) (w : Watch) → Sizes r → Sizes (underWatch r w)
+under-sizes r w h =
+    cond-both Sizes (expired w) _ _
+    (λ _. record { calibration = h .calibration; waiting0 = refl; waiting1 = refl; active0 = refl; active1 = refl; slice = h .slice })
+    (λ _. record { calibration = h .calibration; waiting0 = h .waiting0; waiting1 = h .waiting1; active0 = h .active0; active1 = h .active1; slice = h .slice })
+
+pub clock-arrays : (d : Device) (sent : List ℕ) → Arrays d → Arrays ((clockRecord d sent) .0)
+unfolding clockRecord watched
+clock-arrays d sent h = under-sizes _ _ (run-holds stepRecord Arrays step-arrays (tickedDevice d) sent (tick-arrays d h))
+
 -- ---- what is not a clock
 
 pub faulted-arrays : (d : Device) (kind flag : ℕ) → Arrays d → Arrays (faulted d kind flag)
 faulted-arrays d kind flag h = cond-both Sizes (eqb kind 0) _ _ (λ _. showing-sizes h (h .active0) (h .active1)) (λ _. showing-sizes h (h .active0) (h .active1))
 
-pub fresh-arrays : (q : ℕ) → Arrays (freshDevice q)
-fresh-arrays q = record { calibration = refl; waiting0 = refl; waiting1 = refl; active0 = refl; active1 = refl; slice = refl }
+pub fresh-arrays : (q bit limit : ℕ) → Arrays (freshDevice q bit limit)
+fresh-arrays q bit limit = record { calibration = refl; waiting0 = refl; waiting1 = refl; active0 = refl; active1 = refl; slice = refl }

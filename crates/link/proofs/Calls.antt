@@ -1,7 +1,7 @@
 -- Calls on records: a chain that was made fresh stays one that no call is refused for, whatever is called (`whole-calls`); the calls of a
 -- restore are one run of what they were given (`ran`). By induction on the calls. Assumes nothing.
 use mathlib.Core.Path.{_≡_, refl, sym, ap, _∙_}
-use mathlib.Core.Bool.{Bool, true, false, cond}
+use mathlib.Core.Bool.{Bool, true, false, cond, _&&_}
 use mathlib.Core.List.{List, [], _∷_, _++_}
 use Prim.Native.Nat.{ℕ, zero, suc, _-_, _≤_}
 use lib.Dec.{eqb, ltb, leb}
@@ -13,7 +13,7 @@ use Rattle.tables.specs.Lists.{allBelow, every}
 use Rattle.parts.specs.Parts.{known, isCount}
 use Rattle.tables.specs.Refusals.{first, content}
 use Rattle.tables.proofs.Rows.{clear}
-use Rattle.device.specs.Step.{tickedDevice, freshDevice, faulted}
+use Rattle.device.specs.Step.{freshDevice, faulted}
 use Rattle.device.specs.Judgement.{fits}
 use Rattle.registers.specs.declared.registers.Registers.{Registers}
 use Rattle.device.specs.declared.device.Device.{Device}
@@ -24,10 +24,12 @@ use Rattle.calls.specs.Calls.{freshTable, freshRefusal, freshDevices, runRefusa
 use Rattle.calls.specs.History.{Call, fresh, run, fault, refusalOf, effect, after, afterCalls, given, answered, statesGiven, answers, RunOrKeeps, Runs, FaultOrLow, Settles}
 use Rattle.calls.specs.Told.{partBy, partTold, ownTable}
 use Rattle.model.specs.Lists.{All}
-use Rattle.machine.specs.Machine.{clock}
-use Rattle.model.proofs.Lists.{All-replicate}
-use Rattle.machine.proofs.Machine.{run-nil, run-append, length-clocks}
-use Rattle.device.specs.Run.{stepRecord}
+use Rattle.machine.specs.Machine.{relayOne}
+use Rattle.model.proofs.Lists.{All-replicate, all-below}
+use Rattle.machine.proofs.Machine.{run-nil, run-append, length-relays}
+use Rattle.device.specs.Run.{clockRecord}
+use Rattle.watch.specs.Watch.{isBit, isLimit}
+use Rattle.calls.proofs.Accepted.{accepted-run}
 use Rattle.link.proofs.View.{Sound}
 use Rattle.link.proofs.Arrays.{faulted-arrays, fresh-arrays}
 use Rattle.link.proofs.Device.{through-part, through-keep}
@@ -36,7 +38,7 @@ use Rattle.link.proofs.Device.{through-part, through-keep}
 
 pub after-effect : (ds : List Device) (c : Call) → after ds c ≡ content (refusalOf ds c) ds (effect ds c)
 unfolding after refusalOf
-after-effect ds (fresh part) = refl
+after-effect ds (fresh part bit limit) = refl
 after-effect ds (run ss out) = refl
 after-effect ds (fault device kind flag) = refl
 
@@ -69,7 +71,7 @@ whole-count p ds w = rw (le-leb 1 (length ds) (w .someDevice), le-leb (length ds
 -- its calls are refused for what they say, never for the records
 pub own-refusal : (p : ℕ) (ds : List Device) (c : Call) → Whole p ds → refusalOf ds c ≡ first (ownTable (length ds) c)
 unfolding refusalOf freshRefusal runRefusal faultRefusal
-own-refusal p ds (fresh q) w = refl
+own-refusal p ds (fresh q bit limit) w = refl
 own-refusal p ds (run ss out) w =
     rw (whole-known p ds w, whole-count p ds w, same-all p ds (w .onePart), whole-fit ds (w .sound), and-true (allBelow ss 4))
 own-refusal p ds (fault device kind flag) w =
@@ -84,8 +86,8 @@ faulted-sound : (kind : ℕ) (flag : Bool) (d : Device) → Sound d → Sound (f
 faulted-sound kind flag d o =
     record { fit = kept-faulted d kind (digit flag) (digit-lt flag) (o .fit); arrays = faulted-arrays d kind (digit flag) (o .arrays) }
 
-fresh-sound : (p : ℕ) → Sound (freshDevice p)
-fresh-sound p = record { fit = kept-fresh p; arrays = fresh-arrays p }
+fresh-sound : (p bit limit : ℕ) → isBit bit && isLimit limit ≡ true → Sound (freshDevice p bit limit)
+fresh-sound p bit limit h = record { fit = kept-fresh p bit limit h; arrays = fresh-arrays p bit limit }
 
 -- every record of a list in which one is changed
 set-All : (P : Device → Type 0) (f : Device → Device) → ((d : Device) → P d → P (f d)) → (ds : List Device) (i : ℕ) (z : Device) → All P ds → All P (set ds i (f (getD ds i z)))
@@ -95,40 +97,43 @@ set-All P f k (d ∷ ds) (suc i) z h = (h .0, set-All P f k ds i z (h .1))
 
 -- ---- so no call is refused for the records, whatever is called
 
-whole-fresh : (q : ℕ) (ds : List Device) → refusalOf ds (fresh q) ≡ 0 → Whole q (freshDevices q ds)
+whole-fresh : (q bit limit : ℕ) (ds : List Device) → refusalOf ds (fresh q bit limit) ≡ 0 → Whole q (freshDevices q bit limit ds)
 unfolding refusalOf freshRefusal
-whole-fresh q ds a =
-    let t = clear (freshTable q (length ds)) refl a in
+whole-fresh q bit limit ds a =
+    let t = clear (freshTable q bit limit (length ds)) refl a in
     let k = not-false (known q) (t .0) in
     let n = and-both (leb 1 (length ds)) (leb (length ds) 1023) (not-false (isCount (length ds)) (t .1 .0)) in
-    let l = length-replicate (length ds) (freshDevice q) in
+    let r = not-false (isBit bit && isLimit limit) (t .1 .1 .0) in
+    let l = length-replicate (length ds) (freshDevice q bit limit) in
     record {
       someDevice = rw l (leb-true 1 (length ds) (n .0));
       fewDevices = rw l (leb-true (length ds) 1023 (n .1));
       knownPart = k;
-      onePart = All-replicate (λ d. d .registers .part ≡ q) (length ds) (freshDevice q) refl;
-      sound = All-replicate Sound (length ds) (freshDevice q) (fresh-sound q);
+      onePart = All-replicate (λ d. d .registers .part ≡ q) (length ds) (freshDevice q bit limit) refl;
+      sound = All-replicate Sound (length ds) (freshDevice q bit limit) (fresh-sound q bit limit r);
     }
 
-sound-effect : (ds : List Device) (c : Call) → All Sound ds → All Sound (effect ds c)
-sound-effect ds (fresh q) h = All-replicate Sound (length ds) (freshDevice q) (fresh-sound q)
-sound-effect ds (run ss out) h = through-keep ds ss h
-sound-effect ds (fault device kind flag) h = set-All Sound (λ d. faulted d kind (digit flag)) (faulted-sound kind flag) ds (device - 1) blank h
+run-below : (ds : List Device) (ss out : List ℕ) → refusalOf ds (run ss out) ≡ 0 → allBelow ss 4 ≡ true
+unfolding refusalOf
+run-below ds ss out e = accepted-run ds ss (length out) (eq-eqb (runRefusal ds ss (length out)) 0 e) .below
+
+fault-sound : (ds : List Device) (device kind : ℕ) (flag : Bool) → All Sound ds → All Sound (faultDevices ds device kind flag)
+fault-sound ds device kind flag h = set-All Sound (λ d. faulted d kind (digit flag)) (faulted-sound kind flag) ds (device - 1) blank h
 
 whole-from : (p : ℕ) (ds es : List Device) → Whole p ds → length es ≡ length ds → All (λ d. d .registers .part ≡ p) es → All Sound es → Whole p es
 whole-from p ds es w l a o = record { someDevice = rw l (w .someDevice); fewDevices = rw l (w .fewDevices); knownPart = w .knownPart; onePart = a; sound = o }
 
 whole-effect : (p : ℕ) (ds : List Device) (c : Call) → Whole p ds → refusalOf ds c ≡ 0 → Whole (partBy ds p c) (effect ds c)
-whole-effect p ds (fresh q) w a = rw (eq-eqb (refusalOf ds (fresh q)) 0 a) (whole-fresh q ds a)
+whole-effect p ds (fresh q bit limit) w a = rw (eq-eqb (refusalOf ds (fresh q bit limit)) 0 a) (whole-fresh q bit limit ds a)
 whole-effect p ds (run ss out) w a =
-    whole-from p ds (runDevices ds ss) w (length-clocks stepRecord tickedDevice ds ss) (through-part p ds ss (w .onePart)) (sound-effect ds (run ss out) (w .sound))
+    whole-from p ds (runDevices ds ss) w (length-relays clockRecord ds ss) (through-part p ds ss (w .onePart)) (through-keep ds ss (w .sound) (all-below 4 ss (run-below ds ss out a)))
 whole-effect p ds (fault device kind flag) w a =
     whole-from p ds (faultDevices ds device kind flag) w (length-set ds (device - 1) _)
     (set-All (λ d. d .registers .part ≡ p) (λ d. faulted d kind (digit flag)) (λ d h. faulted-part d kind (digit flag) ∙ h) ds (device - 1) blank (w .onePart))
-    (sound-effect ds (fault device kind flag) (w .sound))
+    (fault-sound ds device kind flag (w .sound))
 
 refused-part : (ds : List Device) (p : ℕ) (c : Call) → (refusalOf ds c ≡ 0 → ⊥) → partBy ds p c ≡ p
-refused-part ds p (fresh q) e = rw (ne-eqb (refusalOf ds (fresh q)) 0 e)
+refused-part ds p (fresh q bit limit) e = rw (ne-eqb (refusalOf ds (fresh q bit limit)) 0 e)
 refused-part ds p (run ss out) e = refl
 refused-part ds p (fault device kind flag) e = refl
 
@@ -145,13 +150,13 @@ unfolding afterCalls partTold
 whole-calls p ds [] w = w
 whole-calls p ds (c ∷ cs) w = whole-calls (partBy ds p c) (after ds c) cs (whole-after p ds c w)
 
-pub whole-start : (p : ℕ) (ds : List Device) → refusalOf ds (fresh p) ≡ 0 → Whole p (after ds (fresh p))
-whole-start p ds e = rw (after-effect ds (fresh p), eq-eqb (refusalOf ds (fresh p)) 0 e) (whole-fresh p ds e)
+pub whole-start : (p bit limit : ℕ) (ds : List Device) → refusalOf ds (fresh p bit limit) ≡ 0 → Whole p (after ds (fresh p bit limit))
+whole-start p bit limit ds e = rw (after-effect ds (fresh p bit limit), eq-eqb (refusalOf ds (fresh p bit limit)) 0 e) (whole-fresh p bit limit ds e)
 
 -- no call changes the number of records
 length-effect : (ds : List Device) (c : Call) → length (effect ds c) ≡ length ds
-length-effect ds (fresh q) = length-replicate (length ds) (freshDevice q)
-length-effect ds (run ss out) = length-clocks stepRecord tickedDevice ds ss
+length-effect ds (fresh q bit limit) = length-replicate (length ds) (freshDevice q bit limit)
+length-effect ds (run ss out) = length-relays clockRecord ds ss
 length-effect ds (fault device kind flag) = length-set ds (device - 1) _
 
 pub length-after : (ds : List Device) (c : Call) → length (after ds c) ≡ length ds
@@ -165,7 +170,7 @@ length-afterCalls ds (c ∷ cs) = length-afterCalls (after ds c) cs ∙ length-a
 -- ---- runs, and calls that leave the records as they are
 
 through-nil : (ds : List Device) → through ds [] ≡ (ds, [])
-through-nil ds = run-nil (clock stepRecord tickedDevice) ds
+through-nil ds = run-nil (relayOne clockRecord) ds
 
 -- a run, accepted or refused, is a run of what it was given
 pub ran-one : (ds : List Device) (ss out : List ℕ)
@@ -179,8 +184,8 @@ ran-one ds ss out = go (eqb (runRefusal ds ss (length out)) 0) refl
     go true e = rw (take-over (returned ds ss) out)
     go false e = rw (through-nil ds)
 
-run-one : (ds : List Device) (c : Call) → RunOrKeeps ds c → _≡_ {A = List Device × List ℕ} (after ds c, answered ds c) (through ds (given ds c))
-run-one ds (fresh p) h = rw (h, through-nil ds)
+pub run-one : (ds : List Device) (c : Call) → RunOrKeeps ds c → _≡_ {A = List Device × List ℕ} (after ds c, answered ds c) (through ds (given ds c))
+run-one ds (fresh p bit limit) h = rw (h, through-nil ds)
 run-one ds (run ss out) h = ran-one ds ss out
 run-one ds (fault device kind flag) h = rw (h, through-nil ds)
 
@@ -189,11 +194,11 @@ pub ran : (ds : List Device) (cs : List Call) → Runs ds cs → _≡_ {A = List
 unfolding afterCalls answers statesGiven
 ran ds [] r = rw (through-nil ds)
 ran ds (c ∷ cs) r =
-    rw (run-append (clock stepRecord tickedDevice) ds (given ds c) (statesGiven (after ds c) cs), ← run-one ds c (r .0), ← ran (after ds c) cs (r .1))
+    rw (run-append (relayOne clockRecord) ds (given ds c) (statesGiven (after ds c) cs), ← run-one ds c (r .0), ← ran (after ds c) cs (r .1))
 
 -- during a restore and after it the part stays, and with it all that no call is refused for
 whole-ran : (p : ℕ) (ds : List Device) (c : Call) → Whole p ds → RunOrKeeps ds c → Whole p (after ds c)
-whole-ran p ds (fresh q) w r = rw r w
+whole-ran p ds (fresh q bit limit) w r = rw r w
 whole-ran p ds (run ss out) w r = whole-after p ds (run ss out) w
 whole-ran p ds (fault device kind flag) w r = rw r w
 
@@ -203,7 +208,7 @@ whole-runs p ds [] w r = w
 whole-runs p ds (c ∷ cs) w r = whole-runs p (after ds c) cs (whole-ran p ds c w (r .0)) (r .1)
 
 pub whole-settled : (p : ℕ) (ds : List Device) (c : Call) → Whole p ds → FaultOrLow ds c → Whole p (after ds c)
-whole-settled p ds (fresh q) w r = rw r w
+whole-settled p ds (fresh q bit limit) w r = rw r w
 whole-settled p ds (run ss out) w r = whole-after p ds (run ss out) w
 whole-settled p ds (fault device kind flag) w r = whole-after p ds (fault device kind flag) w
 

@@ -1,21 +1,23 @@
 -- The law of the link, `agree`: the single step of a record that fits is that of the model's device, and `keep`: it still fits. By cases on
--- the phase; the position by the lengths of the two frames, which are the same in both. One clock is `agree-tick`. Chains of records follow by
--- `clocks-view`. Assumes nothing.
+-- the phase; the position by the lengths of the two frames, which are the same in both. A clock, `clock-agree`, is `agree-tick`, the steps of all
+-- that is sent, and what the watchdog then leaves. Chains of records follow by `relays-view`. Assumes nothing.
 use mathlib.Core.Path.{_≡_, refl, sym, ap, _∙_}
 use mathlib.Core.Bool.{Bool, true, false, cond}
-use mathlib.Core.List.{List, [], _∷_, map, map-id}
+use mathlib.Core.List.{List, [], _∷_, map}
 use Prim.Native.Nat.{ℕ, zero, suc, _+_, _*_, _/_, _%_, _≤_, _<_}
 use native.Mathlib.Nat.{mod-lt}
 use native.Mathlib.Omega.{arith}
 use lib.Dec.{eqb, ltb, leb, lit<}
-use lib.ListN.{length}
+use lib.ListN.{length, getD, drop}
 use borrow.Author.Tests.{leb-true, ltb-true, ltb-false, le-ltb}
-use Rattle.parts.specs.Parts.{partOf, multiplex, fieldWidth, fieldLimit}
+use Rattle.parts.proofs.Laws.{usable}
+use Rattle.parts.proofs.Rows.{outputs-le}
+use Rattle.parts.specs.Parts.{partOf, outputs, multiplex, fieldWidth, fieldLimit}
 use Rattle.parts.specs.Wire.{State, low, high, stateAt, stateCode, header, clocked, statesOf}
 use Rattle.parts.specs.declared.command.Command.{Command}
 use Rattle.parts.specs.declared.command.Command.the-variants.{Individual, Calibration, Global, Configuration}
 use Rattle.phases.specs.Phases.{phaseOf, windowOf, heard, rising, opening, counting}
-use Rattle.registers.specs.Held.{holding, took, activated}
+use Rattle.registers.specs.Held.{holding, took, activated, cleared, withWatch}
 use Rattle.positions.specs.Positions.{lengthIn, placedAt, next, ticked, refit}
 use Rattle.storing.specs.Stored.{stored, copies}
 use Rattle.device.specs.Step.{moved, sentStates, sliceLength, step, stepHigh, singleStep, tickedDevice}
@@ -28,23 +30,28 @@ use Rattle.device.specs.declared.device.Device.{Device}
 use Rattle.device.specs.declared.device.Stepped.{Stepped}
 use Rattle.phases.proofs.Rising.{rising-small, opening-small, counting-small}
 use Rattle.tables.proofs.Booleans.{and-both, cond-both}
-use Rattle.device.proofs.Kept.{bounded, Good, phase-good, parts-of, kept, kept-ticked}
+use Rattle.device.proofs.Kept.{bounded, Good, phase-good, parts-of, kept, kept-ticked, kept-clock}
 use Rattle.device.proofs.Position.{step-position}
 use Rattle.widths.proofs.Below.{Below, below-of}
 use Rattle.model.specs.Lists.{All}
 use Rattle.calls.specs.Calls.{runDevices, returned}
 use Rattle.model.specs.Device.{slice, stepDevice}
 use Rattle.model.specs.Device as model
-use Rattle.machine.proofs.Machine.{run-view, run-sends, clocks-view, clocks-hold, clocks-keep, clocks-send}
-use Rattle.clocked.specs.Clock.{Clocked, lengthOf, tick, stepClocked, runClocked}
+use Rattle.machine.specs.Machine as machine
+use Rattle.machine.proofs.Machine.{run-view, run-sends, relays-view, relays-hold, relays-keep, relays-send}
+use Rattle.machine.proofs.Machine.{run-keeps as machine-keeps}
+use Rattle.clocked.specs.Clock.{Clocked, lengthOf, tick, stepClocked}
 use Rattle.clocked.specs.Clock as clock
-use Rattle.model.proofs.Lists.{all-below}
+use Rattle.watchdog.specs.Watched.{Watched, cleared as model-cleared, clearedIf, clockDevice, watchAfter, clockWatched, stepWatched, runWatched}
+use Rattle.model.proofs.Lists.{all-below, take-replicate}
 use Rattle.model.proofs.Wire.{codes-below, map-stateCode-stateAt, map-stateAt-stateCode}
 use Rattle.link.proofs.Numbers.{digit-bit}
-use Rattle.device.specs.Run.{stepRecord, run}
-use Rattle.link.specs.View.{registersOf, phaseIn, viewed, deviceOf, clockedOf}
-use Rattle.link.proofs.View.{Sound, seen, seen-sending, showing-phase, device-placed}
-use Rattle.link.proofs.Arrays.{step-arrays, tick-arrays}
+use Rattle.watch.specs.Watch.{watching, expired}
+use Rattle.watch.specs.declared.watch.Watch.{Watch}
+use Rattle.device.specs.Run.{stepRecord, run, underWatch, watched, clockRecord}
+use Rattle.link.specs.View.{registersOf, phaseIn, viewed, deviceOf, clockedOf, watchedOf}
+use Rattle.link.proofs.View.{Sound, seen, seen-sending, showing-phase, watch-phase, cleared-phase, configuration-same, device-placed}
+use Rattle.link.proofs.Arrays.{step-arrays, tick-arrays, clock-arrays}
 use Rattle.link.proofs.Header.{rising-same, opening-same, counting-same}
 use Rattle.link.proofs.Slice.{slice-same}
 
@@ -151,7 +158,7 @@ keep d s o = record { fit = kept d s (o .fit); arrays = step-arrays d s (o .arra
 keep-tick : (d : Device) → Sound d → Sound (tickedDevice d)
 keep-tick d o = record { fit = kept-ticked d (o .fit); arrays = tick-arrays d (o .arrays) }
 
--- ---- what no slice touches and no boundary, no clock changes
+-- ---- what no slice touches and no boundary, no line state changes
 
 module _ {A : Type 0} (f : Registers → A)
     (untouched : (r : Registers) (configuration : ℕ) (calibration : List ℕ) (waiting : ℕ) (waiting0 waiting1 slots : List ℕ)
@@ -189,20 +196,40 @@ module _ {A : Type 0} (f : Registers → A)
       anywhere _ (next (d .registers))
       ∙ cond-both (Same (d .registers)) (eqb (next (d .registers)) 0) _ _ (λ _. bounded-same (d .registers)) (λ _. refl)
 
-  pub run-keeps : (ds : List Device) (ss : List ℕ) → map (λ d. f (d .registers)) (runDevices ds ss) ≡ map (λ d. f (d .registers)) ds
-  run-keeps ds ss = clocks-keep stepRecord tickedDevice (λ d. f (d .registers)) step-keeps tick-keeps ds ss
+  -- a clock but for its end
+  pub acted-keeps : (d : Device) (sent : List ℕ) → f ((run (tickedDevice d) sent) .0 .registers) ≡ f (d .registers)
+  acted-keeps d sent = machine-keeps stepRecord (λ (e : Device). f (e .registers)) step-keeps (tickedDevice d) sent ∙ tick-keeps d
+
+  -- and if neither another watchdog nor an expiry changes it, no clock does
+  module _ (watch-same : (r : Registers) (w : Watch) → f (withWatch r w) ≡ f r) (expiry-same : (r : Registers) → f (cleared r) ≡ f r) where
+    clock-keeps : (d : Device) (sent : List ℕ) → f ((clockRecord d sent) .0 .registers) ≡ f (d .registers)
+    unfolding clockRecord watched
+    clock-keeps d sent =
+        let r : Registers = (run (tickedDevice d) sent) .0 .registers in
+        let w : Watch = watching (r .configuration) sent (r .watch) in
+        cond-both (Same r) (expired w) _ _ (λ _. expiry-same (withWatch r w) ∙ watch-same r w) (λ _. watch-same r w) ∙ acted-keeps d sent
+
+    pub run-keeps : (ds : List Device) (ss : List ℕ) → map (λ d. f (d .registers)) (runDevices ds ss) ≡ map (λ d. f (d .registers)) ds
+    run-keeps ds ss = relays-keep clockRecord (λ d. f (d .registers)) clock-keeps ds ss
+
+-- the single step leaves the watchdog alone
+pub agree-watched : (d : Device) (s : ℕ) → Sound d → (watchedOf ((stepRecord d s) .0), map stateAt ((stepRecord d s) .1)) ≡ stepWatched (watchedOf d) (stateAt s)
+unfolding stepWatched
+agree-watched d s o =
+    let k : (stepRecord d s) .0 .registers .watch ≡ d .registers .watch =
+    step-keeps (λ r. r .watch) (λ r configuration calibration waiting waiting0 waiting1 slots. refl) (λ r position. refl) (λ r. refl) d s in
+    let whole : Watch → Clocked × List State → Watched × List State = λ w y. (record { clocked = y .0; watch = w }, y .1) in
+    ap (λ (w : Watch). whole w (clockedOf ((stepRecord d s) .0), map stateAt ((stepRecord d s) .1))) k ∙ ap (whole (d .registers .watch)) (agree d s o)
 
 -- every record stays of its part
 pub through-part : (p : ℕ) (ds : List Device) (ss : List ℕ) → All (λ d. d .registers .part ≡ p) ds → All (λ d. d .registers .part ≡ p) (runDevices ds ss)
-through-part p ds ss h =
-    clocks-hold stepRecord stepRecord tickedDevice tickedDevice (λ d. d) (λ s. s) (λ d. d .registers .part ≡ p) (λ d s e. step-part d s ∙ e) (λ d s e. rw map-id)
-    (λ d e. tick-part d ∙ e) (λ d e. refl) ds ss h
+through-part p ds ss h = all-of (runDevices ds ss) ds (run-keeps (λ r. r .part) (λ r configuration calibration waiting waiting0 waiting1 slots. refl) (λ r position. refl) (λ r. refl) (λ r w. refl) (λ r. refl) ds ss) h
   where
-    step-part : (d : Device) (s : ℕ) → (stepRecord d s) .0 .registers .part ≡ d .registers .part
-    step-part d s = step-keeps (λ r. r .part) (λ r configuration calibration waiting waiting0 waiting1 slots. refl) (λ r position. refl) (λ r. refl) d s
-
-    tick-part : (d : Device) → tickedDevice d .registers .part ≡ d .registers .part
-    tick-part d = tick-keeps (λ r. r .part) (λ r configuration calibration waiting waiting0 waiting1 slots. refl) (λ r position. refl) (λ r. refl) d
+    all-of : (es fs : List Device) → map (λ d. d .registers .part) es ≡ map (λ d. d .registers .part) fs → All (λ d. d .registers .part ≡ p) fs → All (λ d. d .registers .part ≡ p) es
+    all-of [] fs e a = tt
+    all-of (x ∷ es) [] e a = absurd (omega (arith, ap (λ (l : List ℕ). length l) e))
+    all-of (x ∷ es) (y ∷ fs) e a =
+        (ap (λ (l : List ℕ). getD l 0 0) e ∙ a .0, all-of es fs (ap (λ (l : List ℕ). drop 1 l) e) (a .1))
 
 -- ---- what is sent
 
@@ -223,6 +250,67 @@ sent-below d s h = cond-both Sends (ltb s 2) _ _ (λ _. tt) (λ _. high-sends (d
     high-sends r Passing = (h, tt)
     high-sends r Lost = tt
 
+clock-sends : (d : Device) (sent : List ℕ) → All (λ x. x < 4) sent → All (λ x. x < 4) ((clockRecord d sent) .1)
+unfolding clockRecord
+clock-sends d sent a = run-sends stepRecord (λ x. x < 4) sent-below (tickedDevice d) sent a
+
+-- ---- a clock
+
+clock-keep : (d : Device) (sent : List ℕ) → Sound d → All (λ s. s < 4) sent → Sound ((clockRecord d sent) .0)
+clock-keep d sent o a = record { fit = kept-clock d sent a (o .fit); arrays = clock-arrays d sent (o .arrays) }
+
+under-watch : (r : Registers) (w : Watch) → underWatch r w .watch ≡ w
+under-watch r w = cond-both (λ (q : Registers). q .watch ≡ w) (expired w) _ _ (λ _. refl) (λ _. refl)
+
+-- its bit and its limit stay as they were told
+abbrev pub toldIn : Device → ℕ × ℕ
+toldIn d = (d .registers .watch .bit, d .registers .watch .limit)
+
+clock-told : (d : Device) (sent : List ℕ) → toldIn ((clockRecord d sent) .0) ≡ toldIn d
+unfolding clockRecord watched watching
+clock-told d sent =
+    let r : Registers = (run (tickedDevice d) sent) .0 .registers in
+    let w : Watch = watching (r .configuration) sent (r .watch) in
+    let k : r .watch ≡ d .registers .watch =
+    acted-keeps (λ q. q .watch) (λ q configuration calibration waiting waiting0 waiting1 slots. refl) (λ q position. refl) (λ q. refl) d sent in
+    ap (λ (v : Watch). (v .bit, v .limit)) (under-watch r w) ∙ ap (λ (v : Watch). (v .bit, v .limit)) k
+
+pub through-told : (ds : List Device) (ss : List ℕ) → map toldIn (runDevices ds ss) ≡ map toldIn ds
+through-told ds ss = relays-keep clockRecord toldIn clock-told ds ss
+
+-- the end of a clock, by the watchdog then
+under-same : (d : Device) (w : Watch) → clockedOf (record { registers = underWatch (d .registers) w; place = d .place }) ≡ clearedIf (expired w) (clockedOf d)
+unfolding deviceOf model-cleared
+under-same d w = go (expired w)
+  where
+    r : Registers
+    r = d .registers
+
+    go : (b : Bool) → clockedOf (record { registers = cond b (cleared (withWatch r w)) (withWatch r w); place = d .place }) ≡ clearedIf b (clockedOf d)
+    go true = rw (cleared-phase r w (phaseOf (d .place)), take-replicate (outputs (partOf (r .part))) 24 0 (outputs-le (partOf (r .part)) (usable (r .part))))
+    go false = rw (watch-phase r w (phaseOf (d .place)))
+
+-- A clock of a record is that of the model's device
+clock-agree : (d : Device) (sent : List ℕ) → Sound d → All (λ s. s < 4) sent
+    → (watchedOf ((clockRecord d sent) .0), map stateAt ((clockRecord d sent) .1)) ≡ clockWatched (watchedOf d) (map stateAt sent)
+unfolding clockRecord watched clockWatched
+clock-agree d sent o a =
+    let r : Device × List ℕ = run (tickedDevice d) sent in
+    let x : Watch = watching (r .0 .registers .configuration) sent (r .0 .registers .watch) in
+    let e : (clockedOf (r .0), map stateAt (r .1)) ≡ clockDevice (clockedOf d) (map stateAt sent) =
+    run-view stepClocked stepRecord clockedOf stateAt Sound keep agree (tickedDevice d) sent (keep-tick d o) ∙ ap (λ (c : Clocked). machine.run stepClocked c (map stateAt sent)) (agree-tick d) in
+    let k : r .0 .registers .watch ≡ d .registers .watch =
+    acted-keeps (λ q. q .watch) (λ q configuration calibration waiting waiting0 waiting1 slots. refl) (λ q position. refl) (λ q. refl) d sent in
+    let ends : Clocked → Watch → List State → Watched × List State = λ c w l. (record { clocked = clearedIf (expired w) c; watch = w }, l) in
+    let acted : Watch → Clocked × List State → Watched × List State = λ w y. ends (y .0) (watchAfter (y .0) (map stateAt sent) w) (y .1) in
+    let q : x ≡ watchAfter (clockedOf (r .0)) (map stateAt sent) (d .registers .watch) =
+    ap (λ (w : Watch). watching (r .0 .registers .configuration) sent w) k
+    ∙ ap (λ (ss : List ℕ). watching (r .0 .registers .configuration) ss (d .registers .watch)) (sym (map-stateCode-stateAt sent a))
+    ∙ ap (λ (n : ℕ). watching n (map stateCode (map stateAt sent)) (d .registers .watch)) (sym (configuration-same (r .0))) in
+    let l : (watchedOf ((clockRecord d sent) .0), map stateAt ((clockRecord d sent) .1)) ≡ ends (clockedOf (r .0)) x (map stateAt (r .1)) =
+    rw (under-same (r .0) x, under-watch (r .0 .registers) x) in
+    l ∙ ap (λ (w : Watch). ends (clockedOf (r .0)) w (map stateAt (r .1))) q ∙ ap (acted (d .registers .watch)) e
+
 -- ---- one record, and chains of records
 
 pub run-agree : (d : Device) (ss : List ℕ) → Sound d → (deviceOf ((run d ss) .0), map stateAt ((run d ss) .1)) ≡ model.runDevice (deviceOf d) (map stateAt ss)
@@ -236,16 +324,17 @@ run-sent d ls o =
     sym (map-stateCode-stateAt ((run d ss) .1) a)
     ∙ ap (λ (x : model.Device × List State). map stateCode (x .1)) (rw map-stateAt-stateCode at (run-agree d ss o))
 
-pub through-agree : (ds : List Device) (ss : List ℕ) → All Sound ds
-    → (map clockedOf (runDevices ds ss), map stateAt (returned ds ss)) ≡ runClocked (map clockedOf ds) (map stateAt ss)
-through-agree ds ss o = clocks-view stepClocked stepRecord tick tickedDevice clockedOf stateAt Sound keep agree keep-tick (λ d s. agree-tick d) ds ss o
+pub through-agree : (ds : List Device) (ss : List ℕ) → All Sound ds → All (λ s. s < 4) ss
+    → (map watchedOf (runDevices ds ss), map stateAt (returned ds ss)) ≡ runWatched (map watchedOf ds) (map stateAt ss)
+through-agree ds ss o b =
+    relays-view clockWatched clockRecord watchedOf stateAt Sound (λ s. s < 4) clock-keep (λ d sent k a. clock-sends d sent a) clock-agree ds ss o b
 
-pub through-sent : (ds : List Device) (ls : List State) → All Sound ds → returned ds (map stateCode ls) ≡ map stateCode ((runClocked (map clockedOf ds) ls) .1)
+pub through-sent : (ds : List Device) (ls : List State) → All Sound ds → returned ds (map stateCode ls) ≡ map stateCode ((runWatched (map watchedOf ds) ls) .1)
 through-sent ds ls o =
     let ss : List ℕ = map stateCode ls in
-    let a = clocks-send stepRecord (λ x. x < 4) sent-below tickedDevice ds ss (all-below 4 ss (codes-below ls)) in
+    let a = relays-send clockRecord (λ x. x < 4) clock-sends ds ss (all-below 4 ss (codes-below ls)) in
     sym (map-stateCode-stateAt (returned ds ss) a)
-    ∙ ap (λ (x : List Clocked × List State). map stateCode (x .1)) (rw map-stateAt-stateCode at (through-agree ds ss o))
+    ∙ ap (λ (x : List Watched × List State). map stateCode (x .1)) (rw map-stateAt-stateCode at (through-agree ds ss o (all-below 4 ss (codes-below ls))))
 
-pub through-keep : (ds : List Device) (ss : List ℕ) → All Sound ds → All Sound (runDevices ds ss)
-through-keep ds ss o = clocks-hold stepClocked stepRecord tick tickedDevice clockedOf stateAt Sound keep agree keep-tick (λ d s. agree-tick d) ds ss o
+pub through-keep : (ds : List Device) (ss : List ℕ) → All Sound ds → All (λ s. s < 4) ss → All Sound (runDevices ds ss)
+through-keep ds ss o b = relays-hold clockRecord Sound (λ s. s < 4) clock-keep (λ d sent k a. clock-sends d sent a) ds ss o b

@@ -32,12 +32,12 @@ module _ (kind : ℕ) where
   at-same ds es i e = sym (List·getD-map flagOf es i blank) ∙ ap (λ (l : List ℕ). getD l i (flagOf blank)) e ∙ List·getD-map flagOf ds i blank
 
   run-flags : (ds : List Device) (ss : List ℕ) → map flagOf (runDevices ds ss) ≡ map flagOf ds
-  run-flags ds ss = run-keeps (λ r. flagIn r kind) (λ r configuration calibration waiting waiting0 waiting1 slots. refl) (λ r position. refl) (λ r. refl) ds ss
+  run-flags ds ss = run-keeps (λ r. flagIn r kind) (λ r configuration calibration waiting waiting0 waiting1 slots. refl) (λ r position. refl) (λ r. refl) (λ r w. refl) (λ r. refl) ds ss
 
-  fresh-flag : (q n i : ℕ) → flagOf (getD (replicate n (freshDevice q)) i blank) ≡ 0
-  fresh-flag q zero i = cond-both (λ (f : ℕ). f ≡ 0) (eqb kind 0) _ _ (λ _. refl) (λ _. refl)
-  fresh-flag q (suc n) zero = cond-both (λ (f : ℕ). f ≡ 0) (eqb kind 0) _ _ (λ _. refl) (λ _. refl)
-  fresh-flag q (suc n) (suc i) = fresh-flag q n i
+  fresh-flag : (q bit limit n i : ℕ) → flagOf (getD (replicate n (freshDevice q bit limit)) i blank) ≡ 0
+  fresh-flag q bit limit zero i = cond-both (λ (f : ℕ). f ≡ 0) (eqb kind 0) _ _ (λ _. refl) (λ _. refl)
+  fresh-flag q bit limit (suc n) zero = cond-both (λ (f : ℕ). f ≡ 0) (eqb kind 0) _ _ (λ _. refl) (λ _. refl)
+  fresh-flag q bit limit (suc n) (suc i) = fresh-flag q bit limit n i
 
   -- a setting of that kind gives the flag, one of the other kind leaves it
   same-kind : (d : Device) (flag : ℕ) → flagOf (faulted d kind flag) ≡ flag
@@ -88,10 +88,10 @@ module _ (device kind : ℕ) (one : 1 ≤ device) (small : kind < 2) where
           rw (getD-set-other ds (n - 1) (device - 1) (faulted (getD ds (n - 1) blank) k (digit flag)) blank (λ z. x (omega arith))) h
 
   flag-after : (ds : List Device) (c : Call) (old : Bool) → device ≤ length ds → flagAt ds ≡ digit old → flagAt (after ds c) ≡ digit (flagBy ds device kind old c)
-  flag-after ds (fresh q) old l h = rw (after-effect ds (fresh q)) (go (eqb (refusalOf ds (fresh q)) 0))
+  flag-after ds (fresh q bit limit) old l h = rw (after-effect ds (fresh q bit limit)) (go (eqb (refusalOf ds (fresh q bit limit)) 0))
     where
-      go : (b : Bool) → flagAt (cond b (freshDevices q ds) ds) ≡ digit (cond b false old)
-      go true = fresh-flag kind q (length ds) (device - 1)
+      go : (b : Bool) → flagAt (cond b (freshDevices q bit limit ds) ds) ≡ digit (cond b false old)
+      go true = fresh-flag kind q bit limit (length ds) (device - 1)
       go false = h
   flag-after ds (run ss out) old l h = rw (after-effect ds (run ss out)) (go (eqb (refusalOf ds (run ss out)) 0))
     where
@@ -112,5 +112,7 @@ module _ (device kind : ℕ) (one : 1 ≤ device) (small : kind < 2) where
   flag-calls ds (c ∷ cs) old l h = flag-calls (after ds c) cs (flagBy ds device kind old c) (rw (length-after ds c) l) (flag-after ds c old l h)
 
 -- a fresh chain has no flag up
-pub flag-start : (p : ℕ) (records : List Device) (device kind : ℕ) → refusalOf records (fresh p) ≡ 0 → flagIn (getD (after records (fresh p)) (device - 1) blank .registers) kind ≡ 0
-flag-start p records device kind e = rw (after-effect records (fresh p), eq-eqb (refusalOf records (fresh p)) 0 e) (fresh-flag kind p (length records) (device - 1))
+pub flag-start : (p bit limit : ℕ) (records : List Device) (device kind : ℕ) → refusalOf records (fresh p bit limit) ≡ 0
+    → flagIn (getD (after records (fresh p bit limit)) (device - 1) blank .registers) kind ≡ 0
+flag-start p bit limit records device kind e =
+    rw (after-effect records (fresh p bit limit), eq-eqb (refusalOf records (fresh p bit limit)) 0 e) (fresh-flag kind p bit limit (length records) (device - 1))

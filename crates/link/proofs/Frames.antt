@@ -72,7 +72,7 @@ module _ {s : Set} {tail : Command → Tail} (w : Writable s tail) where
     abbrev piece : Command → Piece
     piece c = pieceOf (partOf (s .part)) (owned s) edge gap (tailsOf tail) c
 
-    part-states : (c : Command) → framePart s edge gap tail c ≡ map stateCode (pieceStates (piece c))
+    pub part-states : (c : Command) → framePart s edge gap tail c ≡ map stateCode (pieceStates (piece c))
     unfolding framePart pieceStates frameStates
     part-states c =
         ap (λ (l : List ℕ). map stateCode (lows (gap c)) ++ l) (writtenFrame-states (edge c) c)

@@ -8,5 +8,7 @@ pub mod Device
 pub mod Calls
 pub mod Modelled
 pub mod Flags
+pub mod Told
 pub mod Frames
+pub mod Expiry
 pub mod Records

@@ -22,14 +22,14 @@ use Rattle.device.specs.declared.device.Device.{Device}
 use Rattle.tables.proofs.Booleans.{and-both, cond-both}
 use Rattle.calls.specs.Chain.{allFit, blank}
 use Rattle.calls.specs.Calls.{runRefusal, runDevices, returned}
-use Rattle.calls.proofs.Accepted.{accepted-run}
+use Rattle.calls.proofs.Accepted.{Accepted, accepted-run}
 use Rattle.calls.specs.History.{Call, fresh, run, fault, refusalOf, effect, after, given, answered}
 use Rattle.model.specs.Lists.{All}
-use Rattle.model.proofs.Lists.{take-replicate}
+use Rattle.model.proofs.Lists.{take-replicate, all-below}
 use Rattle.model.specs.Device as model
-use Rattle.clocked.specs.Clock.{Clocked}
-use Rattle.link.specs.View.{registersOf, phaseIn, deviceOf, clockedOf, Arrays}
-use Rattle.link.specs.Called.{flagSet, called}
+use Rattle.watchdog.specs.Watched.{Watched}
+use Rattle.link.specs.View.{registersOf, phaseIn, deviceOf, clockedOf, watchedOf, Arrays}
+use Rattle.link.specs.Called.{flagSet, flagWatched, called}
 use Rattle.link.proofs.View.{Sound, showing-phase}
 use Rattle.link.proofs.Device.{through-agree}
 use Rattle.link.proofs.Calls.{after-effect, ran-one}
@@ -40,9 +40,9 @@ one-digit false = refl
 
 -- ---- a fresh device
 
-fresh-same : (part : ℕ) → deviceOf (freshDevice part) ≡ model.freshDevice (partOf part)
+fresh-same : (part bit limit : ℕ) → deviceOf (freshDevice part bit limit) ≡ model.freshDevice (partOf part)
 unfolding deviceOf
-fresh-same part =
+fresh-same part bit limit =
     let p = partOf part in
     let u = usable part in
     rw (take-replicate (p .banks) 3 0 (u .fewBanks), take-replicate (outputs p) 24 0 (outputs-le p u))
@@ -79,6 +79,9 @@ flagged-phase r kind flag p =
 flagged-position : (r : Registers) (kind flag : ℕ) → (flagged r kind flag) .position ≡ r .position
 flagged-position r kind flag = cond-both (λ (q : Registers). q .position ≡ r .position) (eqb kind 0) _ _ (λ _. refl) (λ _. refl)
 
+flagged-watch : (r : Registers) (kind flag : ℕ) → (flagged r kind flag) .watch ≡ r .watch
+flagged-watch r kind flag = cond-both (λ (q : Registers). q .watch ≡ r .watch) (eqb kind 0) _ _ (λ _. refl) (λ _. refl)
+
 pub fault-same : (d : Device) (kind : ℕ) (flag : Bool) → clockedOf (faulted d kind (digit flag)) ≡ flagSet kind flag (clockedOf d)
 unfolding deviceOf
 fault-same d kind flag =
@@ -88,6 +91,9 @@ fault-same d kind flag =
       flagged-position (d .registers) kind (digit flag),
     )
 
+pub fault-watched : (d : Device) (kind : ℕ) (flag : Bool) → watchedOf (faulted d kind (digit flag)) ≡ flagWatched kind flag (watchedOf d)
+fault-watched d kind flag = rw (fault-same d kind flag, flagged-watch (d .registers) kind (digit flag))
+
 set-map : {A B : Type 0} (f : A → B) (xs : List A) (i : ℕ) (x : A) → map f (set xs i x) ≡ set (map f xs) i (f x)
 set-map f [] i x = refl
 set-map f (y ∷ ys) zero x = refl
@@ -96,7 +102,7 @@ set-map f (y ∷ ys) (suc i) x = rw (set-map f ys i x)
 -- ---- every accepted call
 
 -- records that fit and whose arrays have their lengths
-all-sound : (ds : List Device) → allFit ds ≡ true → All Arrays ds → All Sound ds
+pub all-sound : (ds : List Device) → allFit ds ≡ true → All Arrays ds → All Sound ds
 all-sound [] e h = tt
 all-sound (d ∷ ds) e h = let f = and-both (fits d) (allFit ds) e in (record { fit = f .0; arrays = h .0 }, all-sound ds (f .1) (h .1))
 
@@ -104,27 +110,33 @@ accepted-given : (ds : List Device) (ss out : List ℕ) → refusalOf ds (run ss
 unfolding refusalOf
 accepted-given ds ss out e = rw (eq-eqb (runRefusal ds ss (length out)) 0 e)
 
-accepted-fit : (ds : List Device) (ss out : List ℕ) → refusalOf ds (run ss out) ≡ 0 → allFit ds ≡ true
-unfolding refusalOf
-accepted-fit ds ss out e = accepted-run ds ss (length out) (eq-eqb (runRefusal ds ss (length out)) 0 e) .fit
-
 accepted-after : (ds : List Device) (c : Call) → refusalOf ds c ≡ 0 → after ds c ≡ effect ds c
 accepted-after ds c e = after-effect ds c ∙ rw (eq-eqb (refusalOf ds c) 0 e)
 
+accepted-of : (ds : List Device) (ss out : List ℕ) → refusalOf ds (run ss out) ≡ 0 → Accepted ds ss (length out)
+unfolding refusalOf
+accepted-of ds ss out e = accepted-run ds ss (length out) (eq-eqb (runRefusal ds ss (length out)) 0 e)
+
 pub call-same : (ds : List Device) (c : Call) → All Arrays ds → refusalOf ds c ≡ 0
-    → _≡_ {A = List Clocked × List State} (map clockedOf (after ds c), map stateAt (answered ds c)) (called (map clockedOf ds) c)
-call-same ds (fresh part) a e =
-    rw (accepted-after ds (fresh part) e, length-map, replicate-map clockedOf (length ds) (freshDevice part), fresh-same part)
+    → _≡_ {A = List Watched × List State} (map watchedOf (after ds c), map stateAt (answered ds c)) (called (map watchedOf ds) c)
+call-same ds (fresh part bit limit) a e =
+    rw (
+      accepted-after ds (fresh part bit limit) e,
+      length-map,
+      replicate-map watchedOf (length ds) (freshDevice part bit limit),
+      fresh-same part bit limit,
+    )
 call-same ds (run ss out) a e =
     let f = accepted-given ds ss out e in
     let x = ran-one ds ss out in
-    ap (λ (y : List Device × List ℕ). (map clockedOf (y .0), map stateAt (y .1))) x
-    ∙ ap (λ (zs : List ℕ). (map clockedOf (runDevices ds zs), map stateAt (returned ds zs))) f
-    ∙ through-agree ds ss (all-sound ds (accepted-fit ds ss out e) a)
+    let w : Accepted ds ss (length out) = accepted-of ds ss out e in
+    ap (λ (y : List Device × List ℕ). (map watchedOf (y .0), map stateAt (y .1))) x
+    ∙ ap (λ (zs : List ℕ). (map watchedOf (runDevices ds zs), map stateAt (returned ds zs))) f
+    ∙ through-agree ds ss (all-sound ds (w .fit) a) (all-below 4 ss (w .below))
 call-same ds (fault device kind flag) a e =
     rw (
       accepted-after ds (fault device kind flag) e,
-      set-map clockedOf ds (device - 1) (faulted (getD ds (device - 1) blank) kind (digit flag)),
-      fault-same (getD ds (device - 1) blank) kind flag,
-      List·getD-map clockedOf ds (device - 1) blank,
+      set-map watchedOf ds (device - 1) (faulted (getD ds (device - 1) blank) kind (digit flag)),
+      fault-watched (getD ds (device - 1) blank) kind flag,
+      List·getD-map watchedOf ds (device - 1) blank,
     )

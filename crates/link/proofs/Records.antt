@@ -1,10 +1,10 @@
 -- Records through the view: the registers of a lent chain are those of the model's chain, and so are positions in range. What is due after a
--- restore comes nearer by every low clock, and a fault setting leaves it, by induction on the calls. What a whole chain sends is taken frame by
+-- restore comes nearer by every low clock in which no watchdog expires, and a fault setting leaves it, by induction on the calls. What a whole chain sends is taken frame by
 -- frame. Assumes nothing.
 use mathlib.Core.Path.{_≡_, refl, sym, ap, subst, _∙_}
 use mathlib.Core.Bool.{Bool, true}
 use mathlib.Core.List.{List, [], _∷_, _++_, map}
-use Prim.Native.Nat.{ℕ, zero, suc, _-_, _%_}
+use Prim.Native.Nat.{ℕ, zero, suc, _-_, _%_, _≤_, _<_}
 use native.Mathlib.Omega.{arith}
 use lib.Dec.{eqb}
 use lib.ListN.{length, length-map, length-append, take, getD, set}
@@ -23,17 +23,18 @@ use Rattle.widths.proofs.Below.{below-head}
 use Rattle.calls.specs.Chain.{blank}
 use Rattle.calls.specs.Calls.{faultRefusal, runDevices}
 use Rattle.calls.specs.History.{Call, fresh, run, fault, after, afterCalls, given, statesGiven, FaultOrLow, Settles}
+use Rattle.calls.specs.Expiry.{CalmFrom, CalmCalls}
 use Rattle.model.specs.Lists.{All, Pairwise}
 use Rattle.model.specs.Device.{registersIn}
 use Rattle.model.specs.Device as model
 use Rattle.model.specs.Set.{Own, OwnProper}
 use Rattle.model.specs.Restore.{Piece, RegistersHold}
 use Rattle.model.proofs.Restore.{sendPiece, sendPieces, Ready}
-use Rattle.clocked.specs.Clock.{Clocked, lengthIn, Placed, runClocked, devicesIn}
+use Rattle.clocked.specs.Clock.{lengthIn, Placed, runClocked, devicesIn}
 use Rattle.clocked.proofs.Restored.{DueIn, due-low, due-faulted}
 use Rattle.link.specs.View.{deviceOf, clockedOf, registersAll, Holds}
 use Rattle.link.proofs.View.{Sound}
-use Rattle.link.proofs.Device.{through-agree}
+use Rattle.link.proofs.Expiry.{calm-seen}
 use Rattle.link.proofs.Calls.{Whole, whole-settled, ran-one}
 use Rattle.link.proofs.Modelled.{fault-same}
 
@@ -75,6 +76,10 @@ map-stateAt-low : (ss : List ℕ) → allBelow ss 2 ≡ true → map stateAt ss 
 map-stateAt-low [] h = refl
 map-stateAt-low (s ∷ ss) h = let t = below-head s ss 2 h in rw (lt-ltb s 2 (t .0), map-stateAt-low ss (t .1))
 
+low-below : (ss : List ℕ) → allBelow ss 2 ≡ true → All (λ s. s < 4) ss
+low-below [] h = tt
+low-below (s ∷ ss) h = let t = below-head s ss 2 h in (omega (arith, t .0), low-below ss (t .1))
+
 -- no clock
 none-less : (m : ℕ) → m - 0 ≡ m
 none-less m = omega arith
@@ -84,11 +89,12 @@ module _ (os : List Own) where
   abbrev pub Due : ℕ → List Device → Type 0
   Due m ds = Pairwise (DueIn m) os (map clockedOf ds)
 
-  -- low states
-  low-due : (m : ℕ) (ds : List Device) (ss : List ℕ) → All Sound ds → allBelow ss 2 ≡ true → Due m ds → Due (m - length ss) (runDevices ds ss)
-  low-due m ds ss o l h =
+  -- low states in which no device expires
+  pub low-due : (from : ℕ → ℕ) → ((device : ℕ) → from device ≤ 1) → (m : ℕ) (ds : List Device) (ss : List ℕ) → All Sound ds → allBelow ss 2 ≡ true → CalmFrom from ds ss → Due m ds
+      → Due (m - length ss) (runDevices ds ss)
+  low-due from f m ds ss o l calm h =
       let e : map clockedOf (runDevices ds ss) ≡ (runClocked (map clockedOf ds) (lows (lowBits ss))) .0 =
-      ap (λ (x : List Clocked × List State). x .0) (through-agree ds ss o) ∙ ap (λ (ls : List State). (runClocked (map clockedOf ds) ls) .0) (map-stateAt-low ss l) in
+      calm-seen ds ss o (low-below ss l) from f calm ∙ ap (λ (ls : List State). (runClocked (map clockedOf ds) ls) .0) (map-stateAt-low ss l) in
       rw (e, ← length-map ss (λ (s : ℕ). eqb (s % 2) 1)) (due-low m (lowBits ss) os (map clockedOf ds) h)
 
   -- a fault setting
@@ -100,23 +106,26 @@ module _ (os : List Own) where
       (subst (DueIn m o) (sym (fault-same d kind flag)) (due-faulted m kind flag o (clockedOf d) (h .0)), h .1)
   set-due m kind flag (o ∷ us) (d ∷ ds) (suc i) z h = (h .0, set-due m kind flag us ds i z (h .1))
 
-  settled-due : (p m : ℕ) (ds : List Device) (c : Call) → Whole p ds → FaultOrLow ds c → Due m ds → Due (m - length (given ds c)) (after ds c)
+  settled-due : (from : ℕ → ℕ) → ((device : ℕ) → from device ≤ 1) → (p m : ℕ) (ds : List Device) (c : Call) → Whole p ds → FaultOrLow ds c → CalmFrom from ds (given ds c)
+      → Due m ds → Due (m - length (given ds c)) (after ds c)
   unfolding after
-  settled-due p m ds (fresh part) w r h = rw (r, none-less m) h
-  settled-due p m ds (run ss out) w r h =
+  settled-due from f p m ds (fresh part bit limit) w r calm h = rw (r, none-less m) h
+  settled-due from f p m ds (run ss out) w r calm h =
       subst (Due (m - length (given ds (run ss out)))) (sym (ap (λ (x : List Device × List ℕ). x .0) (ran-one ds ss out)))
-      (low-due m ds (given ds (run ss out)) (w .sound) r h)
-  settled-due p m ds (fault device kind flag) w r h =
+      (low-due from f m ds (given ds (run ss out)) (w .sound) r calm h)
+  settled-due from f p m ds (fault device kind flag) w r calm h =
       rw (none-less m) (cond-both (Due m) (eqb (faultRefusal ds device kind) 0) _ _ (λ _. set-due m kind flag os ds (device - 1) blank h) (λ _. h))
 
-  pub settles-due : (p m : ℕ) (ds : List Device) (cs : List Call) → Whole p ds → Settles ds cs → Due m ds → Due (m - length (statesGiven ds cs)) (afterCalls ds cs)
+  pub settles-due : (from : ℕ → ℕ) → ((device : ℕ) → from device ≤ 1) → (p m : ℕ) (ds : List Device) (cs : List Call) → Whole p ds → Settles ds cs → CalmCalls from ds cs
+      → Due m ds → Due (m - length (statesGiven ds cs)) (afterCalls ds cs)
   unfolding afterCalls statesGiven
-  settles-due p m ds [] w r h = rw (none-less m) h
-  settles-due p m ds (c ∷ cs) w r h =
+  settles-due from f p m ds [] w r calm h = rw (none-less m) h
+  settles-due from f p m ds (c ∷ cs) w r calm h =
       let n : m - length (given ds c) - length (statesGiven (after ds c) cs) ≡ m - length (given ds c ++ statesGiven (after ds c) cs) =
       omega (arith, length-append (given ds c) (statesGiven (after ds c) cs)) in
       subst (λ (k : ℕ). Due k (afterCalls (after ds c) cs)) n
-      (settles-due p (m - length (given ds c)) (after ds c) cs (whole-settled p ds c w (r .0)) (r .1) (settled-due p m ds c w (r .0) h))
+      (settles-due (λ device. from device - length (given ds c)) (λ device. omega (arith, f device)) p (m - length (given ds c)) (after ds c) cs (whole-settled p ds c w (r .0)) (r .1)
+      (calm .1) (settled-due from f p m ds c w (r .0) (calm .0) h))
 
 -- ---- what a whole chain sends
 

@@ -10,7 +10,8 @@ use Rattle.phases.specs.Phases.{phaseOf}
 use Rattle.phases.specs.declared.phase.Phase.{Phase}
 use Rattle.phases.specs.declared.phase.Phase.the-variants.{Hunting, Opening, Counting, Slice, Passing, Lost}
 use Rattle.positions.specs.Positions.{placedAt}
-use Rattle.registers.specs.Held.{showing}
+use Rattle.registers.specs.Held.{showing, cleared, withWatch}
+use Rattle.watch.specs.declared.watch.Watch.{Watch}
 use Rattle.phases.specs.declared.phase.Sent.{Sent}
 use Rattle.registers.specs.declared.registers.Registers.{Registers}
 use Rattle.device.specs.declared.device.Device.{Device}
@@ -47,6 +48,29 @@ showing-phase r overtemperature openled active active0 active1 (Counting c read)
 showing-phase r overtemperature openled active active0 active1 (Slice c n t) = refl
 showing-phase r overtemperature openled active active0 active1 Passing = refl
 showing-phase r overtemperature openled active active0 active1 Lost = refl
+
+-- the watchdog
+pub watch-phase : (r : Registers) (w : Watch) (p : Phase) → phaseIn (withWatch r w) p ≡ phaseIn r p
+watch-phase r w (Hunting window) = refl
+watch-phase r w (Opening read) = refl
+watch-phase r w (Counting c read) = refl
+watch-phase r w (Slice c n t) = refl
+watch-phase r w Passing = refl
+watch-phase r w Lost = refl
+
+-- what an expiry clears
+pub cleared-phase : (r : Registers) (w : Watch) (p : Phase) → phaseIn (cleared (withWatch r w)) p ≡ phaseIn r p
+cleared-phase r w (Hunting window) = refl
+cleared-phase r w (Opening read) = refl
+cleared-phase r w (Counting c read) = refl
+cleared-phase r w (Slice c n t) = refl
+cleared-phase r w Passing = refl
+cleared-phase r w Lost = refl
+
+-- the configuration that is seen
+pub configuration-same : (d : Device) → deviceOf d .registers .configuration ≡ d .registers .configuration
+unfolding deviceOf
+configuration-same d = refl
 
 -- the position
 placed-phase : (r : Registers) (n : ℕ) (p : Phase) → phaseIn (placedAt r n) p ≡ phaseIn r p

@@ -1,5 +1,5 @@
 -- A record seen as a device of the model: what its part uses of its registers, field by field, its phase with the bits that have come as a list,
--- and its position. A record keeps the command bits and the count bits as a number after a leading one, and the bits of a slice in the slice's
+-- its position, and its watchdog. A record keeps the command bits and the count bits as a number after a leading one, and the bits of a slice in the slice's
 -- fields.
 use mathlib.Core.Path.{_≡_}
 use mathlib.Core.Bool.{Bool, cond}
@@ -22,6 +22,7 @@ use Rattle.model.specs.Device as model
 use Rattle.model.specs.Set.{Own}
 use Rattle.model.specs.Restore.{RegistersHold}
 use Rattle.clocked.specs.Clock.{Clocked}
+use Rattle.watchdog.specs.Watched.{Watched}
 
 -- ---- bits as a record keeps them
 
@@ -62,13 +63,17 @@ phaseIn r Lost = lost
 abbrev pub viewed : Registers → Phase → model.Device
 viewed r p = model.at (registersOf r) (phaseIn r p)
 
--- the whole record but for its position
+-- the whole record but for its position and its watchdog
 unfoldable pub deviceOf : Device → model.Device
 deviceOf d = viewed (d .registers) (phaseOf (d .place))
 
--- the whole record
+-- the whole record but for its watchdog
 abbrev pub clockedOf : Device → Clocked
 clockedOf d = record { device = deviceOf d; position = d .registers .position }
+
+-- the whole record
+abbrev pub watchedOf : Device → Watched
+watchedOf d = record { clocked = clockedOf d; watch = d .registers .watch }
 
 -- arrays with the lengths that their types say
 pub record Sizes (r : Registers) : Type 0 where

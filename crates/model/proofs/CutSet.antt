@@ -23,7 +23,7 @@ use Rattle.model.proofs.Restore.{Ready, Configured, Calibrated, GlobalW
 use Rattle.model.proofs.Cut.{cutAll, cutPieces, FitsAll, cut-at, cut-pieces, length-cut, length-states}
 use Rattle.tables.proofs.Booleans.{cond-and}
 
-mux0-own : (m : Bool) (vs : List ℕ) (v : Values) → (withIndividual m vs v) .mux0 ≡ cond m (evens vs) vs
+pub mux0-own : (m : Bool) (vs : List ℕ) (v : Values) → (withIndividual m vs v) .mux0 ≡ cond m (evens vs) vs
 mux0-own true vs v = refl
 mux0-own false vs v = refl
 

@@ -32,6 +32,7 @@ placedAt r position =
       active1 = r .active1;
       slice = r .slice;
       position = position;
+      watch = r .watch;
     }
 
 -- the position one clock later

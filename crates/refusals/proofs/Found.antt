@@ -31,9 +31,9 @@ rows-found ds f =
     ∙ ap (λ (b : Bool). first (rowsWith (allKnown ds) b (length ds) (f (judgedFrom unjudged ds .fits)))) (same-found ds)
     ∙ ap (λ (b : Bool). first (rowsWith (allKnown ds) (sameParts ds) (length ds) (f b))) (fits-found unjudged ds)
 
-pub fresh-refusal-found : (part n : ℕ) → first (freshTable part n) ≡ freshRefusal part n
+pub fresh-refusal-found : (part bit limit n : ℕ) → first (freshTable part bit limit n) ≡ freshRefusal part bit limit n
 unfolding freshRefusal
-fresh-refusal-found part n = refl
+fresh-refusal-found part bit limit n = refl
 
 pub run-refusal-found : (ds : List Device) (ss : List ℕ) (room : ℕ) → first (runRows (judgedFrom unjudged ds) (length ds) ss room) ≡ runRefusal ds ss room
 unfolding runRefusal

@@ -6,6 +6,7 @@ ghost use Rattle.tables.specs.Lists.{allBelow};
 ghost use Rattle.tables.specs.Refusals.{first};
 ghost use Rattle.calls.specs.Calls.{freshTable, roomFor};
 ghost use Rattle.parts.specs.Parts.{partOf, outputs};
+ghost use Rattle.watch.specs.Watch.{isBit, isLimit};
 ghost use Rattle.refusals.specs.Rows.{judgedRows, runRows, isDevice, faultRows, outputRows};
 use judgement::Judged;
 
@@ -24,13 +25,23 @@ pub fn run_refusal(judged: Judged, n: usize, states: &[u8], room: usize) -> u8
 }
 
 // A call for a fresh chain.
-pub fn fresh_refusal(part: u16, n: usize) -> u8
-    ensures { λ r. ⌜ r ≡ first (freshTable part n) ⌝ }
+pub fn fresh_refusal(part: u16, bit: u8, limit: u32, n: usize) -> u8
+    ensures { λ r. ⌜ r ≡ first (freshTable part bit limit n) ⌝ }
 {
     if !parts::is_known(part) {
         return 1;
     }
-    if parts::is_count(n) { 0 } else { 2 }
+    if !parts::is_count(n) {
+        return 2;
+    }
+    if watchdog_fits(bit, limit) { 0 } else { 13 }
+}
+
+// A watchdog may have such a bit, and such a limit.
+fn watchdog_fits(bit: u8, limit: u32) -> bool
+    ensures { λ r. ⌜ r ≡ (isBit bit && isLimit limit) ⌝ }
+{
+    watch::is_bit(bit) && watch::is_limit(limit)
 }
 
 // A fault setting.

@@ -1,5 +1,5 @@
--- What a device holds: its registers, a bit going into the slice, the count sent on, waiting values that become active, a fault setting, and the registers of
--- a fresh device.
+-- What a device holds: its registers, a bit going into the slice, the count sent on, waiting values that become active, a fault setting, an expiry of
+-- its watchdog, and the registers of a fresh device.
 use Prim.Native.Nat.{ℕ, _+_, _%_}
 use mathlib.Core.Bool.{cond}
 use mathlib.Core.List.{List}
@@ -9,6 +9,7 @@ use Rattle.parts.specs.Parts.{partOf, outputs}
 use Rattle.parts.specs.declared.command.Command.{Command}
 use Rattle.parts.specs.declared.command.Command.the-variants.{Individual, Calibration, Global, Configuration}
 use Rattle.phases.specs.Phases.{pushed}
+use Rattle.watch.specs.declared.watch.Watch.{Watch}
 use Rattle.registers.specs.declared.registers.Registers.{Registers}
 
 -- the registers with a new configuration, calibration, waiting global byte, waiting values and slice, and all else as it was
@@ -28,6 +29,7 @@ holding r configuration calibration waiting waiting0 waiting1 slice =
       active1 = r .active1;
       slice = slice;
       position = r .position;
+      watch = r .watch;
     }
 
 -- the registers with another slice coming in
@@ -76,6 +78,7 @@ showing r overtemperature openled active active0 active1 =
       active1 = active1;
       slice = r .slice;
       position = r .position;
+      watch = r .watch;
     }
 
 -- waiting values become active
@@ -88,9 +91,49 @@ flagged r kind flag =
     cond (eqb kind 0) (showing r flag (r .openled) (r .active) (r .active0) (r .active1))
     (showing r (r .overtemperature) flag (r .active) (r .active0) (r .active1))
 
--- zeros and no faults
-abbrev pub zeros : ℕ → Registers
-zeros part =
+-- an expiry of the watchdog: every individual value becomes 0, waiting and active, MUX1 too, and nothing else changes
+abbrev pub cleared : Registers → Registers
+cleared r =
+    record {
+      part = r .part;
+      overtemperature = r .overtemperature;
+      openled = r .openled;
+      configuration = r .configuration;
+      calibration = r .calibration;
+      waiting = r .waiting;
+      active = r .active;
+      waiting0 = replicate 24 0;
+      waiting1 = replicate 24 0;
+      active0 = replicate 24 0;
+      active1 = replicate 24 0;
+      slice = r .slice;
+      position = r .position;
+      watch = r .watch;
+    }
+
+-- the registers with another watchdog
+abbrev pub withWatch : Registers → Watch → Registers
+withWatch r w =
+    record {
+      part = r .part;
+      overtemperature = r .overtemperature;
+      openled = r .openled;
+      configuration = r .configuration;
+      calibration = r .calibration;
+      waiting = r .waiting;
+      active = r .active;
+      waiting0 = r .waiting0;
+      waiting1 = r .waiting1;
+      active0 = r .active0;
+      active1 = r .active1;
+      slice = r .slice;
+      position = r .position;
+      watch = w;
+    }
+
+-- zeros, no faults, and a watchdog
+abbrev pub zeros : ℕ → Watch → Registers
+zeros part w =
     record {
       part = part;
       overtemperature = 0;
@@ -105,4 +148,5 @@ zeros part =
       active1 = replicate 24 0;
       slice = replicate 48 0;
       position = 0;
+      watch = w;
     }

@@ -3,8 +3,9 @@ ghost use mathlib.Core.Path.{_≡_};
 ghost use Prim.Native.Nat.{_+_, _*_, _/_, _<_};
 ghost use Rattle.parts.specs.Parts.{partOf, fieldWidth, fieldLimit};
 ghost use Rattle.phases.specs.Phases.{pushed};
-ghost use Rattle.registers.specs.Held.{took, fault, raised, flagged, zeros};
+ghost use Rattle.registers.specs.Held.{took, fault, raised, flagged, cleared, zeros};
 use parts::Command;
+use watch::Watch;
 
 #[repr(C)]
 pub struct Registers {
@@ -23,6 +24,7 @@ pub struct Registers {
     pub slice: [u16; 48],
     // Its position in the frame, in clocks.
     pub position: u64,
+    pub watch: Watch,
 }
 
 // The count sent on.
@@ -100,9 +102,21 @@ impl Registers {
         next
     }
 
-    // Zeros and no faults.
-    pub fn zero(part: u16) -> Registers
-        ensures { λ r. ⌜ r ≡ zeros part ⌝ }
+    // Every individual value becomes 0.
+    pub fn clear(self) -> Registers
+        ensures { λ r. ⌜ r ≡ cleared self ⌝ }
+    {
+        let mut next = self;
+        next.waiting0 = [0u16; 24];
+        next.waiting1 = [0u16; 24];
+        next.active0 = [0u16; 24];
+        next.active1 = [0u16; 24];
+        next
+    }
+
+    // Zeros, no faults, and a watchdog.
+    pub fn zero(part: u16, watch: Watch) -> Registers
+        ensures { λ r. ⌜ r ≡ zeros part watch ⌝ }
     {
         Registers {
             part,
@@ -118,6 +132,7 @@ impl Registers {
             active1: [0u16; 24],
             slice: [0u16; 48],
             position: 0,
+            watch,
         }
     }
 }

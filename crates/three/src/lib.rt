@@ -9,12 +9,12 @@ ghost use Rattle.cursor.specs.Answer.{runAnswer};
 use cursor::Ran;
 use device::Device;
 
-// A fresh chain, whatever the records hold.
-pub fn fresh_three(chain: [Device; 3], part: u16) -> [Device; 3]
-    ensures { λ r. ⌜ r ≡ freshAfter part chain ⌝ }
+// A fresh chain, told its part and the bit and the limit of its watchdogs, whatever the records hold.
+pub fn fresh_three(chain: [Device; 3], part: u16, bit: u8, limit: u32) -> [Device; 3]
+    ensures { λ r. ⌜ r ≡ freshAfter part bit limit chain ⌝ }
 {
     let mut lent = chain;
-    chain::bb_fresh(&mut lent, part);
+    chain::bb_fresh(&mut lent, part, bit, limit);
     lent
 }
 

@@ -1,9 +1,11 @@
--- What an enum is in the `else` of an `if let`, or under `_`: the tag says which cases are left. Assumes nothing.
+-- What an enum is in the `else` of an `if let`, or under `_`: the tag says which cases are left. And what a device's
+-- watchdog makes of a turn, put together from its parts. Assumes nothing.
 use mathlib.Core.Path.{_≡_, refl, ap}
-use mathlib.Core.Bool.{false}
+use mathlib.Core.Bool.{Bool, true, false, _||_}
 use mathlib.Core.List.{List, [], _∷_}
 use mathlib.Core.Logic.{⊎-elim}
-use Prim.Native.Nat.{ℕ, _+_}
+use Prim.Native.Nat.{ℕ, _+_, _-_}
+use lib.ListN.{take, drop}
 use native.Mathlib.Omega.{arith}
 use types.Run.{OneOf}
 use denote.Enum.Declared.{tagOf}
@@ -15,6 +17,15 @@ use Rattle.device.specs.declared.device.Device.{Device}
 use Rattle.phases.specs.Phases.{phaseOf}
 use Rattle.phases.proofs.phase.Phase as P
 use Rattle.phases.proofs.phase.Sent as S
+use Rattle.registers.specs.Held.{withWatch}
+use Rattle.watch.specs.Kept.{watchBy, expiredBy, listened}
+use Rattle.watch.specs.declared.watch.Watch.{Watch}
+use Rattle.watch.specs.declared.kept.Listened.{Listened}
+use Rattle.intake.specs.Intake.{stopped, settled}
+use Rattle.intake.specs.declared.taken.Taken.{Taken}
+use Rattle.intake.specs.declared.taken.Progress.{Progress}
+use Rattle.turns.specs.Watching.{isOn, clearedDevice, reached, heardTo, lateBy, overheard, onward, hearing, watchedTaken, watchedBy}
+use Rattle.turns.specs.Ending.{byClockDevice, shownWith}
 use Rattle.turns.specs.Front.{isLost, phaseRun, phaseTaken, afterHeader, lowTaken, frontAfter, leaveCursor, leaving, passedTo}
 use Rattle.turns.specs.declared.front.PhaseRun.{PhaseRun}
 use Rattle.cursor.specs.declared.cursor.Cursor.{Cursor}
@@ -39,6 +50,44 @@ pub leaving-none : (p : Sent) (ss : List ℕ) → NoHeader p → leaving Nothing
 leaving-none Nothing ss h = refl
 leaving-none (One s) ss h = refl
 leaving-none (Header k n) ss h = absurd (not-last h)
+
+-- what a watchdog hears where no header is under way, or none is sent
+
+pub reached-none : (p : Sent) (on : Bool) (t : ℕ) (w : Watch) → NoHeader p → _≡_ {A = Listened} (record { watch = w; expired = false }) (reached p on t w)
+reached-none Nothing on t w h = refl
+reached-none (One s) on t w h = refl
+reached-none (Header c n) on t w h = absurd (not-last h)
+
+pub heardTo-none : (q : Sent) (to : ℕ) → NoHeader q → to ≡ heardTo q to
+heardTo-none Nothing to h = refl
+heardTo-none (One s) to h = refl
+heardTo-none (Header c n) to h = absurd (not-last h)
+
+pub lateBy-none : (q : Sent) (on : Bool) (to : ℕ) (w : Watch) → NoHeader q → false ≡ lateBy q on to w
+lateBy-none Nothing on to w h = refl
+lateBy-none (One s) on to w h = refl
+lateBy-none (Header c n) on to w h = absurd (not-last h)
+
+-- what it hears, and the whole turn, from their parts
+
+pub overheard-is : (p q : Sent) (on : Bool) (ss : List ℕ) (at to : ℕ) (w : Watch) {a b : Listened} {n : ℕ} {l x : Bool} → a ≡ reached p on at w → n ≡ heardTo q to → b ≡ listened on at (take (n - at) (drop at ss)) (a .watch) → l ≡ lateBy q on to (b .watch) → x ≡ (a .expired || (b .expired || l)) → _≡_ {A = Listened} (record { watch = b .watch; expired = x }) (overheard p q on ss at to w)
+unfolding overheard
+overheard-is p q on ss at to w ea en eb el ex = rw (ex, el, eb, en, ea)
+
+pub watchedTaken-is : (d : Device) (p : Sent) (q : Progress) (ss : List ℕ) (at end : ℕ) {before on : Bool} {a b : Listened} {c v : Device} {u : Taken} → before ≡ isOn (d .registers) → a ≡ overheard p (q .sent) before ss at (q .at) (d .registers .watch) → c ≡ clearedDevice (a .expired) d → u ≡ settled c q → on ≡ isOn (u .device .registers) → b ≡ onward (q .sent) before on ss (q .at) end (a .watch) → v ≡ hearing b (u .device) → stopped v (q .at) (q .sent) ≡ watchedTaken d p q ss at end
+unfolding watchedTaken
+watchedTaken-is d p q ss at end e1 ea ec eu e2 eb ev = rw (ev, eb, e2, eu, ec, ea, e1)
+
+-- it hears, and is cleared: in either order
+pub hearing-cleared : (b : Bool) (w : Watch) (d : Device) → hearing (record { watch = w; expired = b }) d ≡ clearedDevice b (record { registers = withWatch (d .registers) w; place = d .place })
+hearing-cleared true w d = refl
+hearing-cleared false w d = refl
+
+-- a record brought up to a clock: what is shown by then, the counts, and no value where its watchdog has expired
+pub brought-is : (t : ℕ) (d : Device) {on x : Bool} {w : Watch} → on ≡ isOn (d .registers) → w ≡ watchBy on t (d .registers .watch) → x ≡ expiredBy on t (d .registers .watch)
+    → clearedDevice x (shownWith d w t) ≡ byClockDevice t d
+unfolding watchedBy
+brought-is t d {on} {x} {w} eo ew ex = rw (ew, ex, eo)
 
 -- something was sent
 pub frontAfter-sent : (f : ℕ) (x : Sent) → OneOf (1 ∷ 2 ∷ []) (tagOf S.the-type x) → f + 1 ≡ frontAfter f x

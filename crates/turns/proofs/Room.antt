@@ -3,7 +3,7 @@
 -- that is not passing sends begins with a low state, and after a low state no device has a surplus.
 use mathlib.Core.Path.{_≡_, refl, subst}
 use mathlib.Core.Bool.{Bool, true, false, _&&_}
-use mathlib.Core.List.{List, [], _∷_, _++_, map}
+use mathlib.Core.List.{List, [], _∷_, _++_}
 use Prim.Native.Nat.{ℕ, suc, _+_, _-_, _*_, _/_, _%_, _^_, _<_, _≤_}
 use native.Mathlib.Nat.{lt-of-lt-of-le, lt-of-not-le, not-le-of-lt, pow-suc}
 use native.Mathlib.Omega.{arith}
@@ -26,7 +26,6 @@ use Rattle.registers.specs.Held.{took, fault, raised}
 use Rattle.device.specs.Step.{step, stepHigh, moved, sliceLength, sentStates, at}
 use Rattle.device.specs.Judgement.{phaseFits, placeFits, contentsFit, fits}
 use Rattle.widths.specs.Widths.{flagsFit, valuesFit}
-use Rattle.device.proofs.Shown.{shown}
 use Rattle.device.proofs.Kept.{parts-of}
 use Rattle.phases.specs.declared.phase.Phase.{Phase}
 use Rattle.phases.specs.declared.phase.Phase.the-variants.{Hunting, Opening, Counting, Slice, Passing, Lost}
@@ -42,7 +41,7 @@ use Rattle.turns.proofs.LeavingStates.{header-is, length-header-states}
 use Rattle.turns.proofs.Taking.{passer, Fine, on, ends, passes-at, fine-low, fine-step}
 use Rattle.turns.proofs.Turns.{no-way}
 use Rattle.turns.proofs.Timed.{stepPlain, runPlain, passPlain}
-use Rattle.turns.proofs.Plain.{bare, sent-plain}
+use Rattle.turns.proofs.Plain.{sent-plain}
 
 -- ---- bits read of a command or a count
 
@@ -224,20 +223,12 @@ surplus (d ∷ ds) xs e = go (surplus ds (runPlain d xs .1) (e .1)) (passes d) r
 
 -- ---- an accepted run
 
-bare-credit : (r : Registers) (p : Phase) → credit (shown 0 [] [] 0 r) p ≡ credit r p
-bare-credit r (Hunting w) = refl
-bare-credit r (Opening a) = refl
-bare-credit r (Counting c a) = refl
-bare-credit r (Slice c n t) = refl
-bare-credit r Passing = refl
-bare-credit r Lost = refl
-
-modest : (ds : List Device) → allFit ds ≡ true → All Modest (map bare ds)
+modest : (ds : List Device) → allFit ds ≡ true → All Modest ds
 modest [] e = tt
 modest (d ∷ ds) e =
     let b = and-both (fits d) (allFit ds) e in
-    (rw (bare-credit (d .registers) (phaseOf (d .place))) (place-credit d (parts-of d (b .0) .0)), modest ds (b .1))
+    (place-credit d (parts-of d (b .0) .0), modest ds (b .1))
 
 -- what a run returns: at most 23 states more than it is given
 pub room-enough : (ds : List Device) (ss : List ℕ) → allFit ds ≡ true → length (through ds ss .1) ≤ length ss + 23
-room-enough ds ss f = rw (sent-plain ds ss) (surplus (map bare ds) ss (modest ds f))
+room-enough ds ss f = rw (sent-plain ds ss) (surplus ds ss (modest ds f))

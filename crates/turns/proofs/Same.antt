@@ -1,20 +1,20 @@
--- A run by its front is the run that knows each state's clock: each turn leaves what is still to come as it was. Between turns the devices are those before the
--- front, which pass, and the rest; what the first ones send of the states left, after a header under way, goes into the rest.
+-- A run by its front is the late run, in which a device takes all that it is sent in a clock at once: each turn leaves what is still to come as it was. Between
+-- turns the devices are those before the front, which pass and whose watchdogs have heard the high states at hand already, and the rest; what the first ones
+-- send of the states left, after a header under way, goes into the rest.
 use mathlib.Core.Path.{_≡_, refl, ap, sym, _∙_, subst}
 use mathlib.Core.Bool.{Bool, true, false, cond, true≢false}
-use mathlib.Core.List.{List, [], _∷_, _++_, append-assoc, map-append}
-use Prim.Native.Nat.{ℕ, zero, suc, _+_, _<_, _≤_}
+use mathlib.Core.List.{List, [], _∷_, _++_, map, flatten, append-assoc}
+use Prim.Native.Nat.{ℕ, zero, suc, _+_, _-_, _<_, _≤_}
 use native.Mathlib.Omega.{arith}
 use lib.Dec.{ltb, leb}
-use lib.ListN.{length, getD, set, take, drop, length-append, take-append-drop}
+use lib.ListN.{length, getD, set, take, drop, length-map, length-append, take-append-drop}
 use lib.Seq.{set-at, set-getD, getD-at, drop-drop, drop-append-seam, length-take-le}
 use borrow.Author.Tests.{ltb-true, ltb-false, leb-true, leb-false}
 use Rattle.machine.specs.Machine.{chain}
-use Rattle.machine.proofs.Machine.{run-nil, run-then, chain-empty, chain-nil, chain-devices}
+use Rattle.machine.proofs.Machine.{run-then, chain-empty, chain-nil, chain-devices}
 use Rattle.parts.specs.Wire.{header, statesOf}
 use Rattle.parts.specs.declared.command.Command.{Command}
 use Rattle.phases.specs.Phases.{phaseOf, placeOf}
-use Rattle.device.specs.Step.{sentStates}
 use Rattle.device.specs.Judgement.{contentsFit, fits, placeFits}
 use Rattle.phases.specs.declared.phase.Place.{Place}
 use Rattle.phases.specs.declared.phase.Phase.{Phase}
@@ -24,22 +24,31 @@ use Rattle.phases.specs.declared.phase.Sent.the-variants.{Nothing, One, Header}
 use Rattle.registers.specs.declared.registers.Registers.{Registers}
 use Rattle.device.specs.declared.device.Device.{Device}
 use Rattle.device.proofs.Places.{place-phase}
-use Rattle.intake.specs.Intake.{stopped, highTaken}
+use Rattle.intake.specs.Intake.{stopped, highTaken, progressOf, highsEnd}
+use Rattle.intake.proofs.Settled.{Settles, settled-high}
+use Rattle.watch.specs.Kept.{listened}
+use Rattle.watch.proofs.Clocks.{listened-append, listened-bit}
+use Rattle.watch.specs.declared.kept.Listened.{Listened}
+use Rattle.turns.specs.Watching.{isOn, hearing, watchedTaken}
 use Rattle.intake.specs.declared.taken.Taken.{Taken}
 use Rattle.calls.specs.Chain.{allFit, blank}
 use Rattle.cursor.specs.declared.cursor.Cursor.{Cursor}
 use Rattle.cursor.specs.Cursor.{indexOf, cursor, turnByState, nextTurn}
-use Rattle.turns.specs.Front.{isPassing, passes, phaseRun, phaseTaken, frontTaken, sliceStart, deviceTaken, putAll, putEnd, highCount, frontAfter}
-use Rattle.turns.specs.Front.{leaveCursor, leaveOut, deviceTurn, turnedOut, Running, turning, turns, started, enough, frontRun, Turned}
-use Rattle.turns.proofs.LeavingStates.{put-full, length-put, put-append, highCount-fit, length-header-states}
-use Rattle.turns.proofs.Timed.{Timed, stamped, timed, states, stepTimed, runTimed, passOn, timed-none, timed-append, states-timed, states-stamped}
-use Rattle.turns.proofs.Header.{run-header}
-use Rattle.turns.proofs.Taking.{High, AllPass, none, also, passer, through-high, Takes, takes-none, takes, takes-low, Ending, quiet, sent, endings, ending-low}
-use Rattle.turns.proofs.Turns.{no-way, owed, low-front, leaveTurn, turnWithin, turned-is, turned-out-is, Good, measure, good-start, good-next, nearer-next, turns-on, turns-stop, near-start, under, IsNext}
+use Rattle.turns.specs.Front.{isPassing, passes, phaseRun, phaseTaken, frontTaken, sliceStart, afterHeader, deviceTaken, putAll, putEnd, highCount, frontAfter}
+use Rattle.turns.specs.Front.{leaveCursor, leaveOut, deviceTurn, frontWatched, turnedOut, Running, turning, turns, started, enough, frontRun, Turned}
+use Rattle.turns.proofs.LeavingStates.{put-full, length-put, put-append, highCount-fit, length-header-states, highsEnd-highCount}
+use Rattle.turns.proofs.Timed.{timed}
+use Rattle.turns.proofs.Taking.{High, AllPass, passer, Takes, takes-none, takes, takes-low, Ending, quiet, sent, endings, ending-low}
+use Rattle.turns.proofs.Hearing.{hearing-after, hearing-on}
+use Rattle.turns.proofs.Late.{Packet, singles, stepLate, runLate, relayLate, statesIn, singles-none, singles-append, states-append, states-singles}
+use Rattle.turns.proofs.Stores.{StoresLast, stores-last}
+use Rattle.turns.proofs.Passing.{AllHigh, passed, passed-all, relay-pass}
+use Rattle.turns.proofs.Served.{underWay, heardBefore, ins-late, ServedStore, served-quiet, served-stores, served-passes}
+use Rattle.turns.proofs.Turns.{no-way, owed, low-front, leaveTurn, turnWithin, turned-is, turned-out-is, Good, measure, good-start, good-next, nearer-next, turns-on, turns-stop, near-start, under, IsNext, leave-under}
 use Rattle.tables.proofs.Booleans.{and-left, and-both, cond-both}
 
 abbrev Whole : Type 0
-Whole = List Device × List Timed
+Whole = List Device × List Packet
 
 -- what is written, and where it ends
 abbrev wrote : List ℕ → ℕ → List ℕ → List ℕ × ℕ
@@ -48,58 +57,132 @@ wrote ws w xs = (putAll ws w xs, putEnd (length ws) w (length xs))
 abbrev headerStates : Command → ℕ → List ℕ
 headerStates c n = statesOf (header c n)
 
--- the states of a header that is under way, sent in clock t
-abbrev underWay : ℕ → Sent → List Timed
-underWay t Nothing = []
-underWay t (One b) = []
-underWay t (Header c n) = stamped t (headerStates c n)
-
 -- the devices a has run; what it sent, after q, goes into qs
-abbrev joined : Whole → List Device → List Timed → Whole
-joined a qs q = (a .0 ++ passOn qs (q ++ a .1) .0, passOn qs (q ++ a .1) .1)
+abbrev joined : Whole → List Device → List Packet → Whole
+joined a qs q = (a .0 ++ relayLate qs (q ++ a .1) .0, relayLate qs (q ++ a .1) .1)
 
-abbrev mid : Whole → Device → List Timed → List Device → Whole
-mid a e q qs = (a .0 ++ (runTimed e (a .1) .0 ∷ passOn qs (q ++ runTimed e (a .1) .1) .0), passOn qs (q ++ runTimed e (a .1) .1) .1)
+abbrev mid : Whole → Device → List Packet → List Device → Whole
+mid a e q qs = (a .0 ++ (runLate e (a .1) .0 ∷ relayLate qs (q ++ runLate e (a .1) .1) .0), relayLate qs (q ++ runLate e (a .1) .1) .1)
 
 here : (a : Whole) (e : Device) (qs : List Device) → joined a (e ∷ qs) [] ≡ mid a e [] qs
 unfolding chain
 here a e qs = refl
 
-one-device : (e : Device) (ss : List Timed) → passOn (e ∷ []) ss ≡ (runTimed e ss .0 ∷ [], runTimed e ss .1)
+one-device : (e : Device) (xs : List Packet) → relayLate (e ∷ []) xs ≡ (runLate e xs .0 ∷ [], runLate e xs .1)
 unfolding chain
-one-device e ss = refl
+one-device e xs = refl
 
-moves-on : (ps : List Device) (e : Device) (qs : List Device) (q rest : List Timed) → joined (passOn (ps ++ (e ∷ [])) rest) qs q ≡ mid (passOn ps rest) e q qs
+moves-on : (ps : List Device) (e : Device) (qs : List Device) (q rest : List Packet) → joined (relayLate (ps ++ (e ∷ [])) rest) qs q ≡ mid (relayLate ps rest) e q qs
 moves-on ps e qs q rest =
-    ap (λ (a : Whole). joined a qs q) (chain-devices stepTimed ps (e ∷ []) rest)
-    ∙ ap (λ (b : Whole). joined (passOn ps rest .0 ++ b .0, b .1) qs q) (one-device e (passOn ps rest .1))
-    ∙ ap (λ (ds : List Device). (ds, passOn qs (q ++ runTimed e (passOn ps rest .1) .1) .1))
-    (append-assoc (passOn ps rest .0) (runTimed e (passOn ps rest .1) .0 ∷ []) (passOn qs (q ++ runTimed e (passOn ps rest .1) .1) .0))
+    ap (λ (a : Whole). joined a qs q) (chain-devices stepLate ps (e ∷ []) rest)
+    ∙ ap (λ (b : Whole). joined (relayLate ps rest .0 ++ b .0, b .1) qs q) (one-device e (relayLate ps rest .1))
+    ∙ ap (λ (ds : List Device). (ds, relayLate qs (q ++ runLate e (relayLate ps rest .1) .1) .1))
+    (append-assoc (relayLate ps rest .0) (runLate e (relayLate ps rest .1) .0 ∷ []) (relayLate qs (q ++ runLate e (relayLate ps rest .1) .1) .0))
+
+-- ---- high states
+
+high-all : (k : ℕ) (ss : List ℕ) → High (timed k ss) → AllHigh ss
+unfolding timed
+high-all k [] h = AllHigh.none
+high-all k (s ∷ ss) (High.also e h) = AllHigh.also e (high-all (k + 1) ss h)
+
+-- those at the front of a list
+abbrev highsOf : List ℕ → List ℕ
+highsOf xs = take (highCount xs) xs
+
+highs-all : (xs : List ℕ) → AllHigh (highsOf xs)
+unfolding highCount
+highs-all [] = AllHigh.none
+highs-all (x ∷ xs) = go (highs-all xs) (ltb x 2) refl
+  where
+    one : (n : ℕ) → suc n ≡ n + 1
+    one n = omega arith
+
+    go : AllHigh (highsOf xs) → (t : Bool) → ltb x 2 ≡ t → AllHigh (take (cond t 0 (highCount xs + 1)) (x ∷ xs))
+    go r true e = AllHigh.none
+    go r false e = subst (λ (n : ℕ). AllHigh (take n (x ∷ xs))) (one (highCount xs)) (AllHigh.also e r)
+
+-- high states and more
+highs-append : (hs xs : List ℕ) → AllHigh hs → highCount (hs ++ xs) ≡ length hs + highCount xs
+unfolding highCount
+highs-append [] xs AllHigh.none = omega arith
+highs-append (h ∷ hs) xs (AllHigh.also e a) = ap (λ (t : Bool). cond t 0 (highCount (hs ++ xs) + 1)) e ∙ omega (arith, highs-append hs xs a)
+
+highsOf-append : (hs xs : List ℕ) → AllHigh hs → highsOf (hs ++ xs) ≡ hs ++ highsOf xs
+highsOf-append hs xs a = ap (λ (n : ℕ). take n (hs ++ xs)) (highs-append hs xs a) ∙ go hs
+  where
+    go : (ys : List ℕ) → take (length ys + highCount xs) (ys ++ xs) ≡ ys ++ highsOf xs
+    go [] = let e : 0 + highCount xs ≡ highCount xs = omega arith in ap (λ (n : ℕ). take n xs) e
+    go (y ∷ ys) =
+        let e : length (y ∷ ys) + highCount xs ≡ suc (length ys + highCount xs) = omega arith in
+        ap (λ (n : ℕ). take n (y ∷ ys ++ xs)) e ∙ ap (λ (zs : List ℕ). y ∷ zs) (go ys)
+
+-- after them none is left
+highs-over : (xs : List ℕ) → highCount (drop (highCount xs) xs) ≡ 0
+unfolding highCount
+highs-over [] = refl
+highs-over (x ∷ xs) = go (highs-over xs) (ltb x 2) refl
+  where
+    one : (n : ℕ) → n + 1 ≡ suc n
+    one n = omega arith
+
+    go : highCount (drop (highCount xs) xs) ≡ 0 → (t : Bool) → ltb x 2 ≡ t → highCount (drop (cond t 0 (highCount xs + 1)) (x ∷ xs)) ≡ 0
+    go r true e = ap (λ (t : Bool). cond t 0 (highCount xs + 1)) e
+    go r false e = ap (λ (n : ℕ). highCount (drop n (x ∷ xs))) (one (highCount xs)) ∙ r
+
+-- a low state stands first
+highs-low : (s : ℕ) (xs : List ℕ) → ltb s 2 ≡ true → highCount (s ∷ xs) ≡ 0
+unfolding highCount
+highs-low s xs e = ap (λ (t : Bool). cond t 0 (highCount xs + 1)) e
+
+-- what a device has heard that passed high states, and then more of them
+passed-append : (k : ℕ) (xs ys : List ℕ) (d : Device) → passed (k + length xs) ys (passed k xs d) ≡ passed k (xs ++ ys) d
+passed-append k xs ys d =
+    let r : Registers = d .registers in
+    let a : Listened = listened (isOn r) k xs (r .watch) in
+    ap (λ (o : Bool). hearing (listened o (k + length xs) ys (a .watch)) (hearing a d)) (hearing-on a r (listened-bit (isOn r) k xs (r .watch)))
+    ∙ hearing-after a (listened (isOn r) (k + length xs) ys (a .watch)) d
+    ∙ ap (λ (b : Listened). hearing b d) (sym (listened-append (isOn r) k xs ys (r .watch)))
+
+passed-none : (k : ℕ) (d : Device) → passed k [] d ≡ d
+unfolding listened
+passed-none k d = refl
+
+passeds-none : (k : ℕ) (hs : List ℕ) (ps : List Device) → hs ≡ [] → map (passed k hs) ps ≡ ps
+passeds-none k hs [] e = refl
+passeds-none k hs (p ∷ ps) e =
+    ap (λ (xs : List ℕ). passed k xs p ∷ map (passed k hs) ps) e ∙ ap (λ (x : Device). x ∷ map (passed k hs) ps) (passed-none k p) ∙ ap (λ (qs : List Device). p ∷ qs) (passeds-none k hs ps e)
+
+passeds-append : (k : ℕ) (xs ys : List ℕ) (ps : List Device) → map (passed (k + length xs) ys) (map (passed k xs) ps) ≡ map (passed k (xs ++ ys)) ps
+passeds-append k xs ys [] = refl
+passeds-append k xs ys (p ∷ ps) =
+    ap (λ (x : Device). x ∷ map (passed (k + length xs) ys) (map (passed k xs) ps)) (passed-append k xs ys p) ∙ ap (λ (qs : List Device). passed k (xs ++ ys) p ∷ qs) (passeds-append k xs ys ps)
 
 -- the states that a device takes go by the devices before it, which pass: there are none, or the states are high
-goes-by : (low : Bool) (ps : List Device) (d : Device) (ss : List ℕ) (k : ℕ) (t : Taken) → AllPass ps → (low ≡ true → ps ≡ []) → (x : Takes low d ss k t)
-    → passOn ps (timed k ss) ≡ (passOn ps (timed (t .at) (x .rest)) .0, timed k (x .own) ++ passOn ps (timed (t .at) (x .rest)) .1)
-goes-by low ps d ss k t a h x =
-    ap (passOn ps)
-    (ap (timed k) (x .whole) ∙ timed-append k (x .own) (x .rest) ∙ ap (λ (n : ℕ). timed k (x .own) ++ timed n (x .rest)) (sym (x .far)))
-    ∙ by low refl
+goes-by : (low : Bool) (ps : List Device) (own rest : List ℕ) (k : ℕ) → AllPass ps → (low ≡ true → ps ≡ []) → (low ≡ false → AllHigh own)
+    → relayLate ps (singles k (own ++ rest))
+    ≡ (relayLate (map (passed k own) ps) (singles (k + length own) rest) .0, singles k own ++ relayLate (map (passed k own) ps) (singles (k + length own) rest) .1)
+goes-by low ps own rest k a h g = ap (relayLate ps) (singles-append k own rest) ∙ by low refl
   where
-    by : (b : Bool) → low ≡ b → passOn ps (timed k (x .own) ++ timed (t .at) (x .rest)) ≡ (passOn ps (timed (t .at) (x .rest)) .0, timed k (x .own) ++ passOn ps (timed (t .at) (x .rest)) .1)
-    by true e =
-        subst (λ (bs : List Device). passOn bs (timed k (x .own) ++ timed (t .at) (x .rest)) ≡ (passOn bs (timed (t .at) (x .rest)) .0, timed k (x .own) ++ passOn bs (timed (t .at) (x .rest)) .1))
-        (sym (h e)) (chain-empty stepTimed _ ∙ ap (λ (y : Whole). (y .0, timed k (x .own) ++ y .1)) (sym (chain-empty stepTimed (timed (t .at) (x .rest)))))
-    by false e = through-high ps (timed k (x .own)) (timed (t .at) (x .rest)) a (x .high e)
+    rest-of : List Packet
+    rest-of = singles (k + length own) rest
 
--- a device takes the header that is under way and then states
-takes-on : (low : Bool) (ps qs : List Device) (d d0 : Device) (ins : List Timed) (rest : List ℕ) (k : ℕ) (t : Taken) → AllPass ps → (low ≡ true → ps ≡ []) → runTimed d ins ≡ (d0, [])
-    → (x : Takes low d0 rest k t)
-    → joined (passOn ps (timed k rest)) (d ∷ qs) ins ≡ mid (passOn ps (timed (t .at) (x .rest))) (t .device) (stamped (t .at) (sentStates (t .sent))) qs
+    by : (b : Bool) → low ≡ b → relayLate ps (singles k own ++ rest-of) ≡ (relayLate (map (passed k own) ps) rest-of .0, singles k own ++ relayLate (map (passed k own) ps) rest-of .1)
+    by true e =
+        subst (λ (bs : List Device). relayLate bs (singles k own ++ rest-of) ≡ (relayLate (map (passed k own) bs) rest-of .0, singles k own ++ relayLate (map (passed k own) bs) rest-of .1))
+        (sym (h e)) (chain-empty stepLate _ ∙ ap (λ (y : Whole). (y .0, singles k own ++ y .1)) (sym (chain-empty stepLate rest-of)))
+    by false e = relay-pass ps k own rest-of a (g e)
+
+-- a device takes what is under way and then states
+takes-on : (ps qs : List Device) (d d0 e : Device) (ins out : List Packet) (own rest : List ℕ) (k : ℕ) (low : Bool) → AllPass ps → (low ≡ true → ps ≡ []) → (low ≡ false → AllHigh own)
+    → runLate d ins ≡ (d0, []) → runLate d0 (singles k own) ≡ (e, out)
+    → joined (relayLate ps (singles k (own ++ rest))) (d ∷ qs) ins ≡ mid (relayLate (map (passed k own) ps) (singles (k + length own) rest)) e out qs
 unfolding chain
-takes-on low ps qs d d0 ins rest k t a f h x =
-    ap (λ (b : Whole). joined b (d ∷ qs) ins) (goes-by low ps d0 rest k t a f x)
-    ∙ ap (λ (y : Device × List Timed). (passOn ps (timed (t .at) (x .rest)) .0 ++ (y .0 ∷ passOn qs (y .1) .0), passOn qs (y .1) .1))
-    (run-then stepTimed d ins (timed k (x .own) ++ passOn ps (timed (t .at) (x .rest)) .1) h
-    (run-then stepTimed d0 (timed k (x .own)) (passOn ps (timed (t .at) (x .rest)) .1) (x .runs) refl))
+takes-on ps qs d d0 e ins out own rest k low a f g h x =
+    let A : Whole = relayLate (map (passed k own) ps) (singles (k + length own) rest) in
+    ap (λ (b : Whole). joined b (d ∷ qs) ins) (goes-by low ps own rest k a f g)
+    ∙ ap (λ (y : Device × List Packet). (A .0 ++ (y .0 ∷ relayLate qs (y .1) .0), relayLate qs (y .1) .1))
+    (run-then stepLate d ins (singles k own ++ A .1) h (run-then stepLate d0 (singles k own) (A .1) x refl))
 
 -- ---- what holds between turns
 -- a record that passes has the numbers of that phase alone
@@ -111,8 +194,8 @@ AllNeat [] = Unit {0}
 AllNeat (d ∷ ds) = Neat d × AllNeat ds
 
 neat-append : (ps qs : List Device) → AllPass ps → AllNeat qs → AllNeat (ps ++ qs)
-neat-append [] qs none h = h
-neat-append (d ∷ ps) qs (also a) h = (λ _. refl, neat-append ps qs a h)
+neat-append [] qs AllPass.none h = h
+neat-append (d ∷ ps) qs (AllPass.also a) h = (λ _. refl, neat-append ps qs a h)
 
 no-more : (qs : List Device) → length qs ≡ 0 → qs ≡ []
 no-more [] e = refl
@@ -123,33 +206,55 @@ Small Nothing = Unit {0}
 Small (One b) = Unit {0}
 Small (Header c n) = n < 1024
 
-module _ (ss : List ℕ) (fin : List Device × (List ℕ × ℕ)) where
-  -- the states from a place on, with their clocks
-  abbrev ahead : ℕ → List Timed
-  ahead at = timed at (drop at ss)
+small-header : (p : Sent) → Small p → (c : Command) (n : ℕ) → p ≡ Header c n → n < 1024
+unfolding Small
+small-header Nothing s c n e = absurd (no-way (ap isHeader e))
+  where
+    isHeader : Sent → Bool
+    isHeader Nothing = false
+    isHeader (One b) = false
+    isHeader (Header c n) = true
+small-header (One b) s c n e = absurd (no-way (ap isHeader e))
+  where
+    isHeader : Sent → Bool
+    isHeader Nothing = false
+    isHeader (One b) = false
+    isHeader (Header c n) = true
+small-header (Header a m) s c n e = subst (λ (x : ℕ). x < 1024) (ap count e) s
+  where
+    count : Sent → ℕ
+    count Nothing = 0
+    count (One b) = 0
+    count (Header c n) = n
 
+module _ (ss : List ℕ) (fin : List Device × (List ℕ × ℕ)) where
+  -- the states from a place on, each in its clock
+  abbrev ahead : ℕ → List Packet
+  ahead at = singles at (drop at ss)
+
+  -- the high states at a place
+  abbrev highs : ℕ → List ℕ
+  highs at = highsOf (drop at ss)
+
+  -- the devices before the front have heard these already: ps is what they are but for that
   record Invariant (ys : List Device) (ws : List ℕ) (f at w : ℕ) (p : Sent) : Type 0 where
     pub ps : List Device
     pub qs : List Device
-    pub split : ys ≡ ps ++ qs
+    pub split : ys ≡ map (passed at (highs at)) ps ++ qs
     pub count : length ps ≡ f
     pub passing : AllPass ps
     pub neat : AllNeat qs
     pub small : Small p
-    pub devices : joined (passOn ps (ahead at)) qs (underWay at p) .0 ≡ fin .0
-    pub out : wrote ws w (states (joined (passOn ps (ahead at)) qs (underWay at p) .1)) ≡ fin .1
+    pub devices : joined (relayLate ps (ahead at)) qs (underWay at p) .0 ≡ fin .0
+    pub out : wrote ws w (statesIn (joined (relayLate ps (ahead at)) qs (underWay at p) .1)) ≡ fin .1
 
   pass-more : (ps : List Device) (r : Registers) → AllPass ps → AllPass (ps ++ (passer r ∷ []))
-  pass-more [] r a = also a
-  pass-more (d ∷ ps) r (also a) = also (pass-more ps r a)
+  pass-more [] r a = AllPass.also a
+  pass-more (d ∷ ps) r (AllPass.also a) = AllPass.also (pass-more ps r a)
 
   left : (at k : ℕ) (hs rest : List ℕ) → drop at ss ≡ hs ++ rest → k ≡ at + length hs → drop k ss ≡ rest
   left at k hs rest e h =
       ap (λ (n : ℕ). drop n ss) h ∙ sym (drop-drop (length hs) at ss) ∙ ap (λ (xs : List ℕ). drop (length hs) xs) e ∙ drop-append-seam hs rest
-
-  -- what is left after the states that a device took
-  left-of : (low : Bool) (d : Device) (at : ℕ) (t : Taken) (x : Takes low d (drop at ss) at t) → timed (t .at) (x .rest) ≡ ahead (t .at)
-  left-of low d at t x = ap (timed (t .at)) (sym (left at (t .at) (x .own) (x .rest) (x .whole) (x .far)))
 
   -- where a turn of the front device begins: the devices before it, the device with what is under way to it, those after it, the room, and
   -- the places of the front, the next state and the next one returned
@@ -157,157 +262,278 @@ module _ (ss : List ℕ) (fin : List Device × (List ℕ × ℕ)) where
     pub ps : List Device
     pub d : Device
     pub qs : List Device
-    pub ins : List Timed
+    pub p : Sent
     pub ws : List ℕ
     pub f : ℕ
     pub at : ℕ
     pub w : ℕ
+    pub end : ℕ
     pub count : length ps ≡ f
     pub passing : AllPass ps
     pub neat : AllNeat (d ∷ qs)
-    pub devices : joined (passOn ps (ahead at)) (d ∷ qs) ins .0 ≡ fin .0
-    pub out : wrote ws w (states (joined (passOn ps (ahead at)) (d ∷ qs) ins .1)) ≡ fin .1
+    pub small : Small p
+    pub ends : end ≡ at + highCount (drop at ss)
+    pub devices : joined (relayLate ps (ahead at)) (d ∷ qs) (underWay at p) .0 ≡ fin .0
+    pub out : wrote ws w (statesIn (joined (relayLate ps (ahead at)) (d ∷ qs) (underWay at p) .1)) ≡ fin .1
 
-  -- the front device became t's
+  -- the records before a turn
+  abbrev recordsOf : Front → List Device
+  recordsOf b = map (passed (b .at) (highs (b .at))) (b .ps) ++ b .d ∷ b .qs
+
+  -- what the turn makes of the front device that got so far
+  abbrev watchedIn : Front → Taken → Device
+  watchedIn b t = watchedTaken (b .d) (b .p) (progressOf t) ss (b .at) (b .end) .device
+
+  -- the front device became that
   InvariantTaken : Front → Taken → Type 0
-  InvariantTaken b t = Invariant (set (b .ps ++ b .d ∷ b .qs) (b .f) (t .device)) (b .ws) (frontAfter (b .f) (t .sent)) (t .at) (b .w) (t .sent)
+  InvariantTaken b t = Invariant (set (recordsOf b) (b .f) (watchedIn b t)) (b .ws) (frontAfter (b .f) (t .sent)) (t .at) (b .w) (t .sent)
+
+  -- what those before the front have heard goes on over the states that were taken
+  heard-on : (b : Front) (own rest : List ℕ) (k : ℕ) → drop (b .at) ss ≡ own ++ rest → k ≡ b .at + length own → AllHigh own
+      → map (passed (b .at) (highs (b .at))) (b .ps) ≡ map (passed k (highs k)) (map (passed (b .at) own) (b .ps))
+  heard-on b own rest k e h a =
+      let r : drop k ss ≡ rest = left (b .at) k own rest e h in
+      ap (λ (xs : List ℕ). map (passed (b .at) xs) (b .ps)) (ap highsOf e ∙ highsOf-append own rest a)
+      ∙ sym (passeds-append (b .at) own (highsOf rest) (b .ps))
+      ∙ ap (λ (n : ℕ). map (passed n (highsOf rest)) (map (passed (b .at) own) (b .ps))) (sym h)
+      ∙ ap (λ (xs : List ℕ). map (passed k (highsOf xs)) (map (passed (b .at) own) (b .ps))) (sym r)
+
+  -- the same where low states may be among them, as there is then no device before the front
+  heard-by : (low : Bool) (b : Front) (own rest : List ℕ) (k : ℕ) → (low ≡ true → b .ps ≡ []) → (low ≡ false → AllHigh own) → drop (b .at) ss ≡ own ++ rest → k ≡ b .at + length own
+      → map (passed (b .at) (highs (b .at))) (b .ps) ≡ map (passed k (highs k)) (map (passed (b .at) own) (b .ps))
+  heard-by low b own rest k z g e h = by low refl
+    where
+      by : (l : Bool) → low ≡ l → map (passed (b .at) (highs (b .at))) (b .ps) ≡ map (passed k (highs k)) (map (passed (b .at) own) (b .ps))
+      by true q = subst (λ (bs : List Device). map (passed (b .at) (highs (b .at))) bs ≡ map (passed k (highs k)) (map (passed (b .at) own) bs)) (sym (z q)) refl
+      by false q = heard-on b own rest k e h (g q)
+
+  count-heard : (b : Front) (k : ℕ) (hs : List ℕ) → length (map (passed k hs) (b .ps)) ≡ b .f
+  count-heard b k hs = length-map (b .ps) (passed k hs) ∙ b .count
 
   -- it becomes e and sends nothing
-  stays : (low : Bool) (b : Front) (d0 e : Device) (k : ℕ) → (low ≡ true → b .ps ≡ []) → Neat e → runTimed (b .d) (b .ins) ≡ (d0, [])
-      → Takes low d0 (drop (b .at) ss) (b .at) (stopped e k Nothing) → InvariantTaken b (stopped e k Nothing)
+  stays : (low : Bool) (b : Front) (e : Device) (k : ℕ) → (low ≡ true → b .ps ≡ []) → Neat (watchedIn b (stopped e k Nothing)) → Settles (b .d) (stopped e k Nothing)
+      → Takes low (afterHeader (b .d) (b .p)) (drop (b .at) ss) (b .at) (stopped e k Nothing) → InvariantTaken b (stopped e k Nothing)
   unfolding InvariantTaken Small
-  stays low b d0 e k z ne h x =
-      let m : joined (passOn (b .ps) (ahead (b .at))) (b .d ∷ b .qs) (b .ins) ≡ joined (passOn (b .ps) (ahead k)) (e ∷ b .qs) [] =
-      takes-on low (b .ps) (b .qs) (b .d) d0 (b .ins) (drop (b .at) ss) (b .at) (stopped e k Nothing) (b .passing) z h x
-      ∙ sym (here (passOn (b .ps) (timed k (x .rest))) e (b .qs))
-      ∙ ap (λ (r : List Timed). joined (passOn (b .ps) r) (e ∷ b .qs) []) (left-of low d0 (b .at) (stopped e k Nothing) x) in
+  stays low b e k z ne st x =
+      let q : List Device = map (passed (b .at) (x .own)) (b .ps) in
+      let n : Device = watchedIn b (stopped e k Nothing) in
+      let g : low ≡ false → AllHigh (x .own) = λ f. high-all (b .at) (x .own) (x .high f) in
+      let r : drop k ss ≡ x .rest = left (b .at) k (x .own) (x .rest) (x .whole) (x .far) in
+      let m : joined (relayLate (b .ps) (ahead (b .at))) (b .d ∷ b .qs) (underWay (b .at) (b .p)) ≡ joined (relayLate q (ahead k)) (n ∷ b .qs) [] =
+      ap (λ (xs : List ℕ). joined (relayLate (b .ps) (singles (b .at) xs)) (b .d ∷ b .qs) (underWay (b .at) (b .p))) (x .whole)
+      ∙ takes-on (b .ps) (b .qs) (b .d) (hearing (heardBefore (b .d) (b .p) (b .at)) (afterHeader (b .d) (b .p))) n (underWay (b .at) (b .p)) [] (x .own) (x .rest) (b .at) low (b .passing) z g
+      (ins-late (b .d) (b .p) (b .at) (small-header (b .p) (b .small))) (served-quiet ss (b .d) (b .p) (b .at) (b .end) low e k st x)
+      ∙ ap (λ (y : ℕ). mid (relayLate q (singles y (x .rest))) n [] (b .qs)) (sym (x .far))
+      ∙ ap (λ (xs : List ℕ). mid (relayLate q (singles k xs)) n [] (b .qs)) (sym r)
+      ∙ sym (here (relayLate q (ahead k)) n (b .qs)) in
       record {
-        ps = b .ps;
-        qs = e ∷ b .qs;
-        split = set-at (b .ps) (b .d) (b .qs) e (b .f) (b .count);
-        count = b .count;
-        passing = b .passing;
+        ps = q;
+        qs = n ∷ b .qs;
+        split = set-at (map (passed (b .at) (highs (b .at))) (b .ps)) (b .d) (b .qs) n (b .f) (count-heard b (b .at) (highs (b .at)))
+            ∙ ap (λ (xs : List Device). xs ++ n ∷ b .qs) (heard-by low b (x .own) (x .rest) k z g (x .whole) (x .far));
+        count = count-heard b (b .at) (x .own);
+        passing = passed-all (b .ps) (b .at) (x .own) (b .passing);
         neat = (ne, b .neat .1);
         small = tt;
         devices = sym (ap (λ (y : Whole). y .0) m) ∙ b .devices;
-        out = sym (ap (λ (y : Whole). wrote (b .ws) (b .w) (states (y .1))) m) ∙ b .out;
+        out = sym (ap (λ (y : Whole). wrote (b .ws) (b .w) (statesIn (y .1))) m) ∙ b .out;
       }
 
-  after : (low : Bool) (b : Front) (d0 : Device) (t : Taken) → (low ≡ true → b .ps ≡ []) → runTimed (b .d) (b .ins) ≡ (d0, [])
-      → Takes low d0 (drop (b .at) ss) (b .at) t → Ending t → InvariantTaken b t
-  unfolding InvariantTaken Small
-  after low b d0 t z h x (quiet {d = e} {k} p) = stays low b d0 e k z (λ q. absurd (true≢false (sym q ∙ p))) h x
-  after low b d0 t z h x (sent {r} {k} {c} {n} few) =
-      let more : List Device = b .ps ++ (passer r ∷ []) in
-      let m : joined (passOn (b .ps) (ahead (b .at))) (b .d ∷ b .qs) (b .ins) ≡ joined (passOn more (ahead k)) (b .qs) (stamped k (headerStates c n)) =
-      takes-on low (b .ps) (b .qs) (b .d) d0 (b .ins) (drop (b .at) ss) (b .at) (stopped (passer r) k (Header c n)) (b .passing) z h x
-      ∙ sym (moves-on (b .ps) (passer r) (b .qs) (stamped k (headerStates c n)) (timed k (x .rest)))
-      ∙ ap (λ (y : List Timed). joined (passOn more y) (b .qs) (stamped k (headerStates c n))) (left-of low d0 (b .at) (stopped (passer r) k (Header c n)) x) in
+  map-last : (f : Device → Device) (xs : List Device) (y : Device) → map f (xs ++ (y ∷ [])) ≡ map f xs ++ (f y ∷ [])
+  map-last f [] y = refl
+  map-last f (x ∷ xs) y = ap (λ (zs : List Device). f x ∷ zs) (map-last f xs y)
+
+  high-front : (own rest : List ℕ) (at : ℕ) → drop at ss ≡ own ++ rest → AllHigh own → (k : ℕ) → k ≡ at + length own → at + highCount (drop at ss) - k ≡ highCount (drop k ss)
+  high-front own rest at e a k h =
+      let n : highCount (drop at ss) ≡ length own + highCount rest = ap highCount e ∙ highs-append own rest a in
+      let m : highCount (drop k ss) ≡ highCount rest = ap highCount (left at k own rest e h) in
+      omega (arith, n, m, h)
+
+  -- the high states that follow, by where they end
+  follow : (b : Front) (own rest : List ℕ) (k : ℕ) → drop (b .at) ss ≡ own ++ rest → AllHigh own → k ≡ b .at + length own → take (b .end - k) (drop k ss) ≡ highs k
+  follow b own rest k e a h =
+      ap (λ (n : ℕ). take (n - k) (drop k ss)) (b .ends) ∙ ap (λ (n : ℕ). take n (drop k ss)) (high-front own rest (b .at) e a k h)
+
+  -- it stores, sends a header and passes then
+  sends-on : (b : Front) (c : Command) (n : ℕ) (t : Taken) → t ≡ highTaken (afterHeader (b .d) (b .p)) (drop (b .at) ss) (b .at) → t .sent ≡ Header c n → t .device .place ≡ placeOf Passing → n < 1024
+      → Invariant (set (recordsOf b) (b .f) (watchedIn b t)) (b .ws) (b .f + 1) (t .at) (b .w) (Header c n)
+  unfolding Small
+  sends-on b c n t i header-sent place few =
+      let dd : Device = afterHeader (b .d) (b .p) in
+      let l : StoresLast dd (drop (b .at) ss) (b .at) c n t =
+      subst (StoresLast dd (drop (b .at) ss) (b .at) c n) (sym i) (stores-last (drop (b .at) ss) dd (b .at) c n (ap (λ (y : Taken). y .sent) (sym i) ∙ header-sent)) in
+      let own : List ℕ = l .init ++ l .last ∷ [] in
+      let k : ℕ = t .at in
+      let v : ServedStore ss (b .d) (b .p) (b .at) (b .end) c n t own = served-stores ss (b .d) (b .p) (b .at) (b .end) c n t l header-sent place in
+      let x : Device = passer (v .registers) in
+      let q : List Device = map (passed (b .at) own) (b .ps) in
+      let whole : drop (b .at) ss ≡ own ++ l .rest = l .whole ∙ sym (append-assoc (l .init) (l .last ∷ []) (l .rest)) in
+      let far : k ≡ b .at + length own = omega (arith, l .far, length-append (l .init) (l .last ∷ [])) in
+      let high : AllHigh own = high-all (b .at) own (l .high) in
+      let r : drop k ss ≡ l .rest = left (b .at) k own (l .rest) whole far in
+      let m : joined (relayLate (b .ps) (ahead (b .at))) (b .d ∷ b .qs) (underWay (b .at) (b .p)) ≡ joined (relayLate (q ++ (x ∷ [])) (ahead k)) (b .qs) (underWay k (Header c n)) =
+      ap (λ (xs : List ℕ). joined (relayLate (b .ps) (singles (b .at) xs)) (b .d ∷ b .qs) (underWay (b .at) (b .p))) whole
+      ∙ takes-on (b .ps) (b .qs) (b .d) (hearing (heardBefore (b .d) (b .p) (b .at)) dd) x (underWay (b .at) (b .p)) (underWay k (Header c n)) own (l .rest) (b .at) false (b .passing) (λ e. absurd (true≢false (sym e))) (λ _. high)
+      (ins-late (b .d) (b .p) (b .at) (small-header (b .p) (b .small))) (v .runs)
+      ∙ ap (λ (y : ℕ). mid (relayLate q (singles y (l .rest))) x (underWay k (Header c n)) (b .qs)) (sym far)
+      ∙ ap (λ (xs : List ℕ). mid (relayLate q (singles k xs)) x (underWay k (Header c n)) (b .qs)) (sym r)
+      ∙ sym (moves-on q x (b .qs) (underWay k (Header c n)) (ahead k)) in
+      let h : watchedIn b t ≡ passed k (highs k) x = v .watched ∙ ap (λ (xs : List ℕ). passed k xs x) (follow b own (l .rest) k whole high far) in
       record {
-        ps = more;
+        ps = q ++ (x ∷ []);
         qs = b .qs;
-        split = set-at (b .ps) (b .d) (b .qs) (passer r) (b .f) (b .count) ∙ sym (append-assoc (b .ps) (passer r ∷ []) (b .qs));
-        count = length-append (b .ps) (passer r ∷ []) ∙ ap (λ (y : ℕ). y + 1) (b .count);
-        passing = pass-more (b .ps) r (b .passing);
+        split = set-at (map (passed (b .at) (highs (b .at))) (b .ps)) (b .d) (b .qs) (watchedIn b t) (b .f) (count-heard b (b .at) (highs (b .at)))
+            ∙ ap (λ (y : Device). map (passed (b .at) (highs (b .at))) (b .ps) ++ y ∷ b .qs) h
+            ∙ ap (λ (xs : List Device). xs ++ passed k (highs k) x ∷ b .qs) (heard-on b own (l .rest) k whole far high)
+            ∙ sym (append-assoc (map (passed k (highs k)) q) (passed k (highs k) x ∷ []) (b .qs))
+            ∙ ap (λ (xs : List Device). xs ++ b .qs) (sym (map-last (passed k (highs k)) q x));
+        count = length-append q (x ∷ []) ∙ ap (λ (y : ℕ). y + 1) (count-heard b (b .at) own);
+        passing = pass-more q (v .registers) (passed-all (b .ps) (b .at) own (b .passing));
         neat = b .neat .1;
         small = few;
         devices = sym (ap (λ (y : Whole). y .0) m) ∙ b .devices;
-        out = sym (ap (λ (y : Whole). wrote (b .ws) (b .w) (states (y .1))) m) ∙ b .out;
+        out = sym (ap (λ (y : Whole). wrote (b .ws) (b .w) (statesIn (y .1))) m) ∙ b .out;
       }
 
-  -- ---- the turn of a device, by what comes next
+  -- what was heard leaves the place
+  neat-watched : (b : Front) (e : Device) (k : ℕ) → passes e ≡ false → Neat (watchedIn b (stopped e k Nothing))
+  unfolding watchedTaken
+  neat-watched b e k p q = absurd (true≢false (sym q ∙ p))
 
-  nothing-in : (d : Device) (ins : List Timed) → ins ≡ [] → runTimed d ins ≡ (d, [])
-  nothing-in d ins i = ap (runTimed d) i ∙ run-nil stepTimed d
+  neat-same : (b : Front) → Neat (watchedIn b (stopped (b .d) (b .at) Nothing))
+  unfolding watchedTaken
+  neat-same b q = ap (λ (x : Place). record { registers = watchedIn b (stopped (b .d) (b .at) Nothing) .registers; place = x }) (ap (λ (y : Device). y .place) (b .neat .0 q))
+
+  after-turn : (low : Bool) (b : Front) (t : Taken) → (low ≡ true → b .ps ≡ []) → (low ≡ false → t ≡ highTaken (afterHeader (b .d) (b .p)) (drop (b .at) ss) (b .at))
+      → (low ≡ true → t .sent ≡ Nothing) → Settles (b .d) t → Takes low (afterHeader (b .d) (b .p)) (drop (b .at) ss) (b .at) t → Ending t → InvariantTaken b t
+  unfolding InvariantTaken
+  after-turn low b t z i s st x (quiet {d = e} {k} p) = stays low b e k z (neat-watched b e k p) st x
+  after-turn true b t z i s st x (sent {r} {k} {c} {n} few) = absurd (no-way (ap isNothing (s refl)))
+    where
+      isNothing : Sent → Bool
+      isNothing Nothing = true
+      isNothing (One y) = false
+      isNothing (Header y m) = false
+  after-turn false b t z i s st x (sent {r} {k} {c} {n} few) = sends-on b c n (stopped (passer r) k (Header c n)) (i refl) refl refl few
+
+  -- ---- the turn of a device, by what comes next
 
   not-low : (ps : List Device) → false ≡ true → ps ≡ []
   not-low ps e = absurd (true≢false (sym e))
 
+  not-low-sent : {A : Type 0} → false ≡ true → A
+  not-low-sent e = absurd (true≢false (sym e))
+
   -- a passing device moves the front on
-  hands-on : (b : Front) → b .ins ≡ [] → b .d ≡ passer (b .d .registers) → InvariantTaken b (stopped (b .d) (b .at) (One 0))
+  hands-on : (b : Front) → underWay (b .at) (b .p) ≡ [] → ((c : Command) (n : ℕ) → b .p ≡ Header c n → ⊥) → b .d ≡ passer (b .d .registers) → InvariantTaken b (stopped (b .d) (b .at) (One 0))
   unfolding InvariantTaken Small
-  hands-on b i g =
-      let A : Whole = passOn (b .ps) (ahead (b .at)) in
+  hands-on b i no-header g =
+      let A : Whole = relayLate (b .ps) (ahead (b .at)) in
       let more : List Device = b .ps ++ (b .d ∷ []) in
-      let m : joined A (b .d ∷ b .qs) (b .ins) ≡ joined (passOn more (ahead (b .at))) (b .qs) [] =
+      let P : Device → Device = passed (b .at) (highs (b .at)) in
+      let n : Device = watchedIn b (stopped (b .d) (b .at) (One 0)) in
+      let zero-more : b .at ≡ b .at + 0 = omega arith in
+      let h : n ≡ P (b .d) =
+      served-passes ss (b .d) (b .p) (b .at) (b .end) 0 no-header ∙ ap (λ (xs : List ℕ). passed (b .at) xs (b .d)) (follow b [] (drop (b .at) ss) (b .at) refl AllHigh.none zero-more) in
+      let m : joined A (b .d ∷ b .qs) (underWay (b .at) (b .p)) ≡ joined (relayLate more (ahead (b .at))) (b .qs) [] =
       ap (joined A (b .d ∷ b .qs)) i ∙ here A (b .d) (b .qs) ∙ sym (moves-on (b .ps) (b .d) (b .qs) [] (ahead (b .at))) in
       record {
         ps = more;
         qs = b .qs;
-        split = set-at (b .ps) (b .d) (b .qs) (b .d) (b .f) (b .count) ∙ sym (append-assoc (b .ps) (b .d ∷ []) (b .qs));
+        split = set-at (map P (b .ps)) (b .d) (b .qs) n (b .f) (count-heard b (b .at) (highs (b .at)))
+            ∙ ap (λ (y : Device). map P (b .ps) ++ y ∷ b .qs) h
+            ∙ sym (append-assoc (map P (b .ps)) (P (b .d) ∷ []) (b .qs))
+            ∙ ap (λ (xs : List Device). xs ++ b .qs) (sym (map-last P (b .ps) (b .d)));
         count = length-append (b .ps) (b .d ∷ []) ∙ ap (λ (y : ℕ). y + 1) (b .count);
         passing = subst (λ (y : Device). AllPass (b .ps ++ (y ∷ []))) (sym g) (pass-more (b .ps) (b .d .registers) (b .passing));
         neat = b .neat .1;
         small = tt;
         devices = sym (ap (λ (y : Whole). y .0) m) ∙ b .devices;
-        out = sym (ap (λ (y : Whole). wrote (b .ws) (b .w) (states (y .1))) m) ∙ b .out;
+        out = sym (ap (λ (y : Whole). wrote (b .ws) (b .w) (statesIn (y .1))) m) ∙ b .out;
       }
 
   -- no header is under way
-  fronts : (b : Front) (rest : List ℕ) → b .ins ≡ [] → drop (b .at) ss ≡ rest → ((s : ℕ) (xs : List ℕ) → rest ≡ s ∷ xs → ltb s 2 ≡ true → b .f ≡ 0)
+  fronts : (b : Front) (rest : List ℕ) → afterHeader (b .d) (b .p) ≡ b .d → underWay (b .at) (b .p) ≡ [] → ((c : Command) (n : ℕ) → b .p ≡ Header c n → ⊥) → drop (b .at) ss ≡ rest
+      → ((s : ℕ) (xs : List ℕ) → rest ≡ s ∷ xs → ltb s 2 ≡ true → b .f ≡ 0)
       → InvariantTaken b (frontTaken (b .d) rest (b .at))
-  fronts b [] i e z = stays false b (b .d) (b .d) (b .at) (not-low (b .ps)) (b .neat .0) (nothing-in (b .d) (b .ins) i) (takes-none false (b .d) (drop (b .at) ss) (b .at))
-  fronts b (s ∷ xs) i e z = go (ltb s 2) refl (passes (b .d)) refl
+  fronts b [] dd i no-header e z =
+      stays false b (b .d) (b .at) (not-low (b .ps)) (neat-same b) refl
+      (subst (λ (y : Device). Takes false y (drop (b .at) ss) (b .at) (stopped (b .d) (b .at) Nothing)) (sym dd) (takes-none false (b .d) (drop (b .at) ss) (b .at)))
+  fronts b (s ∷ xs) dd i no-header e z = go (ltb s 2) refl (passes (b .d)) refl
     where
       go : (low : Bool) → ltb s 2 ≡ low → (p : Bool) → passes (b .d) ≡ p
           → InvariantTaken b (cond low (phaseTaken (b .d) (phaseRun (phaseOf (b .d .place)) (s ∷ xs) (b .at))) (cond p (stopped (b .d) (b .at) (One 0)) (highTaken (b .d) (s ∷ xs) (b .at))))
       go true h p g =
           let t = phaseTaken (b .d) (phaseRun (phaseOf (b .d .place)) (s ∷ xs) (b .at)) in
-          after true b (b .d) t (λ _. no-more (b .ps) (b .count ∙ z s xs refl h)) (nothing-in (b .d) (b .ins) i)
-          (subst (λ (r : List ℕ). Takes true (b .d) r (b .at) t) (sym e) (takes-low (b .d) s xs (b .at) h)) (ending-low (b .d) s xs (b .at) h)
-      go false h true g = hands-on b i (b .neat .0 g)
+          after-turn true b t (λ _. no-more (b .ps) (b .count ∙ z s xs refl h)) (λ q. absurd (true≢false q)) (λ _. refl) refl
+          (subst (λ (y : Device). Takes true y (drop (b .at) ss) (b .at) t) (sym dd) (subst (λ (r : List ℕ). Takes true (b .d) r (b .at) t) (sym e) (takes-low (b .d) s xs (b .at) h))) (ending-low (b .d) s xs (b .at) h)
+      go false h true g = hands-on b i no-header (b .neat .0 g)
       go false h false g =
           let t = highTaken (b .d) (s ∷ xs) (b .at) in
-          after false b (b .d) t (not-low (b .ps)) (nothing-in (b .d) (b .ins) i)
-          (subst (λ (r : List ℕ). Takes false (b .d) r (b .at) t) (sym e) (takes (b .d) (s ∷ xs) (b .at))) (endings (b .d) (s ∷ xs) (b .at) g)
+          after-turn false b t (not-low (b .ps))
+          (λ _. ap (λ (r : List ℕ). highTaken (b .d) r (b .at)) (sym e) ∙ ap (λ (y : Device). highTaken y (drop (b .at) ss) (b .at)) (sym dd)) (λ q. not-low-sent q) (settled-high (s ∷ xs) (b .d) (b .at))
+          (subst (λ (y : Device). Takes false y (drop (b .at) ss) (b .at) t) (sym dd) (subst (λ (r : List ℕ). Takes false (b .d) r (b .at) t) (sym e) (takes (b .d) (s ∷ xs) (b .at)))) (endings (b .d) (s ∷ xs) (b .at) g)
 
   -- whatever is under way
-  serves : (b : Front) (p : Sent) → b .ins ≡ underWay (b .at) p → Small p
-      → ((s : ℕ) (xs : List ℕ) → drop (b .at) ss ≡ s ∷ xs → owed p ≡ 0 → ltb s 2 ≡ true → b .f ≡ 0)
+  serves : (b : Front) (p : Sent) → b .p ≡ p → ((s : ℕ) (xs : List ℕ) → drop (b .at) ss ≡ s ∷ xs → owed p ≡ 0 → ltb s 2 ≡ true → b .f ≡ 0)
       → InvariantTaken b (deviceTaken (b .d) p (drop (b .at) ss) (b .at))
-  unfolding Small
-  serves b Nothing i k z = fronts b (drop (b .at) ss) i refl (λ s xs e h. z s xs e refl h)
-  serves b (One x) i k z = fronts b (drop (b .at) ss) i refl (λ s xs e h. z s xs e refl h)
-  serves b (Header c n) i k z =
-      let d0 = sliceStart (b .d) c n in
-      after false b d0 (highTaken d0 (drop (b .at) ss) (b .at)) (not-low (b .ps)) (ap (runTimed (b .d)) i ∙ run-header (b .d) c n (b .at) k)
-      (takes d0 (drop (b .at) ss) (b .at)) (endings d0 (drop (b .at) ss) (b .at) refl)
+  serves b Nothing i z =
+      fronts b (drop (b .at) ss) (ap (afterHeader (b .d)) i) (ap (underWay (b .at)) i) (λ c n e. no-way (ap isHeader (sym i ∙ e))) refl (λ s xs e h. z s xs e refl h)
+    where
+      isHeader : Sent → Bool
+      isHeader Nothing = false
+      isHeader (One x) = false
+      isHeader (Header c n) = true
+  serves b (One x) i z =
+      fronts b (drop (b .at) ss) (ap (afterHeader (b .d)) i) (ap (underWay (b .at)) i) (λ c n e. no-way (ap isHeader (sym i ∙ e))) refl (λ s xs e h. z s xs e refl h)
+    where
+      isHeader : Sent → Bool
+      isHeader Nothing = false
+      isHeader (One x) = false
+      isHeader (Header c n) = true
+  serves b (Header c n) i z =
+      let dd = sliceStart (b .d) c n in
+      let same : afterHeader (b .d) (b .p) ≡ dd = ap (afterHeader (b .d)) i in
+      let t = highTaken dd (drop (b .at) ss) (b .at) in
+      after-turn false b t (not-low (b .ps)) (λ _. ap (λ (y : Device). highTaken y (drop (b .at) ss) (b .at)) (sym same)) (λ q. not-low-sent q) (settled-high (drop (b .at) ss) dd (b .at))
+      (subst (λ (y : Device). Takes false y (drop (b .at) ss) (b .at) t) (sym same) (takes dd (drop (b .at) ss) (b .at))) (endings dd (drop (b .at) ss) (b .at) refl)
 
   -- ---- the cursor of the next turn
-  reset : (ys : List Device) (ws : List ℕ) (f at w : ℕ) → Invariant ys ws f at w Nothing → Invariant ys ws 0 at w Nothing
+  reset : (ys : List Device) (ws : List ℕ) (f at w : ℕ) → highCount (drop at ss) ≡ 0 → Invariant ys ws f at w Nothing → Invariant ys ws 0 at w Nothing
   unfolding Small chain
-  reset ys ws f at w h =
-      let m : joined (passOn (h .ps) (ahead at)) (h .qs) [] ≡ passOn ys (ahead at) =
-      sym (chain-devices stepTimed (h .ps) (h .qs) (ahead at)) ∙ ap (λ (b : List Device). passOn b (ahead at)) (sym (h .split)) in
+  reset ys ws f at w z h =
+      let sp : ys ≡ h .ps ++ h .qs = h .split ∙ ap (λ (xs : List Device). xs ++ h .qs) (passeds-none at (highs at) (h .ps) (ap (λ (n : ℕ). take n (drop at ss)) z)) in
+      let m : joined (relayLate (h .ps) (ahead at)) (h .qs) [] ≡ relayLate ys (ahead at) =
+      sym (chain-devices stepLate (h .ps) (h .qs) (ahead at)) ∙ ap (λ (b : List Device). relayLate b (ahead at)) (sym sp) in
       record {
         ps = [];
         qs = ys;
         split = refl;
         count = refl;
-        passing = none;
-        neat = subst AllNeat (sym (h .split)) (neat-append (h .ps) (h .qs) (h .passing) (h .neat));
+        passing = AllPass.none;
+        neat = subst AllNeat (sym sp) (neat-append (h .ps) (h .qs) (h .passing) (h .neat));
         small = tt;
         devices = sym (ap (λ (b : Whole). b .0) m) ∙ h .devices;
-        out = sym (ap (λ (b : Whole). wrote ws w (states (b .1))) m) ∙ h .out;
+        out = sym (ap (λ (b : Whole). wrote ws w (statesIn (b .1))) m) ∙ h .out;
       }
 
   abbrev InvariantAt : List Device → List ℕ → Cursor → Type 0
   InvariantAt ys ws c = Invariant ys ws (c .front) (c .at) (c .written) (c .pending)
 
-  turnByState-holds : (n : ℕ) (ys : List Device) (ws : List ℕ) (f at w : ℕ) (rest : List ℕ) → Invariant ys ws f at w Nothing → InvariantAt ys ws (turnByState n f at w rest)
-  turnByState-holds n ys ws f at w [] h = h
-  turnByState-holds n ys ws f at w (s ∷ xs) h =
+  turnByState-holds : (n : ℕ) (ys : List Device) (ws : List ℕ) (f at w : ℕ) (rest : List ℕ) → drop at ss ≡ rest → Invariant ys ws f at w Nothing → InvariantAt ys ws (turnByState n f at w rest)
+  turnByState-holds n ys ws f at w [] e h = h
+  turnByState-holds n ys ws f at w (s ∷ xs) e h =
       cond-both (InvariantAt ys ws) (ltb s 2) (cursor n 0 0 at w Nothing true) (cursor n f (indexOf n f) at w Nothing true)
-      (λ _. reset ys ws f at w h) (λ _. h)
+      (λ l. reset ys ws f at w (ap highCount e ∙ highs-low s xs l) h) (λ _. h)
 
   one-none : (ys : List Device) (ws : List ℕ) (f at w b : ℕ) → Invariant ys ws f at w (One b) → Invariant ys ws f at w Nothing
   unfolding Small
   one-none ys ws f at w b h = record { ps = h .ps; qs = h .qs; split = h .split; count = h .count; passing = h .passing; neat = h .neat; small = tt; devices = h .devices; out = h .out }
 
-  nextTurn-holds : (n : ℕ) (ys : List Device) (ws : List ℕ) (f at w : ℕ) (p : Sent) (rest : List ℕ) → Invariant ys ws f at w p → InvariantAt ys ws (nextTurn n f at w p rest)
-  nextTurn-holds n ys ws f at w Nothing rest h = turnByState-holds n ys ws f at w rest h
-  nextTurn-holds n ys ws f at w (One b) rest h = turnByState-holds n ys ws f at w rest (one-none ys ws f at w b h)
-  nextTurn-holds n ys ws f at w (Header c k) rest h = h
+  nextTurn-holds : (n : ℕ) (ys : List Device) (ws : List ℕ) (f at w : ℕ) (p : Sent) (rest : List ℕ) → drop at ss ≡ rest → Invariant ys ws f at w p → InvariantAt ys ws (nextTurn n f at w p rest)
+  nextTurn-holds n ys ws f at w Nothing rest e h = turnByState-holds n ys ws f at w rest e h
+  nextTurn-holds n ys ws f at w (One b) rest e h = turnByState-holds n ys ws f at w rest e (one-none ys ws f at w b h)
+  nextTurn-holds n ys ws f at w (Header c k) rest e h = h
 
   -- ---- what leaves the chain
   full-or-not : (room w k : ℕ) (P : ℕ → Type 0) → (w + k ≤ room → P (w + k)) → (room < w + k → P room) → P (putEnd room w k)
@@ -340,17 +566,21 @@ module _ (ss : List ℕ) (fin : List Device × (List ℕ × ℕ)) where
       ∙ ap (λ (n : ℕ). (putAll (putAll ws w xs) (putEnd (length ws) w k) ys, n)) (fill-fill (length ws) w k (length ys))
       ∙ ap (λ (n : ℕ). (putAll (putAll ws w xs) (putEnd (length ws) w k) ys, putEnd n (putEnd (length ws) w k) (length ys))) (sym (length-put ws w xs))
 
-  last-out : (a : Whole) (q : List Timed) → joined a [] q ≡ (a .0 ++ [], q ++ a .1)
+  last-out : (a : Whole) (q : List Packet) → joined a [] q ≡ (a .0 ++ [], q ++ a .1)
   unfolding chain
   last-out a q = refl
+
+  header-joined : (t : ℕ) (c : Command) (n : ℕ) (xs : List Packet) → headerStates c n ++ statesIn xs ≡ statesIn (underWay t (Header c n) ++ xs)
+  unfolding flatten
+  header-joined t c n xs = refl
 
   leaves : (ys : List Device) (ws : List ℕ) (f at w : ℕ) (c : Command) (n : ℕ) → (h : Invariant ys ws f at w (Header c n)) → h .qs ≡ []
       → Invariant ys (putAll ws w (headerStates c n)) f at (putEnd (length ws) w 24) Nothing
   unfolding Small
   leaves ys ws f at w c n h e =
-      let A : Whole = passOn (h .ps) (ahead at) in
-      let m : joined A (h .qs) (stamped at (headerStates c n)) ≡ (A .0 ++ [], stamped at (headerStates c n) ++ A .1) =
-      ap (λ (b : List Device). joined A b (stamped at (headerStates c n))) e ∙ last-out A (stamped at (headerStates c n)) in
+      let A : Whole = relayLate (h .ps) (ahead at) in
+      let q : List Packet = underWay at (Header c n) in
+      let m : joined A (h .qs) q ≡ (A .0 ++ [], q ++ A .1) = ap (λ (b : List Device). joined A b q) e ∙ last-out A q in
       let k : joined A (h .qs) [] ≡ (A .0 ++ [], A .1) = ap (λ (b : List Device). joined A b []) e ∙ last-out A [] in
       record {
         ps = h .ps;
@@ -362,55 +592,45 @@ module _ (ss : List ℕ) (fin : List Device × (List ℕ × ℕ)) where
         small = tt;
         devices = ap (λ (b : Whole). b .0) k ∙ sym (ap (λ (b : Whole). b .0) m) ∙ h .devices;
         out =
-            ap (λ (b : Whole). wrote (putAll ws w (headerStates c n)) (putEnd (length ws) w 24) (states (b .1))) k
-            ∙ sym (wrote-append ws w (headerStates c n) (states (A .1)) 24 (length-header-states c n))
-            ∙ ap (wrote ws w) (sym (map-append (λ (x : Timed). x .state) (stamped at (headerStates c n)) (A .1) ∙ ap (λ (xs : List ℕ). xs ++ states (A .1)) (states-stamped at (headerStates c n))))
-            ∙ sym (ap (λ (b : Whole). wrote ws w (states (b .1))) m) ∙ h .out;
+            ap (λ (b : Whole). wrote (putAll ws w (headerStates c n)) (putEnd (length ws) w 24) (statesIn (b .1))) k
+            ∙ sym (wrote-append ws w (headerStates c n) (statesIn (A .1)) 24 (length-header-states c n))
+            ∙ ap (wrote ws w) (header-joined at c n (A .1))
+            ∙ sym (ap (λ (b : Whole). wrote ws w (statesIn (b .1))) m) ∙ h .out;
       }
-
-  highCount-high : (xs : List ℕ) (k : ℕ) → High (timed k (take (highCount xs) xs))
-  unfolding highCount timed
-  highCount-high [] k = none
-  highCount-high (x ∷ xs) k = go (highCount-high xs (k + 1)) (ltb x 2) refl
-    where
-      one : (n : ℕ) → suc n ≡ n + 1
-      one n = omega arith
-
-      go : High (timed (k + 1) (take (highCount xs) xs)) → (t : Bool) → ltb x 2 ≡ t → High (timed k (take (cond t 0 (highCount xs + 1)) (x ∷ xs)))
-      go r true e = none
-      go r false e = subst (λ (n : ℕ). High (timed k (take n (x ∷ xs)))) (one (highCount xs)) (also e r)
 
   all-pass : (ys : List Device) (ws : List ℕ) (f at w : ℕ) → (h : Invariant ys ws f at w Nothing) → h .qs ≡ []
       → Invariant ys (putAll ws w (take (highCount (drop at ss)) (drop at ss))) f (at + highCount (drop at ss)) (putEnd (length ws) w (highCount (drop at ss))) Nothing
   unfolding Small
   all-pass ys ws f at w h e =
       let many : ℕ = highCount (drop at ss) in
-      let hs : List ℕ = take many (drop at ss) in
+      let hs : List ℕ = highs at in
+      let k : ℕ = at + many in
       let len : length hs ≡ many = length-take-le many (drop at ss) (highCount-fit (drop at ss)) in
-      let rest-is : drop (at + many) ss ≡ drop many (drop at ss) = sym (drop-drop many at ss) in
-      let B : Whole = passOn (h .ps) (ahead (at + many)) in
-      let whole : ahead at ≡ timed at hs ++ ahead (at + many) =
-      ap (timed at) (sym (take-append-drop many (drop at ss)) ∙ ap (λ (r : List ℕ). hs ++ r) (sym rest-is)) ∙ timed-append at hs (drop (at + many) ss)
-      ∙ ap (λ (n : ℕ). timed at hs ++ timed (at + n) (drop (at + many) ss)) len in
-      let m : joined (passOn (h .ps) (ahead at)) (h .qs) [] ≡ (B .0 ++ [], timed at hs ++ B .1) =
-      ap (λ (b : List Device). joined (passOn (h .ps) (ahead at)) b []) e ∙ last-out (passOn (h .ps) (ahead at)) []
+      let rest-is : drop k ss ≡ drop many (drop at ss) = sym (drop-drop many at ss) in
+      let q : List Device = map (passed at hs) (h .ps) in
+      let B : Whole = relayLate q (ahead k) in
+      let over : highs k ≡ [] = ap highsOf rest-is ∙ ap (λ (n : ℕ). take n (drop many (drop at ss))) (highs-over (drop at ss)) in
+      let whole : ahead at ≡ singles at hs ++ ahead k =
+      ap (singles at) (sym (take-append-drop many (drop at ss)) ∙ ap (λ (r : List ℕ). hs ++ r) (sym rest-is)) ∙ singles-append at hs (drop k ss)
+      ∙ ap (λ (n : ℕ). singles at hs ++ singles (at + n) (drop k ss)) len in
+      let m : joined (relayLate (h .ps) (ahead at)) (h .qs) [] ≡ (B .0 ++ [], singles at hs ++ B .1) =
+      ap (λ (b : List Device). joined (relayLate (h .ps) (ahead at)) b []) e ∙ last-out (relayLate (h .ps) (ahead at)) []
       ∙ ap (λ (a : Whole). (a .0 ++ [], a .1))
-      (ap (λ (r : List Timed). passOn (h .ps) r) whole
-      ∙ through-high (h .ps) (timed at hs) (ahead (at + many)) (h .passing) (highCount-high (drop at ss) at)) in
-      let k : joined B (h .qs) [] ≡ (B .0 ++ [], B .1) = ap (λ (b : List Device). joined B b []) e ∙ last-out B [] in
+      (ap (λ (r : List Packet). relayLate (h .ps) r) whole ∙ relay-pass (h .ps) at hs (ahead k) (h .passing) (highs-all (drop at ss))) in
+      let n : joined B (h .qs) [] ≡ (B .0 ++ [], B .1) = ap (λ (b : List Device). joined B b []) e ∙ last-out B [] in
       record {
-        ps = h .ps;
+        ps = q;
         qs = h .qs;
-        split = h .split;
-        count = h .count;
-        passing = h .passing;
+        split = h .split ∙ ap (λ (xs : List Device). xs ++ h .qs) (sym (passeds-none k (highs k) q over));
+        count = length-map (h .ps) (passed at hs) ∙ h .count;
+        passing = passed-all (h .ps) at hs (h .passing);
         neat = h .neat;
         small = tt;
-        devices = ap (λ (b : Whole). b .0) k ∙ sym (ap (λ (b : Whole). b .0) m) ∙ h .devices;
-        out = ap (λ (b : Whole). wrote (putAll ws w hs) (putEnd (length ws) w many) (states (b .1))) k
-            ∙ sym (wrote-append ws w hs (states (B .1)) many len)
-            ∙ ap (wrote ws w) (sym (map-append (λ (x : Timed). x .state) (timed at hs) (B .1) ∙ ap (λ (xs : List ℕ). xs ++ states (B .1)) (states-timed at hs)))
-            ∙ sym (ap (λ (b : Whole). wrote ws w (states (b .1))) m) ∙ h .out;
+        devices = ap (λ (b : Whole). b .0) n ∙ sym (ap (λ (b : Whole). b .0) m) ∙ h .devices;
+        out = ap (λ (b : Whole). wrote (putAll ws w hs) (putEnd (length ws) w many) (statesIn (b .1))) n
+            ∙ sym (wrote-append ws w hs (statesIn (B .1)) many len)
+            ∙ ap (wrote ws w) (sym (states-append (singles at hs) (B .1) ∙ ap (λ (xs : List ℕ). xs ++ statesIn (B .1)) (states-singles at hs)))
+            ∙ sym (ap (λ (b : Whole). wrote ws w (statesIn (b .1))) m) ∙ h .out;
       }
 
   -- ---- a whole turn
@@ -443,38 +663,43 @@ module _ (ss : List ℕ) (fin : List Device × (List ℕ × ℕ)) where
   index-is (Header k m) c rest e l v = ap (λ (x : Cursor). x .index) e ∙ ap (λ (t : Bool). cond t (c .front) 0) l
 
   device-holds : (ys : List Device) (ws : List ℕ) (c : Cursor) → (h : InvariantAt ys ws c) → IsNext (c .pending) c (drop (c .at) ss) → c .index ≡ c .front
-      → (qs : List Device) → h .qs ≡ qs → 0 < length qs
+      → c .end ≡ highsEnd (drop (c .at) ss) (c .at) → (qs : List Device) → h .qs ≡ qs → 0 < length qs
       → InvariantAt (set ys (c .index) (deviceTurn (getD ys (c .index) blank) c ss .device)) ws (deviceTurn (getD ys (c .index) blank) c ss .cursor)
-  unfolding InvariantTaken
-  device-holds ys ws c h e j [] q l = absurd (omega (arith, l))
-  device-holds ys ws c h e j (d ∷ qs) q l =
+  unfolding InvariantTaken watchedTaken
+  device-holds ys ws c h e j en [] q l = absurd (omega (arith, l))
+  device-holds ys ws c h e j en (d ∷ qs) q l =
       let f : ℕ = c .front in
       let at : ℕ = c .at in
       let p : Sent = c .pending in
-      let sp : ys ≡ h .ps ++ d ∷ qs = h .split ∙ ap (λ (b : List Device). h .ps ++ b) q in
+      let heard : List Device = map (passed at (highs at)) (h .ps) in
+      let many : length heard ≡ f = length-map (h .ps) (passed at (highs at)) ∙ h .count in
+      let sp : ys ≡ heard ++ d ∷ qs = h .split ∙ ap (λ (b : List Device). heard ++ b) q in
       let dd : getD ys (c .index) blank ≡ d =
-      ap (λ (k : ℕ). getD ys k blank) j ∙ ap (λ (b : List Device). getD b f blank) sp ∙ getD-at (h .ps) d qs blank f (h .count) in
+      ap (λ (k : ℕ). getD ys k blank) j ∙ ap (λ (b : List Device). getD b f blank) sp ∙ getD-at heard d qs blank f many in
       let t : Taken = deviceTaken d p (drop at ss) at in
-      let served : Invariant (set (h .ps ++ d ∷ qs) f (t .device)) ws (frontAfter f (t .sent)) (t .at) (c .written) (t .sent) =
-      serves
-      (record {
+      let b : Front = record {
         ps = h .ps;
         d = d;
         qs = qs;
-        ins = underWay at p;
+        p = p;
         ws = ws;
         f = f;
         at = at;
         w = c .written;
+        end = c .end;
         count = h .count;
         passing = h .passing;
         neat = subst AllNeat q (h .neat);
-        devices = ap (λ (b : List Device). joined (passOn (h .ps) (ahead at)) b (underWay at p) .0) (sym q) ∙ h .devices;
-        out = ap (λ (b : List Device). wrote ws (c .written) (states (joined (passOn (h .ps) (ahead at)) b (underWay at p) .1))) (sym q) ∙ h .out;
-      })
-      p refl (h .small) (λ s xs r k u. low-front p c s xs (e ∙ ap (λ (y : List ℕ). nextTurn (c .count) f at (c .written) p y) r) k u) in
-      let next-holds : InvariantAt (set (h .ps ++ d ∷ qs) f (t .device)) ws (deviceTurn d c ss .cursor) =
-      nextTurn-holds (c .count) (set (h .ps ++ d ∷ qs) f (t .device)) ws (frontAfter f (t .sent)) (t .at) (c .written) (t .sent) (drop (t .at) ss) served in
+        small = h .small;
+        ends = en ∙ highsEnd-highCount (drop at ss) at;
+        devices = ap (λ (b : List Device). joined (relayLate (h .ps) (ahead at)) b (underWay at p) .0) (sym q) ∙ h .devices;
+        out = ap (λ (b : List Device). wrote ws (c .written) (statesIn (joined (relayLate (h .ps) (ahead at)) b (underWay at p) .1))) (sym q) ∙ h .out;
+      } in
+      let n : Device = frontWatched d c ss .device in
+      let served : Invariant (set (heard ++ d ∷ qs) f n) ws (frontAfter f (t .sent)) (t .at) (c .written) (t .sent) =
+      serves b p refl (λ s xs r k u. low-front p c s xs (e ∙ ap (λ (y : List ℕ). nextTurn (c .count) f at (c .written) p y) r) k u) in
+      let next-holds : InvariantAt (set (heard ++ d ∷ qs) f n) ws (deviceTurn d c ss .cursor) =
+      nextTurn-holds (c .count) (set (heard ++ d ∷ qs) f n) ws (frontAfter f (t .sent)) (t .at) (c .written) (t .sent) (drop (t .at) ss) refl served in
       subst (λ (x : Device). InvariantAt (set ys (c .index) (deviceTurn x c ss .device)) ws (deviceTurn x c ss .cursor)) (sym dd)
       (subst (λ (k : ℕ). InvariantAt (set ys k (deviceTurn d c ss .device)) ws (deviceTurn d c ss .cursor)) (sym j)
       (subst (λ (b : List Device). InvariantAt (set b f (deviceTurn d c ss .device)) ws (deviceTurn d c ss .cursor)) (sym sp) next-holds))
@@ -484,24 +709,27 @@ module _ (ss : List ℕ) (fin : List Device × (List ℕ × ℕ)) where
   unfolding one-none
   leave-holds ys ws Nothing c h e =
       let many : ℕ = highCount (drop (c .at) ss) in
-      nextTurn-holds (c .count) ys _ (c .front) (c .at + many) _ Nothing (drop (c .at + many) ss) (all-pass ys ws (c .front) (c .at) (c .written) h e)
+      nextTurn-holds (c .count) ys _ (c .front) (c .at + many) _ Nothing (drop (c .at + many) ss) refl (all-pass ys ws (c .front) (c .at) (c .written) h e)
   leave-holds ys ws (One b) c h e =
       let many : ℕ = highCount (drop (c .at) ss) in
-      nextTurn-holds (c .count) ys _ (c .front) (c .at + many) _ Nothing (drop (c .at + many) ss)
+      nextTurn-holds (c .count) ys _ (c .front) (c .at + many) _ Nothing (drop (c .at + many) ss) refl
       (all-pass ys ws (c .front) (c .at) (c .written) (one-none ys ws (c .front) (c .at) (c .written) b h) (one-qs ys ws (c .front) (c .at) (c .written) b h e))
     where
       one-qs : (ys : List Device) (ws : List ℕ) (f at w b : ℕ) (h : Invariant ys ws f at w (One b)) → h .qs ≡ [] → one-none ys ws f at w b h .qs ≡ []
       one-qs ys ws f at w b h e = e
   leave-holds ys ws (Header k m) c h e =
-      nextTurn-holds (c .count) ys _ (c .front) (c .at) _ Nothing (drop (c .at) ss) (leaves ys ws (c .front) (c .at) (c .written) k m h e)
+      nextTurn-holds (c .count) ys _ (c .front) (c .at) _ Nothing (drop (c .at) ss) refl (leaves ys ws (c .front) (c .at) (c .written) k m h e)
 
-  turn-holds : (ys : List Device) (ws : List ℕ) (c : Cursor) → length ys ≡ c .count → InvariantAt ys ws c → IsNext (c .pending) c (drop (c .at) ss) → c .going ≡ true
+  turn-holds : (ys : List Device) (ws : List ℕ) (c : Cursor) → length ys ≡ c .count → InvariantAt ys ws c → IsNext (c .pending) c (drop (c .at) ss)
+      → c .end ≡ highsEnd (drop (c .at) ss) (c .at) → c .going ≡ true
       → InvariantAt (set ys (c .index) (turnWithin (getD ys (c .index) blank) c ss (length ws) .device)) (cond (ltb (c .front) (c .count)) ws (leaveOut c ss ws))
       (turnWithin (getD ys (c .index) blank) c ss (length ws) .cursor)
-  turn-holds ys ws c l h e v = go (ltb (c .front) (c .count)) refl
+  turn-holds ys ws c l h e en v = go (ltb (c .front) (c .count)) refl
     where
       long : length (h .ps) + length (h .qs) ≡ c .count
-      long = sym (length-append (h .ps) (h .qs)) ∙ sym (ap length (h .split)) ∙ l
+      long =
+          ap (λ (n : ℕ). n + length (h .qs)) (sym (length-map (h .ps) (passed (c .at) (highs (c .at)))))
+          ∙ sym (length-append (map (passed (c .at) (highs (c .at))) (h .ps)) (h .qs)) ∙ sym (ap length (h .split)) ∙ l
 
       d : Device
       d = getD ys (c .index) blank
@@ -510,23 +738,26 @@ module _ (ss : List ℕ) (fin : List Device × (List ℕ × ℕ)) where
           → InvariantAt (set ys (c .index) (cond t (deviceTurn d c ss) (leaveTurn d c ss (length ws)) .device)) (cond t ws (leaveOut c ss ws))
           (cond t (deviceTurn d c ss) (leaveTurn d c ss (length ws)) .cursor)
       go true q =
-          device-holds ys ws c h e (index-is (c .pending) c (drop (c .at) ss) e q v) (h .qs) refl (omega (arith, long, h .count, ltb-true (c .front) (c .count) q))
+          device-holds ys ws c h e (index-is (c .pending) c (drop (c .at) ss) e q v) en (h .qs) refl (omega (arith, long, h .count, ltb-true (c .front) (c .count) q))
       go false q =
           subst (λ (b : List Device). InvariantAt b (leaveOut c ss ws) (leaveCursor (c .pending) c ss (length ws))) (sym (set-getD ys (c .index) blank))
-          (leave-holds ys ws (c .pending) c h (no-more (h .qs) (omega (arith, long, h .count, ltb-false (c .front) (c .count) q))))
+          (subst (InvariantAt ys (leaveOut c ss ws)) (leave-under (c .pending) c ss (length ws))
+          (leave-holds ys ws (c .pending) c h (no-more (h .qs) (omega (arith, long, h .count, ltb-false (c .front) (c .count) q)))))
 
   -- ---- the end
   abbrev Ended : List Device → List ℕ → ℕ → Type 0
   Ended ys ws w = (ys ≡ fin .0) × ((ws, w) ≡ fin .1)
 
   ends-empty : (ys : List Device) (ws : List ℕ) (f at w : ℕ) → Invariant ys ws f at w Nothing → drop at ss ≡ [] → w ≤ length ws → Ended ys ws w
-  unfolding putAll
+  unfolding putAll highCount flatten
   ends-empty ys ws f at w h e l =
-      let m : joined (passOn (h .ps) (ahead at)) (h .qs) [] ≡ (h .ps ++ h .qs, []) =
-      ap (λ (r : List ℕ). joined (passOn (h .ps) (timed at r)) (h .qs) []) e ∙ ap (λ (r : List Timed). joined (passOn (h .ps) r) (h .qs) []) (timed-none at) ∙ ap (λ (a : Whole). joined a (h .qs) []) (chain-nil stepTimed (h .ps))
-      ∙ ap (λ (b : Whole). (h .ps ++ b .0, b .1)) (chain-nil stepTimed (h .qs)) in (
-        h .split ∙ sym (ap (λ (b : Whole). b .0) m) ∙ h .devices,
-        ap (λ (k : ℕ). (ws, k)) (full-or-not (length ws) w 0 (λ (k : ℕ). w ≡ k) (λ g. omega arith) (λ g. absurd (omega (arith, g, l)))) ∙ sym (ap (λ (b : Whole). wrote ws w (states (b .1))) m) ∙ h .out,
+      let over : highs at ≡ [] = ap highsOf e in
+      let m : joined (relayLate (h .ps) (ahead at)) (h .qs) [] ≡ (h .ps ++ h .qs, []) =
+      ap (λ (r : List ℕ). joined (relayLate (h .ps) (singles at r)) (h .qs) []) e ∙ ap (λ (r : List Packet). joined (relayLate (h .ps) r) (h .qs) []) (singles-none at)
+      ∙ ap (λ (a : Whole). joined a (h .qs) []) (chain-nil stepLate (h .ps)) ∙ ap (λ (b : Whole). (h .ps ++ b .0, b .1)) (chain-nil stepLate (h .qs)) in (
+        h .split ∙ ap (λ (xs : List Device). xs ++ h .qs) (passeds-none at (highs at) (h .ps) over) ∙ sym (ap (λ (b : Whole). b .0) m) ∙ h .devices,
+        ap (λ (k : ℕ). (ws, k)) (full-or-not (length ws) w 0 (λ (k : ℕ). w ≡ k) (λ g. omega arith) (λ g. absurd (omega (arith, g, l))))
+            ∙ sym (ap (λ (b : Whole). wrote ws w (statesIn (b .1))) m) ∙ h .out,
       )
 
   ends-turnByState : (ys : List Device) (ws : List ℕ) (p : Sent) (c : Cursor) (rest : List ℕ) → InvariantUnder ys ws Nothing c → drop (c .at) ss ≡ rest
@@ -564,7 +795,7 @@ module _ (ss : List ℕ) (fin : List Device × (List ℕ × ℕ)) where
       subst (λ (t : Turned). InvariantAt (set (r .devices) (r .cursor .index) (t .device)) (turnedOut (r .cursor) ss (r .out)) (t .cursor))
       (sym (turned-is d (r .cursor) ss (length (r .out)) (good .at) w))
       (subst (λ (os : List ℕ). InvariantAt (set (r .devices) (r .cursor .index) (u .device)) os (u .cursor)) (sym (turned-out-is (r .cursor) ss (r .out) (good .at) w))
-      (turn-holds (r .devices) (r .out) (r .cursor) (good .devices ∙ sym (good .count)) h (good .next) e))
+      (turn-holds (r .devices) (r .out) (r .cursor) (good .devices ∙ sym (good .count)) h (good .next) (good .end) e))
 
   by-going : (t n room : ℕ) (r : Running) → 0 < n → n < 1024 → Good n ss room r → InvariantAt (r .devices) (r .out) (r .cursor) → (g : Bool) → r .cursor .going ≡ g
       → (r .cursor .going ≡ true → Same (turns t ss r)) → Same (turns t ss r)
@@ -595,15 +826,16 @@ pub all-neat : (ds : List Device) → allFit ds ≡ true → AllNeat ds
 all-neat [] h = tt
 all-neat (d ∷ ds) h = let both = and-both (fits d) (allFit ds) h in (fits-neat d (both .0), all-neat ds (both .1))
 
--- a run by its front: the devices, what is written, and where it ends are those of the run that knows each state's clock
+-- a run by its front: the devices, what is written, and where it ends are those of the late run
 pub front-run-same : (ds : List Device) (ss os : List ℕ) → 0 < length ds → length ds < 1024 → AllNeat ds
-    → let w : Whole = passOn ds (timed 0 ss) in
-    (frontRun ds ss os .devices ≡ w .0) × (frontRun ds ss os .out ≡ putAll os 0 (states (w .1))) ×
-    (frontRun ds ss os .cursor .written ≡ putEnd (length os) 0 (length (states (w .1))))
+    → let w : Whole = relayLate ds (singles 0 ss) in
+    (frontRun ds ss os .devices ≡ w .0) × (frontRun ds ss os .out ≡ putAll os 0 (statesIn (w .1))) ×
+    (frontRun ds ss os .cursor .written ≡ putEnd (length os) 0 (length (statesIn (w .1))))
 unfolding frontRun chain Small
 front-run-same ds ss os some few ne =
-    let w : Whole = passOn ds (timed 0 ss) in
-    let fin : List Device × (List ℕ × ℕ) = (w .0, (putAll os 0 (states (w .1)), putEnd (length os) 0 (length (states (w .1))))) in
+    let w : Whole = relayLate ds (singles 0 ss) in
+    let fin : List Device × (List ℕ × ℕ) = (w .0, (putAll os 0 (statesIn (w .1)), putEnd (length os) 0 (length (statesIn (w .1))))) in
     let all = turns-all ss fin (enough ss) (length ds) (length os) (started ds ss os) some few (good-start ds ss os some) (near-start ds ss few)
-    (nextTurn-holds ss fin (length ds) ds os 0 0 0 Nothing ss (record { ps = []; qs = ds; split = refl; count = refl; passing = none; neat = ne; small = tt; devices = refl; out = refl })) in
+    (nextTurn-holds ss fin (length ds) ds os 0 0 0 Nothing ss refl
+    (record { ps = []; qs = ds; split = refl; count = refl; passing = AllPass.none; neat = ne; small = tt; devices = refl; out = refl })) in
     (all .0, ap (λ (x : List ℕ × ℕ). x .0) (all .1), ap (λ (x : List ℕ × ℕ). x .1) (all .1))

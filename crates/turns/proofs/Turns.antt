@@ -7,6 +7,7 @@ use Prim.Native.Nat.{ℕ, zero, suc, _+_, _-_, _*_, _<_, _≤_}
 use native.Mathlib.Omega.{arith}
 use lib.Dec.{ltb, leb}
 use lib.ListN.{length, getD, drop, length-set, length-drop}
+use lib.Seq.{drop-drop}
 use borrow.Author.Tests.{ltb-true, ltb-false, leb-true, le-leb}
 use Rattle.phases.specs.Phases.{phaseOf, heard}
 use Rattle.device.specs.declared.device.Stepped.{Stepped}
@@ -14,7 +15,7 @@ use Rattle.phases.specs.declared.phase.Phase.{Phase}
 use Rattle.phases.specs.declared.phase.Sent.{Sent}
 use Rattle.phases.specs.declared.phase.Sent.the-variants.{Nothing, One, Header}
 use Rattle.device.specs.declared.device.Device.{Device}
-use Rattle.intake.specs.Intake.{stopped, stepIn, unlessSent, highTaken}
+use Rattle.intake.specs.Intake.{stopped, stepIn, unlessSent, highTaken, highsEnd}
 use Rattle.intake.proofs.Phases.{high-cons}
 use Rattle.intake.specs.declared.taken.Taken.{Taken}
 use Rattle.calls.specs.Chain.{blank}
@@ -22,7 +23,8 @@ use Rattle.cursor.specs.declared.cursor.Cursor.{Cursor}
 use Rattle.turns.specs.declared.front.PhaseRun.{PhaseRun}
 use Rattle.cursor.specs.Cursor.{indexOf, cursor, turnByState, nextTurn, beginRun, halted}
 use Rattle.turns.specs.Front.{passes, phaseRun, phaseTaken, frontTaken, sliceStart, deviceTaken, putEnd, highCount, frontAfter, leaving, leaveCursor, leaveOut}
-use Rattle.turns.specs.Front.{deviceTurn, within, turned, turnedOut, Running, turnAt, turning, turns, started, enough, Turned, turnTaken, cursorTo, cursorAfter, leaveAfter, leaveRoom}
+use Rattle.turns.specs.Front.{deviceTurn, within, turned, turnedOut, Running, turning, turns, started, enough, Turned, turnTaken, frontWatched, cursorTo, onTo, cursorAfter, leaveAfter, leaveRoom}
+use Rattle.turns.specs.Watching.{watchedTaken}
 use Rattle.turns.proofs.LeavingStates.{highCount-within, length-put}
 use Rattle.turns.proofs.Phases.{phaseRun-low, phaseRun-along}
 use Rattle.tables.proofs.Booleans.{cond-both}
@@ -74,6 +76,14 @@ nextTurn-range n f at w (One b) rest h =
     (record { count = refl; index = index-within n f h; at = refl; written = refl })
 nextTurn-range n f at w (Header c k) rest h = record { count = refl; index = index-within n f h; at = refl; written = refl }
 
+-- a cursor under which p is under way, but for where high states end
+abbrev pub under : Sent → Cursor → Cursor
+under p c = cursor (c .count) (c .front) (c .index) (c .at) (c .written) p (c .going)
+
+-- it is that of its own next turn, the states ahead being `rest`
+abbrev pub IsNext : Sent → Cursor → List ℕ → Type 0
+IsNext p c rest = under p c ≡ nextTurn (c .count) (c .front) (c .at) (c .written) p rest
+
 -- the cursor of a next turn is that of its own numbers
 abbrev pub again : Cursor → List ℕ → Cursor
 again c rest = nextTurn (c .count) (c .front) (c .at) (c .written) (c .pending) rest
@@ -91,6 +101,36 @@ nextTurn-self : (n f at w : ℕ) (p : Sent) (rest : List ℕ) → again (nextTur
 nextTurn-self n f at w Nothing rest = turnByState-self n f at w rest
 nextTurn-self n f at w (One b) rest = turnByState-self n f at w rest
 nextTurn-self n f at w (Header c k) rest = refl
+
+nextTurn-under : (n f at w : ℕ) (p : Sent) (rest : List ℕ) → under (nextTurn n f at w p rest .pending) (nextTurn n f at w p rest) ≡ nextTurn n f at w p rest
+nextTurn-under n f at w Nothing rest = turnByState-has n f at w rest (λ (c : Cursor). under (c .pending) c ≡ c) refl refl refl
+nextTurn-under n f at w (One b) rest = turnByState-has n f at w rest (λ (c : Cursor). under (c .pending) c ≡ c) refl refl refl
+nextTurn-under n f at w (Header c k) rest = refl
+
+-- so one that is that of its own next turn is so with any end of high states
+is-next : (c : Cursor) (rest : List ℕ) → c ≡ again c rest → IsNext (c .pending) c rest
+is-next c rest e =
+    subst (λ (k : Cursor). under (k .pending) k ≡ k) (sym e) (nextTurn-under (c .count) (c .front) (c .at) (c .written) (c .pending) rest) ∙ e
+
+-- ---- where high states end
+
+highs-on : (m : ℕ) (xs : List ℕ) (i : ℕ) → i + m < highsEnd xs i → highsEnd (drop m xs) (i + m) ≡ highsEnd xs i
+unfolding highsEnd
+highs-on zero xs i h = let e : i + 0 ≡ i = omega arith in ap (highsEnd xs) e
+highs-on (suc m) [] i h = absurd (omega (arith, h))
+highs-on (suc m) (s ∷ xs) i h = go (λ g. highs-on m xs (i + 1) g) (ltb s 2) refl h
+  where
+    go : (i + 1 + m < highsEnd xs (i + 1) → highsEnd (drop m xs) (i + 1 + m) ≡ highsEnd xs (i + 1)) → (t : Bool) → ltb s 2 ≡ t → i + suc m < cond t i (highsEnd xs (i + 1))
+        → highsEnd (drop m xs) (i + suc m) ≡ cond t i (highsEnd xs (i + 1))
+    go on true e l = absurd (omega (arith, l))
+    go on false e l = let q : i + suc m ≡ i + 1 + m = omega arith in ap (highsEnd (drop m xs)) q ∙ on (omega (arith, l))
+
+-- those at a later place before their end are the same
+highs-later : (ss : List ℕ) (i j : ℕ) → i ≤ j → j < highsEnd (drop i ss) i → highsEnd (drop j ss) j ≡ highsEnd (drop i ss) i
+highs-later ss i j l h =
+    let e : i + (j - i) ≡ j = omega (arith, l) in
+    ap (λ (n : ℕ). highsEnd (drop n ss) n) (sym e) ∙ ap (λ (xs : List ℕ). highsEnd xs (i + (j - i))) (sym (drop-drop (j - i) i ss))
+    ∙ highs-on (j - i) (drop i ss) i (omega (arith, h, l))
 
 -- ---- a device takes at least what it owes
 
@@ -161,7 +201,8 @@ pub record Good (n : ℕ) (ss : List ℕ) (room : ℕ) (r : Running) : Type 0 wh
   pub index : r .cursor .index < n
   pub at : r .cursor .at ≤ length ss
   pub written : r .cursor .written ≤ room
-  pub next : r .cursor ≡ again (r .cursor) (drop (r .cursor .at) ss)
+  pub next : IsNext (r .cursor .pending) (r .cursor) (drop (r .cursor .at) ss)
+  pub end : r .cursor .end ≡ highsEnd (drop (r .cursor .at) ss) (r .cursor .at)
 
 out-length : (c : Cursor) (ss os : List ℕ) → length (turnedOut c ss os) ≡ length os
 unfolding turnedOut
@@ -233,20 +274,21 @@ pub turned-device : (d : Device) (c : Cursor) (ss : List ℕ) (room : ℕ) → t
 unfolding turned
 turned-device d c ss room = go (ltb (c .front) (c .count))
   where
-    go : (t : Bool) → cond t (deviceTaken d (c .pending) (drop (c .at) ss) (c .at)) (stopped d (c .at) Nothing) .device
+    go : (t : Bool) → cond t (frontWatched d c ss) (stopped d (c .at) Nothing) .device
         ≡ cond t (deviceTurn d c ss) (record { device = d; cursor = leaveAfter c ss room }) .device
     go true = refl
     go false = refl
 
-pub turned-cursor : (d : Device) (c : Cursor) (ss : List ℕ) (room : ℕ) → cursorAfter c (turnTaken d c ss .at) (turnTaken d c ss .sent) ss room ≡ turned d c ss room .cursor
-unfolding turned
+pub turned-cursor : (d : Device) (c : Cursor) (ss : List ℕ) (room : ℕ)
+    → cursorAfter c (turnTaken d c ss .at) (turnTaken d c ss .sent) ss room ≡ onTo c ss (turned d c ss room .cursor)
+unfolding turned watchedTaken
 turned-cursor d c ss room = go (ltb (c .front) (c .count))
   where
     taken : Bool → Taken
-    taken t = cond t (deviceTaken d (c .pending) (drop (c .at) ss) (c .at)) (stopped d (c .at) Nothing)
+    taken t = cond t (frontWatched d c ss) (stopped d (c .at) Nothing)
 
-    go : (t : Bool) → cond t (cursorTo c (taken t .at) (taken t .sent) ss) (leaveAfter c ss room)
-        ≡ cond t (deviceTurn d c ss) (record { device = d; cursor = leaveAfter c ss room }) .cursor
+    go : (t : Bool) → onTo c ss (cond t (cursorTo c (taken t .at) (taken t .sent) ss) (leaveAfter c ss room))
+        ≡ onTo c ss (cond t (deviceTurn d c ss) (record { device = d; cursor = leaveAfter c ss room }) .cursor)
     go true = refl
     go false = refl
 
@@ -254,15 +296,43 @@ turned-fit : (d : Device) (c : Cursor) (ss : List ℕ) (room : ℕ) → 0 < c .c
 turned-fit d c ss room h a b =
     subst (λ (t : Turned). Fit (c .count) ss room (t .cursor)) (sym (turned-is d c ss room a b)) (within-fit d c ss room h a b)
 
+-- a turn does not go back
+within-later : (d : Device) (c : Cursor) (ss : List ℕ) (room : ℕ) → 0 < c .count → c .at ≤ turnWithin d c ss room .cursor .at
+within-later d c ss room h =
+    let t : Taken = deviceTaken d (c .pending) (drop (c .at) ss) (c .at) in
+    cond-both (λ (u : Turned). c .at ≤ u .cursor .at) (ltb (c .front) (c .count)) (deviceTurn d c ss) (leaveTurn d c ss room)
+    (λ _. omega (arith, nextTurn-range (c .count) (frontAfter (c .front) (t .sent)) (t .at) (c .written) (t .sent) (drop (t .at) ss) h .at, device-far d (c .pending) (drop (c .at) ss) (c .at) .owes))
+    (λ _. leaves (c .pending))
+  where
+    at-of : (at w : ℕ) → nextTurn (c .count) (c .front) at w Nothing (drop at ss) .at ≡ at
+    at-of at w = nextTurn-range (c .count) (c .front) at w Nothing (drop at ss) h .at
+
+    leaves : (p : Sent) → c .at ≤ leaveCursor p c ss room .at
+    leaves Nothing = omega (arith, at-of (c .at + highCount (drop (c .at) ss)) (putEnd room (c .written) (highCount (drop (c .at) ss))))
+    leaves (One b) = omega (arith, at-of (c .at + highCount (drop (c .at) ss)) (putEnd room (c .written) (highCount (drop (c .at) ss))))
+    leaves (Header k m) = omega (arith, at-of (c .at) (putEnd room (c .written) 24))
+
+turned-later : (d : Device) (c : Cursor) (ss : List ℕ) (room : ℕ) → 0 < c .count → c .at ≤ length ss → c .written ≤ room → c .at ≤ turned d c ss room .cursor .at
+turned-later d c ss room h a b = subst (λ (t : Turned). c .at ≤ t .cursor .at) (sym (turned-is d c ss room a b)) (within-later d c ss room h)
+
+-- the end of high states that a cursor goes on with is that at its place
+end-on : (c k : Cursor) (ss : List ℕ) → c .end ≡ highsEnd (drop (c .at) ss) (c .at) → c .at ≤ k .at → onTo c ss k .end ≡ highsEnd (drop (k .at) ss) (k .at)
+end-on c k ss e l = go (ltb (k .at) (c .end)) refl
+  where
+    go : (t : Bool) → ltb (k .at) (c .end) ≡ t → cond t (c .end) (highsEnd (drop (k .at) ss) (k .at)) ≡ highsEnd (drop (k .at) ss) (k .at)
+    go true h = e ∙ sym (highs-later ss (c .at) (k .at) l (omega (arith, ltb-true (k .at) (c .end) h, e)))
+    go false h = refl
+
 pub good-next : (n : ℕ) (ss : List ℕ) (room : ℕ) (r : Running) → 0 < n → Good n ss room r → Good n ss room (turning ss r)
 good-next n ss room r h g =
-    let c : Cursor = turnAt (r .devices) (r .cursor) ss (r .out) .cursor in
+    let d : Device = getD (r .devices) (r .cursor .index) blank in
+    let c : Cursor = turned d (r .cursor) ss (length (r .out)) .cursor in
     let some : 0 < r .cursor .count = subst (λ (m : ℕ). 0 < m) (sym (g .count)) h in
     let w : r .cursor .written ≤ length (r .out) = subst (λ (m : ℕ). r .cursor .written ≤ m) (sym (g .out)) (g .written) in
     let f : Fit n ss room c =
     subst (λ (m : ℕ). Fit m ss room c) (g .count)
     (subst (λ (m : ℕ). Fit (r .cursor .count) ss m c) (g .out)
-    (turned-fit (getD (r .devices) (r .cursor .index) blank) (r .cursor) ss (length (r .out)) some (g .at) w)) in
+    (turned-fit d (r .cursor) ss (length (r .out)) some (g .at) w)) in
     record {
       devices = length-set (r .devices) (r .cursor .index) _ ∙ g .devices;
       out = out-length (r .cursor) ss (r .out) ∙ g .out;
@@ -270,13 +340,25 @@ good-next n ss room r h g =
       index = f .index;
       at = f .at;
       written = f .written;
-      next = f .next;
+      next = is-next c (drop (c .at) ss) (f .next);
+      end = end-on (r .cursor) c ss (g .end) (turned-later d (r .cursor) ss (length (r .out)) some (g .at) w);
     }
 
 pub good-start : (ds : List Device) (ss os : List ℕ) → 0 < length ds → Good (length ds) ss (length os) (started ds ss os)
 good-start ds ss os h =
-    let f : Fit (length ds) ss (length os) (beginRun (length ds) ss) = nextTurn-fit (length ds) 0 0 0 (length os) Nothing ss h (omega arith) (omega arith) in
-    record { devices = refl; out = refl; count = f .count; index = f .index; at = f .at; written = f .written; next = f .next }
+    let c : Cursor = turnByState (length ds) 0 0 0 ss in
+    let f : Fit (length ds) ss (length os) c = nextTurn-fit (length ds) 0 0 0 (length os) Nothing ss h (omega arith) (omega arith) in
+    let k : c .at ≡ 0 = nextTurn-range (length ds) 0 0 0 Nothing ss h .at in
+    record {
+      devices = refl;
+      out = refl;
+      count = f .count;
+      index = f .index;
+      at = f .at;
+      written = f .written;
+      next = is-next c (drop (c .at) ss) (f .next);
+      end = ap (λ (n : ℕ). highsEnd (drop n ss) n) (sym k);
+    }
 
 -- ---- a turn takes a run nearer to its end
 Live : Sent → List ℕ → Type 0
@@ -285,14 +367,6 @@ Live Nothing (s ∷ ss) = Unit {0}
 Live (One b) [] = ⊥
 Live (One b) (s ∷ ss) = Unit {0}
 Live (Header c n) rest = Unit {0}
-
--- a cursor under which p is under way
-abbrev pub under : Sent → Cursor → Cursor
-under p c = cursor (c .count) (c .front) (c .index) (c .at) (c .written) p (c .going)
-
--- it is that of its own next turn, the states ahead being `rest`
-abbrev pub IsNext : Sent → Cursor → List ℕ → Type 0
-IsNext p c rest = under p c ≡ nextTurn (c .count) (c .front) (c .at) (c .written) p rest
 
 lives : (p : Sent) (c : Cursor) (rest : List ℕ) → IsNext p c rest → c .going ≡ true → Live p rest
 unfolding Live
@@ -364,6 +438,12 @@ leave-high c s rest e h l = go (ltb s 2) refl
     go false q = refl
     go true q = absurd (omega (arith, low-turnByState Nothing c s rest e q, h, l))
 
+-- where high states end does not matter to what leaves
+pub leave-under : (p : Sent) (c : Cursor) (ss : List ℕ) (room : ℕ) → leaveCursor p (under p c) ss room ≡ leaveCursor p c ss room
+leave-under Nothing c ss room = refl
+leave-under (One b) c ss room = refl
+leave-under (Header k n) c ss room = refl
+
 leave-nearer : (p : Sent) (c : Cursor) (ss rest : List ℕ) (room : ℕ) → c .at ≤ length ss → 0 < c .count → c .count < 1024 → drop (c .at) ss ≡ rest
     → IsNext p c rest → c .going ≡ true → c .count ≤ c .front
     → measure (length ss) (c .count) (leaveCursor p (under p c) ss room) < measure (length ss) (c .count) (under p c)
@@ -405,7 +485,9 @@ turned-nearer d c ss room far h few q v = go (ltb (c .front) (c .count)) refl
     go true e =
         device-nearer d (c .count) (c .front) (c .at) (c .written) ss far few (c .pending) (drop (c .at) ss) refl
         (lives (c .pending) c (drop (c .at) ss) q v) (ltb-true (c .front) (c .count) e)
-    go false e = leave-nearer (c .pending) c ss (drop (c .at) ss) room far h few refl q v (ltb-false (c .front) (c .count) e)
+    go false e =
+        subst (λ (k : Cursor). measure (length ss) (c .count) k < measure (length ss) (c .count) c) (leave-under (c .pending) c ss room)
+        (leave-nearer (c .pending) c ss (drop (c .at) ss) room far h few refl q v (ltb-false (c .front) (c .count) e))
 
 pub nearer-next : (n : ℕ) (ss : List ℕ) (room : ℕ) (r : Running) → 0 < n → n < 1024 → Good n ss room r → r .cursor .going ≡ true
     → measure (length ss) n (turning ss r .cursor) < measure (length ss) n (r .cursor)

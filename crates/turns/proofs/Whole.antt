@@ -19,7 +19,7 @@ use Rattle.cursor.specs.Entry.{entryUnder}
 use Rattle.turns.specs.Ending.{runUnder, runEnd, byClockDevice}
 use Rattle.turns.proofs.LeavingStates.{put-over, put-end-all}
 use Rattle.turns.proofs.Turns.{no-way, Good, measure, good-start, good-next, nearer-next, turns-on, turns-stop, near-start}
-use Rattle.turns.proofs.Timed.{Timed, timed, states, passOn}
+use Rattle.turns.proofs.Late.{Packet, singles, relayLate, statesIn}
 use Rattle.turns.proofs.Same.{all-neat, front-run-same}
 use Rattle.turns.proofs.ByClock.{run-by-clock}
 use Rattle.calls.proofs.Accepted.{Accepted, accepted-run}
@@ -84,10 +84,10 @@ front-same : (ds : List Device) (ss os : List ℕ) → length ss < 2 ^ 63 → Ac
     → (map (byClockDevice (length ss)) (frontRun ds ss os .devices) ≡ through ds ss .0) × (frontRun ds ss os .out ≡ over (through ds ss .1) os) ×
     (frontRun ds ss os .cursor .written ≡ length (through ds ss .1))
 front-same ds ss os short h =
-    let w : List Device × List Timed = passOn ds (timed 0 ss) in
+    let w : List Device × List Packet = relayLate ds (singles 0 ss) in
     let s = front-run-same ds ss os (h .some) (h .few) (all-neat ds (h .fit)) in
-    let c : _≡_ {A = List Device × List ℕ} (map (byClockDevice (length ss)) (w .0), states (w .1)) (through ds ss) = run-by-clock ds ss short (h .fit) in
-    let o : states (w .1) ≡ through ds ss .1 = ap (λ (x : List Device × List ℕ). x .1) c in
+    let c : _≡_ {A = List Device × List ℕ} (map (byClockDevice (length ss)) (w .0), statesIn (w .1)) (through ds ss) = run-by-clock ds ss short (h .fit) in
+    let o : statesIn (w .1) ≡ through ds ss .1 = ap (λ (x : List Device × List ℕ). x .1) c in
     let r : length (through ds ss .1) ≤ length os = omega (arith, room-enough ds ss (h .fit), h .enoughRoom) in (
       ap (map (byClockDevice (length ss))) (s .0) ∙ ap (λ (x : List Device × List ℕ). x .0) c,
       s .1 ∙ ap (putAll os 0) o ∙ put-over os (through ds ss .1) r,

@@ -15,11 +15,12 @@ use Rattle.phases.specs.declared.phase.Phase.the-variants.{Hunting, Opening, Co
 use Rattle.phases.specs.declared.phase.Sent.{Sent}
 use Rattle.phases.specs.declared.phase.Sent.the-variants.{Nothing, One, Header}
 use Rattle.device.specs.declared.device.Device.{Device}
-use Rattle.intake.specs.Intake.{stopped, highTaken}
+use Rattle.intake.specs.Intake.{stopped, highTaken, progressOf, highsEnd}
 use Rattle.intake.specs.declared.taken.Taken.{Taken}
 use Rattle.calls.specs.Chain.{blank}
 use Rattle.cursor.specs.declared.cursor.Cursor.{Cursor}
-use Rattle.cursor.specs.Cursor.{nextTurn, halted, beginRun}
+use Rattle.cursor.specs.Cursor.{withEnd, nextTurn, halted, beginRun}
+use Rattle.turns.specs.Watching.{watchedTaken}
 use Rattle.turns.specs.declared.front.PhaseRun.{PhaseRun}
 use Rattle.turns.specs.declared.front.Heard.{Heard}
 
@@ -137,10 +138,13 @@ pub record Turned : Type 0 where
   pub device : Device
   pub cursor : Cursor
 
+-- what the front device takes, and what its watchdog hears
+abbrev pub frontWatched : Device → Cursor → List ℕ → Taken
+frontWatched d c ss = watchedTaken d (c .pending) (progressOf (deviceTaken d (c .pending) (drop (c .at) ss) (c .at))) ss (c .at) (c .end)
+
 -- what the device of a turn takes: the front device what is its own, and none takes anything where all pass
 abbrev pub turnTaken : Device → Cursor → List ℕ → Taken
-turnTaken d c ss =
-    cond (ltb (c .front) (c .count)) (deviceTaken d (c .pending) (drop (c .at) ss) (c .at)) (stopped d (c .at) Nothing)
+turnTaken d c ss = cond (ltb (c .front) (c .count)) (frontWatched d c ss) (stopped d (c .at) Nothing)
 
 -- the cursor after the front device took the states before a place and sent
 abbrev pub cursorTo : Cursor → ℕ → Sent → List ℕ → Cursor
@@ -150,7 +154,7 @@ cursorTo c at s ss = nextTurn (c .count) (frontAfter (c .front) s) at (c .writte
 abbrev pub deviceTurn : Device → Cursor → List ℕ → Turned
 deviceTurn d c ss =
     let t : Taken = deviceTaken d (c .pending) (drop (c .at) ss) (c .at) in
-    record { device = t .device; cursor = cursorTo c (t .at) (t .sent) ss }
+    record { device = frontWatched d c ss .device; cursor = cursorTo c (t .at) (t .sent) ss }
 
 -- the cursor after k states left the chain, the next state being at a place
 abbrev pub leaveTo : Cursor → ℕ → ℕ → List ℕ → ℕ → Cursor
@@ -182,11 +186,15 @@ leaveAfter c ss room = cond (within c ss room) (leaveCursor (c .pending) c ss ro
 abbrev pub leaveRoom : Cursor → List ℕ → List ℕ → List ℕ
 leaveRoom c ss os = cond (within c ss (length os)) (leaveOut c ss os) os
 
+-- the next cursor k, and where the high states at its next state end: where those of c do, or looked for anew
+abbrev pub onTo : Cursor → List ℕ → Cursor → Cursor
+onTo c ss k = withEnd k (cond (ltb (k .at) (c .end)) (c .end) (highsEnd (drop (k .at) ss) (k .at)))
+
 -- the cursor after a turn whose device took the states before a place and sent
 abbrev pub cursorAfter : Cursor → ℕ → Sent → List ℕ → ℕ → Cursor
-cursorAfter c at s ss room = cond (ltb (c .front) (c .count)) (cursorTo c at s ss) (leaveAfter c ss room)
+cursorAfter c at s ss room = onTo c ss (cond (ltb (c .front) (c .count)) (cursorTo c at s ss) (leaveAfter c ss room))
 
--- a turn of any device with any cursor
+-- a turn of any device with any cursor, but for where high states end
 unfoldable pub turned : Device → Cursor → List ℕ → ℕ → Turned
 turned d c ss room =
     cond (ltb (c .front) (c .count)) (deviceTurn d c ss) (record { device = d; cursor = leaveAfter c ss room })
@@ -209,7 +217,9 @@ nowAt ds c os = record { devices = ds; cursor = c; out = os }
 
 -- the turn of the device that the cursor names
 abbrev pub turnAt : List Device → Cursor → List ℕ → List ℕ → Turned
-turnAt ds c ss os = turned (getD ds (c .index) blank) c ss (length os)
+turnAt ds c ss os =
+    let t : Turned = turned (getD ds (c .index) blank) c ss (length os) in
+    record { device = t .device; cursor = onTo c ss (t .cursor) }
 
 -- one turn
 abbrev pub turning : List ℕ → Running → Running

@@ -2,6 +2,7 @@
 mod front;
 mod leaving;
 mod turning;
+mod watching;
 
 pub use turning::bring;
 pub use turning::take_turn;

@@ -1,5 +1,6 @@
 // Chains of the numbers of docs/RULES.md, run through the library. A line for each says the case, what it should be, what came out, and
 // `ok`, or `WRONG` where the two differ.
+mod fresh; // fresh devices
 mod lists; // a list copied
 mod order_cases; // the order of unequal individual values
 mod record_cases; // chains whose records are refused

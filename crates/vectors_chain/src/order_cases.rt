@@ -2,6 +2,7 @@
 // nonmultiplexed, from the next value on. MUX0 and MUX1 take turns in the first slice of each device; the second leaves MUX1. Places of
 // outputs that the part does not have hold 0.
 ghost use Prim.Native.Nat.{_<_, _≤_};
+use crate::fresh::fresh_chain;
 use cases::frame_of;
 use cases::least;
 use cases::no_tail;
@@ -10,7 +11,6 @@ use cases::spaced;
 use device::Device;
 use frame_writer::Written;
 use parts::Command;
-use three::fresh_three;
 use three::load_three;
 
 pub fn run() {
@@ -33,7 +33,7 @@ fn part_cases(part: u16, outputs: u16, multiplexed: &[u8], plain: &[u8])
     requires { ⌜ outputs ≤ 24 ⌝ }
 {
     let all = 6 * outputs;
-    let fresh = fresh_three([Device::fresh(0); 3], part);
+    let fresh = fresh_chain(part);
     let first = load(fresh, part, 0x01, &rising(1), all as usize);
     chain_case(multiplexed, first, outputs, 1, 2, 2 * outputs);
     let second = load(first, part, 0x00, &rising(all + 1), (all / 2) as usize);

@@ -1,22 +1,23 @@
 // Chains whose records are refused: those of two parts, of a part that is none of the four, and one that holds something where its part has no
 // output.
+use crate::fresh::fresh_of;
 use device::Device;
 use three::run_three;
 
 pub fn run() {
-    let short = Device::fresh(6972);
-    let long = Device::fresh(6974);
+    let short = fresh_of(6972);
+    let long = fresh_of(6974);
     case(b"-  chain of 6972, 6972, 6972", [short, short, short], 0);
     case(b"-  chain of 6972, 6974, 6974", [short, long, long], 4);
     case(b"-  chain of 6974, 6974, 6972", [long, long, short], 4);
     case(
         b"-  chain of 6972, 6973, 6972",
-        [short, Device::fresh(6973), short],
+        [short, fresh_of(6973), short],
         4,
     );
     case(
         b"-  chain of 6971, 6972, 6972",
-        [Device::fresh(6971), short, short],
+        [fresh_of(6971), short, short],
         1,
     );
     case(

@@ -1,5 +1,6 @@
 // Returns: the states of a frame are run through chains, and what comes back is packed, compared and read.
 ghost use Prim.Native.Nat.{_≤_};
+use crate::fresh::fresh_chain;
 use crate::lists::copy;
 use cases::frame_of;
 use cases::least;
@@ -12,7 +13,6 @@ use parts::Command;
 use return_reader::ReturnRead;
 use serial::Converted;
 use three::fault_three;
-use three::fresh_three;
 use three::run_three;
 
 // The fault kind of an open LED.
@@ -102,7 +102,7 @@ fn through_three(part: u16, states: &mut [u8], count: usize) -> usize {
 
 // A fresh chain in which each device has an open LED, 1, or none, 0.
 fn open_leds(part: u16, first: u8, second: u8, third: u8) -> [Device; 3] {
-    let fresh = fresh_three([Device::fresh(0); 3], part);
+    let fresh = fresh_chain(part);
     let one = fault_three(fresh, 1, OPEN_LED, first);
     let two = fault_three(one, 2, OPEN_LED, second);
     fault_three(two, 3, OPEN_LED, third)

@@ -13,7 +13,7 @@ const SLICE: u8 = 3;
 // A device that waits for SYNC.
 pub fn waiting_at(part: u16, configuration: u8, position: u64) -> Device {
     let registers = registers_at(part, configuration, position);
-    let place = Device::fresh(part).place;
+    let place = fresh_of(part).place;
     Device { registers, place }
 }
 
@@ -34,8 +34,13 @@ pub fn storing_at(device: Device, command: u8, first: u8, second: u8, third: u8)
     }
 }
 
+// Its watchdog is enabled by bit 1 of the configuration, which no case here stores.
+fn fresh_of(part: u16) -> Device {
+    Device::fresh(part, 1, 2000000)
+}
+
 fn registers_at(part: u16, configuration: u8, position: u64) -> Registers {
-    let mut registers = Device::fresh(part).registers;
+    let mut registers = fresh_of(part).registers;
     registers.configuration = configuration;
     registers.waiting = 7;
     registers.waiting0[0] = 1;

@@ -1,5 +1,6 @@
 // One device with 16 outputs, stepped by value: a slice of bytes has two copies, and what is not used stays 0.
 use crate::feeding::feed;
+use crate::feeding::fresh_of;
 use crate::seen::PASSING;
 use crate::seen::case;
 use crate::seen::expected;
@@ -14,7 +15,7 @@ pub fn run() {
 
 // The slice is full after the second copy: what follows is sent on. Copies that differ store nothing.
 fn copies_cases() {
-    let fresh = Device::fresh(6972);
+    let fresh = fresh_of(6972);
     let configured = feed(fresh, b"\xE8\xFC\x00\x01\x01\x07");
     case(
         b"-  6972, configuration 0x01, and 8 bits for the next device",
@@ -32,7 +33,7 @@ fn copies_cases() {
 
 // Values 1 to 32, multiplexed, then 33 to 48, nonmultiplexed: MUX1 stays, and so do the places of outputs 16 to 23.
 fn stored_cases() {
-    let fresh = Device::fresh(6972);
+    let fresh = fresh_of(6972);
     let mode = feed(fresh, b"\xE8\xFC\x00\x01\x01");
     let multiplexed = feed(
         mode.device,

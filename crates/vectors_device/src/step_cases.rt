@@ -1,5 +1,6 @@
 // One device, stepped by value: rules that no number of docs/RULES.md shows.
 use crate::feeding::feed;
+use crate::feeding::fresh_of;
 use crate::feeding::start;
 use crate::feeding::step;
 use crate::feeding::steps;
@@ -20,7 +21,7 @@ pub fn run() {
 
 // Command pairs that differ: the device is lost at the sixth command bit, ignores the rest of the frame, and takes the next.
 fn lost_cases() {
-    let fresh = Device::fresh(6974);
+    let fresh = fresh_of(6974);
     let lost = feed(fresh, b"\xE8\xF8\x00\x01\x01\x01");
     case(
         b"-  command bits 11 11 10, then configuration 0x01",
@@ -37,7 +38,7 @@ fn lost_cases() {
 
 // Copies that differ: nothing is stored, and the header is still sent on.
 fn copies_case() {
-    let before = feed(Device::fresh(6974), b"\xE8\xA8\x00\x07\x07\x07");
+    let before = feed(fresh_of(6974), b"\xE8\xA8\x00\x07\x07\x07");
     let after = feed(before.device, b"\xE8\xA8\x05\x60\x60\x61");
     case(
         b"-  global 0x07, then global copies 60 60 61 with count 5",
@@ -48,7 +49,7 @@ fn copies_case() {
 
 // The count wraps.
 fn count_case() {
-    let fresh = Device::fresh(6974);
+    let fresh = fresh_of(6974);
     let after = feed(fresh.set_fault(1, 1), b"\xE8\xFF\xFF\x01\x01\x01");
     case(
         b"-  configuration 0x01 with count 1023, an open LED",
@@ -79,7 +80,7 @@ fn slot_cases() {
 
 // A 6974 in a global slice, with a slot for each bank and so many bits taken.
 fn with_slots(first: u16, second: u16, third: u16, taken: u16) -> Device {
-    let fresh = Device::fresh(6974);
+    let fresh = fresh_of(6974);
     let mut registers = fresh.registers;
     registers.slice[0] = first;
     registers.slice[1] = second;

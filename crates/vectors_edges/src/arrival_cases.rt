@@ -4,8 +4,8 @@ ghost use Prim.Native.Nat.{_<_};
 use crate::edges::edge_words;
 use crate::edges::front;
 use crate::edges::states_of;
+use crate::fresh::fresh_chain;
 use device::Device;
-use three::fresh_three;
 use three::load_three;
 
 pub fn run() {
@@ -75,7 +75,7 @@ fn case(part: u16, edge: u8, frame: &[u8], count: usize, should: &[u8]) {
 fn chain_after(part: u16, edge: u8, frame: &[u8], count: usize) -> [Device; 3] {
     let states = states_of(frame, edge);
     let mut returned = [0u8; 127];
-    let fresh = fresh_three([Device::fresh(0); 3], part);
+    let fresh = fresh_chain(part);
     load_three(fresh, front(&states, count), &mut returned)
 }
 

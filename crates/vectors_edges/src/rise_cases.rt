@@ -1,9 +1,10 @@
 // Where a fresh device is after a line history that ends in a rising edge: the device stepped by value, and the first of a chain that is run.
 // In a case's name, L stands before bits at low load and H before bits at high load.
+use crate::fresh::fresh_chain;
+use crate::fresh::fresh_of;
 use crate::stepping::step_all;
 use device::Device;
 use phases::Place;
-use three::fresh_three;
 use three::load_three;
 
 // Phases, as the record has them.
@@ -86,7 +87,7 @@ fn case(name: &[u8], part: u16, states: &[u8], phase: u8, read: u16) {
     cases::text(b": should be");
     words(0, should);
     cases::text(b", came out");
-    let stepped = step_all(Device::fresh(part), states);
+    let stepped = step_all(fresh_of(part), states);
     let by_value = is_at(stepped.device, should);
     cases::text(b", in a chain");
     let in_chain = is_at(first_after(part, states), should);
@@ -105,7 +106,7 @@ fn place_of(phase: u8, read: u16) -> Place {
 // The first of three fresh devices after a run of 16 states at most. A longer one is refused, and leaves it fresh.
 fn first_after(part: u16, states: &[u8]) -> Device {
     let mut returned = [0u8; 39];
-    let fresh = fresh_three([Device::fresh(0); 3], part);
+    let fresh = fresh_chain(part);
     let chain = load_three(fresh, states, &mut returned);
     chain[0]
 }

@@ -5,9 +5,9 @@ use crate::edges::bits_of;
 use crate::edges::edge_words;
 use crate::edges::front;
 use crate::edges::states_of;
+use crate::fresh::fresh_chain;
+use crate::fresh::fresh_of;
 use crate::stepping::step_all;
-use device::Device;
-use three::fresh_three;
 use three::run_three;
 
 pub fn run() {
@@ -44,7 +44,7 @@ fn returned_case(part: u16, edge: u8, frame: &[u8]) {
         b"\x01\x01\x01\x00\x01\x00\x00\x00\x02\x03\x02\x03\x02\x03\x02\x02\x02\x02\x02\x02\x02\x02\x02\x02\x03\x02\x03\x02\x02\x03\x02\x03";
     let states = states_of(frame, edge);
     let mut room = [0u8; 127];
-    let fresh = fresh_three([Device::fresh(0); 3], part);
+    let fresh = fresh_chain(part);
     let ran = run_three(fresh, front(&states, bits_of(frame)), &mut room);
     let came = front(&room, ran.returned);
     name(part, edge, frame);
@@ -58,7 +58,7 @@ fn returned_case(part: u16, edge: u8, frame: &[u8]) {
 // The line of a case: what a fresh device sends on at the last of so many states.
 fn first_case(part: u16, edge: u8, frame: &[u8], count: usize, sent: u8, command: u8, state: u8) {
     let states = states_of(frame, edge);
-    let came = step_all(Device::fresh(part), front(&states, count));
+    let came = step_all(fresh_of(part), front(&states, count));
     name(part, edge, frame);
     cases::text(b", device 1 at state");
     cases::count(count as u64);

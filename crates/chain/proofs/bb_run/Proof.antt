@@ -25,7 +25,7 @@ use Rattle.cursor.specs.declared.entry.Ran.{Ran}
 use Rattle.judgement.specs.declared.judging.Judged.{Judged}
 use Rattle.phases.specs.declared.phase.Sent.{Sent}
 use Rattle.intake.specs.declared.taken.Taken.{Taken}
-use Rattle.turns.specs.Front.{Running, nowAt, turnTaken, cursorAfter, turned, turnedOut, turning, enough}
+use Rattle.turns.specs.Front.{Running, nowAt, turnTaken, cursorAfter, turned, turnedOut, turning, enough, onTo}
 use Rattle.refusals.specs.Rows.{runRows}
 use Rattle.cursor.specs.Answer.{ran}
 use Rattle.cursor.specs.Entry.{entryUnder}
@@ -341,7 +341,7 @@ module _ {M : Type 1} (𝓤 : URA M) (H : Heap 𝓤) (A : Atoms 𝓤) (W : Given
           (and-then ! (held ! 49 refl) (and-then ! (held ! 13 refl) (no-more !)))))) (λ r′ zs′ is″.
           let room : List ℕ = zs′ .1 .1 .1 .1 .0 in
           heard ! ((r′ ≡ cursorAfter c (r .at) (r .sent) ss (length ws)) × (room ≡ turnedOut c ss ws)) (λ e′.
-          let next : r′ ≡ turned d c ss (length ws) .cursor = is-next r r′ e (e′ .0) in
+          let next : r′ ≡ onTo c ss (turned d c ss (length ws) .cursor) = is-next r r′ e (e′ .0) in
           use1 W (‵ (flft (ν″ ∷ []) fullShare) ⊛ ‵ (flft (ν′ ∷ []) fullShare) ⊛ ‵ ftrue) (id⊢ 𝓤 _) $
           split ! $ move ! (1 ∷ []) $ split ! $ move ! (1 ∷ []) $ drop ! $
           -- [ν′; ν; what says the last values; away; away; the chain's; open; seen; open; …]
@@ -370,7 +370,7 @@ module _ {M : Type 1} (𝓤 : URA M) (H : Heap 𝓤) (A : Atoms 𝓤) (W : Given
 
           is-next : (r : Taken) (r′ : Cursor) → r ≡ turnTaken (getD (s .devices) (s .cursor .index) blank) (s .cursor) ss
               → r′ ≡ cursorAfter (s .cursor) (r .at) (r .sent) ss (length (s .out))
-              → r′ ≡ turned (getD (s .devices) (s .cursor .index) blank) (s .cursor) ss (length (s .out)) .cursor
+              → r′ ≡ onTo (s .cursor) ss (turned (getD (s .devices) (s .cursor .index) blank) (s .cursor) ss (length (s .out)) .cursor)
           is-next r r′ e e′ =
               e′ ∙ ap (λ (u : Taken). cursorAfter (s .cursor) (u .at) (u .sent) ss (length (s .out))) e
               ∙ turned-cursor (getD (s .devices) (s .cursor .index) blank) (s .cursor) ss (length (s .out))

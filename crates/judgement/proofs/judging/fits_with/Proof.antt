@@ -9,7 +9,7 @@ returns : tie.Need-returns
 returns c = rw (c .fits2 .ensures, c .before .if1 .taken)
 
 returns-2 : tie.Need-returns-2
-returns-2 c = search needs
+returns-2 c = rw (c .if1 .left)
 
 pub fits-with-spec : {M : Type 1} → statement M
 fits-with-spec = tie.close (tie.spec fits-requires returns returns-2)

@@ -1,0 +1,45 @@
+-- The examples of a device's watchdog, by computing. Assumes nothing.
+use mathlib.Core.Path.{refl}
+use Rattle.bits.specs.Bits.{bits, number, fields, split, over}
+use Rattle.parts.specs.Wire.{commandCount, header, frame, clockedAt}
+use Rattle.watch.specs.Watch.{lastOf, moved, watching, expired}
+use Rattle.storing.specs.Stored.{strided}
+use Rattle.positions.specs.Positions.{ticked}
+use Rattle.device.specs.Run.{stepRecord, watched, clockRecord}
+use Rattle.machine.specs.Machine.{run, relay, relayOne}
+use Rattle.claims.specs.Examples.{oneStates}
+use Rattle.claims.specs.Claims.{WatchExamplesHold}
+
+pub watch-examples-hold : WatchExamplesHold
+unfolding bits number fields split over strided commandCount header frame clockedAt oneStates relay relayOne run lastOf moved watching expired watched clockRecord ticked stepRecord
+watch-examples-hold = (
+  ((refl, refl), ((refl, refl, refl, refl), (refl, tt))),
+  (
+    ((refl, refl), ((refl, refl, refl, refl), tt)),
+    (
+      ((refl, refl, refl, refl), ((refl, refl, refl, refl, refl), tt)),
+      (
+        ((refl, refl, refl, refl), ((refl, refl, refl, refl), tt)),
+        (
+          ((refl, refl), tt),
+          (
+            (refl, tt),
+            (
+              (refl, (refl, tt)),
+              (
+                (refl, tt),
+                (
+                  (refl, tt),
+                  (
+                    ((refl, refl, refl, refl), ((refl, refl, refl, refl, refl), tt)),
+                    (((refl, refl), tt), (((refl, refl, refl, refl), ((refl, refl, refl, refl, refl), tt)), tt)),
+                  ),
+                ),
+              ),
+            ),
+          ),
+        ),
+      ),
+    ),
+  ),
+)

@@ -67,10 +67,11 @@ enum {
     BB_REFUSED_UNUSED_BIT = 11, /* an unused bit of the last byte is 1 */
     BB_REFUSED_TAIL = 12,       /* the tail is not the one sent */
     BB_REFUSED_POSITION_OR_RECORD = 13 /* a device number, position (subframe, clock or output), window, line state,
-                                   edge (0 early, 1 exact, 2 late), fault kind (0 overtemperature, 1 open LED) or phase
-                                   is out of range, or a device record holds a value over its width, something in a
-                                   place that its part does not use, a position not below its frame's length, or
-                                   numbers that fit none of the phases below */
+                                   edge (0 early, 1 exact, 2 late), fault kind (0 overtemperature, 1 open LED), phase,
+                                   or a watchdog's bit or limit is out of range, or a device record holds a value over
+                                   its width, something in a place that its part does not use, a position not below its
+                                   frame's length, a watchdog's bit, limit, level or count out of range, or numbers that
+                                   fit none of the phases below */
 };
 
 /* Commands, C1 C0. */
@@ -95,6 +96,14 @@ enum {
 enum {
     BB_OVERTEMPERATURE = 0,
     BB_OPEN_LED = 1
+};
+
+/*
+ * Watchdog: a limit is 1 to this many clocks, and a count stops there. The bit is one of the configuration's D1, D2,
+ * D3, D5, D6 and D7, by its number.
+ */
+enum {
+    BB_MOST_STILL = 2000000
 };
 
 /* Phases of a device. */
@@ -122,19 +131,41 @@ struct bb_answer {
     uint8_t refusal; /* 0 where accepted */
 };
 
+/* A line that a device's watchdog watches. */
+struct bb_line {
+    uint64_t still; /* the count: clocks without a change, 0 to BB_MOST_STILL, where it stops */
+    uint8_t level;  /* where the line stands: 0 or 1 */
+};
+
+/*
+ * The watchdog of a device. It watches the data line and the load line, each by itself, while the configuration's bit
+ * of the told number is 1. At the end of each clock of bb_run a line's count goes up by one where the line did not
+ * change, and becomes 0 where it did, and while the bit is 0. The level follows the line all the time. Where a count is
+ * then at the limit or over it, the watchdog has expired: all individual values become 0, waiting and active, of MUX0
+ * and MUX1. It expires again in every further clock that finds a count so. A count that is not 0 while the bit is 0
+ * fits.
+ */
+struct bb_watch {
+    struct bb_line din;   /* the data line */
+    struct bb_line loadi; /* the load line */
+    uint32_t limit;       /* of both counts: 1 to BB_MOST_STILL */
+    uint8_t bit;          /* the number of the configuration bit that enables it: 1, 2, 3, 5, 6 or 7 */
+};
+
 /*
  * What a device holds. Any numbers may stand in a record that a caller lends: each call judges them.
  * The arrays have places for three banks. A part of two banks uses the front of each: calibration[0] and [1], places 0
  * to 15 of the four lists of values, and slots 0 to 31 of `slice`; the places behind hold 0.
  * A record fits when both flags are 0 or 1, every value and every slot of `slice` is below 2^(value width), every place
  * that its part does not use is 0, its position is below the length of its frame of light by its own part and
- * configuration, and its place in the frame that comes in fits its phase.
+ * configuration, its watchdog's numbers are in range, and its place in the frame that comes in fits its phase. Records
+ * of one chain may differ in the bit and the limit of their watchdogs.
  */
 struct bb_registers {
     uint16_t part;           /* 6972, 6973, 6974 or 6975 */
     uint8_t overtemperature; /* fault flag: 0 or 1 */
     uint8_t openled;         /* fault flag: 0 or 1 */
-    uint8_t configuration;   /* D0 multiplex, D4 GLB4 */
+    uint8_t configuration;   /* D0 multiplex, D4 GLB4; one of the others enables the watchdog, as `watch` says */
     uint8_t calibration[3];  /* one byte for each bank: Z, Y, or B, G, R */
     uint8_t waiting;         /* global byte, until the position returns to 0 */
     uint8_t active;          /* global byte in use */
@@ -153,6 +184,7 @@ struct bb_registers {
      * configuration that is stored and makes the frame shorter takes it modulo the new length, which is no boundary;
      * in a longer frame it stays. */
     uint64_t position;
+    struct bb_watch watch; /* the watchdog; levels and counts are 0 when fresh */
 };
 
 /*
@@ -170,7 +202,10 @@ struct bb_place {
     uint16_t read;
 };
 
-/* One device: a record of plain numbers. No call looks at the padding before `position` and behind `place`. */
+/*
+ * One device: a record of plain numbers. No call looks at the padding before `position`, behind a line's `level`,
+ * behind the watchdog's `bit` and behind `place`.
+ */
 struct bb_device {
     struct bb_registers registers;
     struct bb_place place;
@@ -334,7 +369,8 @@ uint8_t bb_judge(struct bb_device device);
  * One step with the line state `state`, 0 to 3: data bit plus twice the load bit. Gives the next device and what it
  * sends on: nothing (`sent` 0), the state itself (1), or the 24 states of a header (24): SYNC 0xE8 at low load, then
  * C1 C0 three times and the ten bits of the count at high load, each most significant bit first. The position does not
- * move, but for a configuration that is stored and makes the frame shorter: a device advances only in bb_run.
+ * move, but for a configuration that is stored and makes the frame shorter: a device advances only in bb_run. There too
+ * its watchdog watches: a step leaves its levels and counts as they are, and clears nothing.
  * Refused with 1 for the record's part, with 13 where the record does not fit or the state is over 3. A refused step
  * gives `device` as it came in, sends nothing, and every number beside `device` and `refusal` is 0.
  */
@@ -348,8 +384,13 @@ struct bb_stepped bb_step(struct bb_device device, uint8_t state);
  * whatever they hold. Those that return a number return the refusal, 0 where accepted.
  */
 
-/* Makes a chain fresh: zeros, position 0, no faults, hunting, all of the told part. Refused with 1 and 2. */
-uint8_t bb_fresh(struct bb_device *devices, size_t count, uint16_t part);
+/*
+ * Makes a chain fresh: zeros, position 0, no faults, hunting, all of the told part. Each record keeps the told bit and
+ * limit of its watchdog, whose levels and counts are 0. A fresh configuration is 0, so that the watchdog is off until a
+ * configuration with that bit is stored. It is off for good where no configuration that is sent has the bit.
+ * Refused with 1 and 2, and with 13 where `bit` is none of 1, 2, 3, 5, 6 and 7 or `limit` is not 1 to BB_MOST_STILL.
+ */
+uint8_t bb_fresh(struct bb_device *devices, size_t count, uint16_t part, uint8_t bit, uint32_t limit);
 
 /*
  * Gives the chain line states, one to a clock, and answers how many states the last device sent; they stand in
@@ -357,10 +398,17 @@ uint8_t bb_fresh(struct bb_device *devices, size_t count, uint16_t part);
  *   1. every device of the chain advances: its position goes up by one, modulo the length of its frame of light; where
  *      it returns to 0, the waiting global byte and values, of MUX0 and MUX1, become the active ones;
  *   2. then the state acts: it goes to device 1, what device 1 sends to device 2, and so on. States sent on advance no
- *      device.
+ *      device;
+ *   3. then every device watches its lines, by what it was sent in this clock (nothing, one state, or the 24 of a
+ *      header) and by the configuration that it now holds. Levels follow the last state; a device that is sent nothing
+ *      keeps its levels, and its counts go on. A header changes both lines, also where it ends at the levels before it.
+ *      Where a count is then at its limit or over it, all individual values of that device become 0, also those that
+ *      became active or were stored in this clock; nothing else of it changes.
  * Where a device stores with the clock of its boundary, what waited until then becomes active, and what is stored
  * waits. A set is in use once its four frames were given and then every position has next returned to 0. That takes,
- * for each device, its frame's length less its position in clocks at low load; 524,288 of them are always enough.
+ * for each device, its frame's length less its position in clocks at low load; 524,288 of them are always enough. Where
+ * a watchdog expires from the clock of its individual slice on, the values are 0 instead. A run of no states changes
+ * nothing.
  * Refused as above, with 5 where `room` is below states_count + 23 (also for no states), and with 13 where one state is
  * over 3.
  */
@@ -368,7 +416,7 @@ struct bb_answer bb_run(struct bb_device *devices, size_t count, const uint8_t *
                         uint8_t *returned, size_t room);
 
 /*
- * Sets the fault flag of one device, 1 to `count`: 0 takes it away, any other `flag` raises it.
+ * Sets the fault flag of one device, 1 to `count`: 0 takes it away, any other `flag` raises it. Nothing else changes.
  * Refused as above, and with 13 for a device number or a kind out of range.
  */
 uint8_t bb_set_fault(struct bb_device *devices, size_t count, size_t device, uint8_t kind, uint8_t flag);

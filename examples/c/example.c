@@ -1,6 +1,7 @@
 /*
  * From a set to a running sign, through include/bractbeacon.h: frames, line states, a run on three devices, what comes
- * back, the wait for their boundary, the comparison, the light, the current; and what is different with 16 outputs.
+ * back, the wait for their boundary, the comparison, the light, a line that stops, the current; and what is different
+ * with 16 outputs.
  * Prints what came out and exits with 1 where it is not what docs/RULES.md says.
  *
  *   tools/library
@@ -13,6 +14,13 @@
 
 /* CLOCKS are those of a subframe of the part, and FRAME those of its 128 subframes. */
 enum { DEVICES = 3, PART = 6974, CONFIGURATION = 0x00, GLOBAL = 96, VALUE = 2560, CLOCKS = 4096, FRAME = 524288 };
+
+/* The watchdog: the configuration bit that enables it, and after how many still clocks it blanks a device. */
+enum { WATCH_BIT = 1, WATCH_LIMIT = 10000 };
+
+_Static_assert(sizeof(struct bb_line) == 16, "a line's size");
+_Static_assert(sizeof(struct bb_watch) == 40, "a watchdog's size");
+_Static_assert(sizeof(struct bb_device) == 360, "a record's size");
 
 static const uint64_t TAIL = 0xA5;
 static const uint32_t TAIL_LENGTH = 8;
@@ -135,7 +143,8 @@ static uint64_t clocks_to_boundary(const struct bb_device *chain)
 /* Example g and demand 3: two open LEDs, a whole restore, a wait, and then the chain runs the set. */
 static void restore(const struct set *set, struct bb_device *chain)
 {
-    expect("fresh", bb_fresh(chain, DEVICES, PART) == 0);
+    expect("D4 is GLB4", bb_fresh(chain, DEVICES, PART, 4, WATCH_LIMIT) == BB_REFUSED_POSITION_OR_RECORD);
+    expect("fresh", bb_fresh(chain, DEVICES, PART, WATCH_BIT, WATCH_LIMIT) == 0);
     expect("open LED", bb_set_fault(chain, DEVICES, 1, BB_OPEN_LED, 1) == 0);
     expect("open LED", bb_set_fault(chain, DEVICES, 3, BB_OPEN_LED, 1) == 0);
     expect("no device 4", bb_set_fault(chain, DEVICES, 4, BB_OPEN_LED, 1) == BB_REFUSED_POSITION_OR_RECORD);
@@ -204,6 +213,42 @@ static void light_now(struct bb_device *chain)
     expect("there is no device 4", bb_lit_now(chain, DEVICES, 4, 23).refusal == BB_REFUSED_POSITION_OR_RECORD);
 }
 
+/* Sends all devices a configuration; the lists of the set are ignored. */
+static void configure(const struct set *set, struct bb_device *chain, uint8_t byte)
+{
+    uint8_t frame[64], states[256], returned[512];
+    struct bb_answer written = bb_write(PART, DEVICES, BB_CONFIGURATION, byte, 0, 0, byte, set->calibration, 0,
+                                        set->individual, 0, frame, sizeof frame);
+    expect("the configuration is accepted", written.refusal == 0);
+    size_t bits = 24 + DEVICES * bb_slice_bits(BB_CONFIGURATION, PART, byte).value;
+    struct bb_answer on_line = bb_states(frame, written.value, bits, BB_EXACT, states, sizeof states);
+    expect("the run is accepted",
+           bb_run(chain, DEVICES, states, on_line.value, returned, sizeof returned).refusal == 0);
+}
+
+/* The number of devices that have a value in use. */
+static unsigned count_shown(const struct bb_device *chain)
+{
+    unsigned shown = 0;
+    for (int i = 0; i < DEVICES; i++)
+        shown += chain[i].registers.active0[0] != 0;
+    return shown;
+}
+
+/* A line that stops: with the watchdog's bit clear the page stays, with it set the sign is blank after the limit. */
+static void stopped_line(const struct set *set, struct bb_device *chain)
+{
+    give_low_clocks(chain, WATCH_LIMIT + 1);
+    expect("the watchdog is off", count_shown(chain) == DEVICES);
+    configure(set, chain, CONFIGURATION | 1 << WATCH_BIT);
+    give_low_clocks(chain, WATCH_LIMIT - 200);
+    expect("the page is still there", count_shown(chain) == DEVICES);
+    give_low_clocks(chain, 200 + 1);
+    printf("after %u still clocks: %u devices with a page\n", (unsigned)WATCH_LIMIT + 1, count_shown(chain));
+    expect("blank", count_shown(chain) == 0);
+    expect("the global byte stays", chain[0].registers.active == GLOBAL);
+}
+
 /* What the set draws: an eighth of a microamp is 1/8000 mA. */
 static void current(const struct set *set)
 {
@@ -261,6 +306,7 @@ int main(void)
     restore(&set, chain);
     light(chain);
     light_now(chain);
+    stopped_line(&set, chain);
     current(&set);
     sixteen_outputs();
     printf("%s\n", mismatches == 0 ? "all as docs/RULES.md says" : "not as docs/RULES.md says");

@@ -1,8 +1,10 @@
 //! A chain in place. Only the first device that is not passing can change, so a run costs its states plus N. A device
-//! that changes nothing only ages: it is brought to the clock of its own stores, and at the end to the last clock.
+//! that changes nothing only ages and watches: it is brought to the clock of its own stores, and at the end to the last
+//! clock; its watchdog also to the clocks in which it is sent a header, and in which high states end.
 
 use crate::device::{age, all_fit, finish, place, take_header, take_lows, take_slice, Sent};
 use crate::part::is_known;
+use crate::watch::{self, Stretch};
 use crate::Refusal;
 use record::{Device, LOST, PASSING, SLICE};
 
@@ -18,13 +20,26 @@ pub fn run(devices: &mut [Device], states: &[u8], returned: &mut [u8]) -> Result
     Ok(run_judged(devices, states, returned))
 }
 
+/// The clocks up to which a device has been brought.
+#[derive(Clone, Copy)]
+struct Brought {
+    /// Its position.
+    aged: usize,
+    /// Its watchdog.
+    watched: usize,
+}
+
 fn run_judged(devices: &mut [Device], states: &[u8], returned: &mut [u8]) -> usize {
-    // The clock up to which each device has been brought.
-    let mut brought = vec![0; devices.len()];
+    let none = Brought {
+        aged: 0,
+        watched: 0,
+    };
+    let mut brought = vec![none; devices.len()];
     let (mut at, mut sent) = (0, 0);
     let mut front = first_not_passing(devices);
     while at < states.len() {
         if states[at] < 2 {
+            reach_no_more(devices, &mut brought, front, &states[..at]);
             at += take_lows(&mut devices[0], &states[at..]);
             front = 0;
             continue;
@@ -36,13 +51,18 @@ fn run_judged(devices: &mut [Device], states: &[u8], returned: &mut [u8]) -> usi
             sent += highs;
             continue;
         };
-        let (taken, header) = take_highs(device, &states[at..], at, &mut brought[front]);
+        let (taken, header) = take_highs(device, front == 0, states, at, &mut brought[front]);
         at += taken;
         if let Sent::Header(command, count) = header {
             front += 1;
             // A header ends whatever the next device was at, and leaves it at the start of its slice.
             match devices.get_mut(front) {
-                Some(next) => next.place = place(SLICE, command, count, 0),
+                Some(next) => {
+                    next.place = place(SLICE, command, count, 0);
+                    watch::idle(&mut next.registers, at - 1 - brought[front].watched);
+                    watch::burst(&mut next.registers, count);
+                    brought[front].watched = at;
+                }
                 None => {
                     write_header(&mut returned[sent..sent + 24], command, count);
                     sent += 24;
@@ -50,27 +70,59 @@ fn run_judged(devices: &mut [Device], states: &[u8], returned: &mut [u8]) -> usi
             }
         }
     }
+    reach_no_more(devices, &mut brought, front, states);
+    watch::hear(&mut devices[0].registers, &states[brought[0].watched..]);
+    brought[0].watched = states.len();
     for (device, brought) in devices.iter_mut().zip(brought) {
-        age(&mut device.registers, states.len() - brought);
+        watch::idle(&mut device.registers, states.len() - brought.watched);
+        age(&mut device.registers, states.len() - brought.aged);
     }
     sent
 }
 
-/// A device that is not passing takes high states from the front, the first of which is given after clock `at`: how
-/// many, and what it sends.
-fn take_highs(device: &mut Device, states: &[u8], at: usize, brought: &mut usize) -> (usize, Sent) {
+/// The devices behind the first, up to the front, are sent the states so far, and none after them until a header.
+fn reach_no_more(devices: &mut [Device], brought: &mut [Brought], front: usize, states: &[u8]) {
+    let reached = devices.len().min(front + 1);
+    let mut stretch = Stretch::end_of(states);
+    for k in (1..reached).rev() {
+        stretch.heard_by(&mut devices[k].registers, brought[k].watched);
+        brought[k].watched = states.len();
+    }
+}
+
+/// A device that is not passing takes high states, the first of which is given after clock `at`: how many, and what it
+/// sends. The first device may have been sent any states since it was last brought, the others high ones.
+fn take_highs(
+    device: &mut Device,
+    is_first: bool,
+    states: &[u8],
+    at: usize,
+    brought: &mut Brought,
+) -> (usize, Sent) {
     match device.place.phase {
         SLICE => {
-            let (taken, is_whole) = take_slice(device, states);
+            let (taken, is_whole) = take_slice(device, &states[at..]);
             if !is_whole {
                 return (taken, Sent::Nothing);
             }
-            age(&mut device.registers, at + taken - *brought);
-            *brought = at + taken;
-            (taken, finish(device))
+            let end = at + taken;
+            let heard = &states[brought.watched..end - 1];
+            if is_first {
+                watch::hear(&mut device.registers, heard);
+            } else {
+                watch::hear_highs(&mut device.registers, heard);
+            }
+            age(&mut device.registers, end - brought.aged);
+            let sent = finish(device);
+            watch::hear_highs(&mut device.registers, &states[end - 1..end]);
+            *brought = Brought {
+                aged: end,
+                watched: end,
+            };
+            (taken, sent)
         }
-        LOST => (high_states(states), Sent::Nothing),
-        _ => (take_header(device, states), Sent::Nothing),
+        LOST => (high_states(&states[at..]), Sent::Nothing),
+        _ => (take_header(device, &states[at..]), Sent::Nothing),
     }
 }
 
@@ -94,15 +146,18 @@ pub fn write_header(out: &mut [u8], command: u8, count: u16) {
     }
 }
 
-/// Makes a chain fresh.
-pub fn fresh(devices: &mut [Device], part: u16) -> Result<(), Refusal> {
+/// Makes a chain fresh, told the part and the watchdog's bit and limit.
+pub fn fresh(devices: &mut [Device], part: u16, bit: u8, limit: u32) -> Result<(), Refusal> {
     if !is_known(part) {
         return Err(1);
     }
     if devices.is_empty() || devices.len() > 1023 {
         return Err(2);
     }
-    devices.fill(Device::fresh(part));
+    if !watch::is_told(bit, limit) {
+        return Err(13);
+    }
+    devices.fill(Device::watched(part, bit, limit));
     Ok(())
 }
 

@@ -2,7 +2,7 @@
 
 use crate::part::{banks, field_width, frame_clocks, is_known, slice_bits, width};
 use crate::part::{CALIBRATION, GLOBAL, INDIVIDUAL};
-use crate::Refusal;
+use crate::{watch, Refusal};
 use record::{Device, Place, Registers, COUNTING, HUNTING, LOST, OPENING, PASSING, SLICE};
 
 /// The nine low bits that a hunting device keeps.
@@ -61,6 +61,7 @@ fn fits_banks<const BANKS: usize>(device: &Device) -> bool {
         && unused | any(rest) == 0
         && r.calibration[BANKS..].iter().all(|&byte| byte == 0)
         && r.position < frame_clocks(r.part, r.configuration)
+        && watch::fits(&r.watch)
         && fits_place(device)
 }
 
@@ -103,7 +104,7 @@ pub fn age(r: &mut Registers, clocks: usize) {
     r.position = position & (length - 1);
 }
 
-/// One line state, 0 to 3, for a device that fits. It does not age.
+/// One line state, 0 to 3, for a device that fits. It does not age, and does not watch.
 pub fn step(device: &mut Device, state: u8) -> Sent {
     let bit = u16::from(state & 1);
     if state < 2 {

@@ -17,6 +17,7 @@ pub mod part;
 pub mod reader;
 pub mod sets;
 pub mod staged;
+pub mod watch;
 pub mod way;
 pub mod wide;
 pub mod words;

@@ -213,6 +213,39 @@ fn runs_longer_than_a_frame() {
     }
 }
 
+/// Frames whose data is still for long, in pieces, for longer chains whose watchdogs are mostly enabled.
+#[test]
+fn runs_with_watchdogs() {
+    for case in 0..1500 {
+        let random = &mut Random::of_case(SEED, case);
+        let (part, devices) = (sets::part(case), random.between(1, 12));
+        let mut set = sets::set(random, part, devices);
+        let first = random.below(set.individual.len());
+        set.individual[first..].fill(0);
+        let mut records: Vec<_> = (0..devices)
+            .map(|_| {
+                let mut record = records::fitting(random, part);
+                let r = &mut record.registers;
+                r.configuration |= random.pick(&[0, 1 << r.watch.bit, 0xEE]);
+                if random.one_in(2) {
+                    record.place = record::Place::of(record::PASSING);
+                }
+                record
+            })
+            .collect();
+        let mut copy = records.clone();
+        for _ in 0..3 {
+            let command = random.pick(&Command::ALL);
+            let mut states = set.states(command, sets::tail(random)).unwrap();
+            states.extend(vec![random.below(2) as u8; random.below(400)]);
+            let cut = random.between(0, states.len());
+            for piece in [&states[..cut], &states[cut..]] {
+                runs_alike(&mut records, &mut copy, piece);
+            }
+        }
+    }
+}
+
 /// Both give the same, and leave the same in their chains.
 fn runs_alike(of_model: &mut [record::Device], of_baseline: &mut [record::Device], states: &[u8]) {
     let mut returned = vec![0; states.len() + 23];

@@ -11,10 +11,10 @@ use record::{Device, Place};
 use std::hint::black_box;
 
 /// Devices of a flooded chain.
-const FLOODED: usize = 512;
+pub const FLOODED: usize = 512;
 
 /// Devices of the longest chain.
-const MOST: usize = 1023;
+pub const MOST: usize = 1023;
 
 /// Clocks of a frame of light.
 const FRAME: usize = 524_288;
@@ -45,7 +45,7 @@ fn whole_restore(part: u16, devices: usize) {
 /// The wait behind a restore, which brings each device to a boundary, and a single clock.
 fn clocks(part: u16) {
     let chain = vec![Device::fresh(part); MOST];
-    let states = states::lows(&mut Random::of_case(4, 0), FRAME);
+    let states = lows(FRAME);
     let what = format!("524,288 low clocks of a {part} chain, N = {MOST}");
     run(&what, &chain, &states, Some(2.0));
     let what = format!("a run of one state, a {part} chain, N = {MOST}");
@@ -65,8 +65,20 @@ fn boundaries_inside(part: u16, devices: usize) {
     run(&what, &chain, &restore(&set), Some(2.0));
 }
 
-/// Each flood has as many states as an individual frame of the chain, or nearly.
+/// So many clocks at low load.
+pub fn lows(clocks: usize) -> Vec<u8> {
+    states::lows(&mut Random::of_case(4, 0), clocks)
+}
+
 fn floods(part: u16) {
+    for (what, chain, states) in floods_of(part) {
+        run(&what, &chain, &states, Some(4.0));
+    }
+}
+
+/// The floods of a chain: what each is, the chain, and the states. Each has as many states as an individual frame of the
+/// chain, or nearly.
+pub fn floods_of(part: u16) -> Vec<(String, Vec<Device>, Vec<u8>)> {
     let frame = page(part, FLOODED)
         .states(Command::Individual, Tail::default())
         .expect("a page in order");
@@ -86,18 +98,20 @@ fn floods(part: u16) {
 
     let flood = |what: &str, chain: &[Device], states: Vec<u8>| {
         let what = format!("flood at a {part} chain, N = {FLOODED}: {what}");
-        run(&what, chain, &states, Some(4.0));
+        (what, chain.to_vec(), states)
     };
-    flood("all low", &chain, any(0, 1));
-    flood("all high at a lost device", &lost, any(2, 3));
-    flood("a frame cut in its first slice", &chain, cut(200));
     let in_third = 24 + 2 * slice + 132;
-    flood("a frame cut in its third slice", &chain, cut(in_third));
-    flood("random states", &chain, any(0, 3));
+    vec![
+        flood("all low", &chain, any(0, 1)),
+        flood("all high at a lost device", &lost, any(2, 3)),
+        flood("a frame cut in its first slice", &chain, cut(200)),
+        flood("a frame cut in its third slice", &chain, cut(in_third)),
+        flood("random states", &chain, any(0, 3)),
+    ]
 }
 
 /// The states of a set's four frames, back to back.
-fn restore(set: &Set) -> Vec<u8> {
+pub fn restore(set: &Set) -> Vec<u8> {
     let states = |command| set.states(command, Tail::default());
     Command::RESTORE
         .iter()

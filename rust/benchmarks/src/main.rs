@@ -1,5 +1,6 @@
 //! The proved library beside plain Rust, in one run: times, ratios, and the limits that were asked for. Arguments choose
-//! among `packing`, `frames`, `steps`, `chains`, `compare` and `current`.
+//! among `packing`, `frames`, `steps`, `chains`, `watch`, `compare` and `current`. Rows that say "beside off" have the
+//! library's own time with the watchdog's bit clear in place of Rust's.
 
 mod chains;
 mod compare;
@@ -8,6 +9,7 @@ mod frames;
 mod packing;
 mod race;
 mod steps;
+mod watch;
 
 fn main() {
     let wanted: Vec<String> = std::env::args().skip(1).collect();
@@ -19,11 +21,12 @@ fn main() {
         "{:72} {:>10} {:>10} {:12} {:>6}",
         "", "proved", "Rust", "in", "ratio"
     );
-    let kinds: [(&str, fn()); 6] = [
+    let kinds: [(&str, fn()); 7] = [
         ("packing", packing::races),
         ("frames", frames::races),
         ("steps", steps::races),
         ("chains", chains::races),
+        ("watch", watch::races),
         ("compare", compare::races),
         ("current", current::races),
     ];

@@ -3,7 +3,7 @@
 use crate::sets::{unknown_part, value};
 use crate::Random;
 use model::part::{slice_bits, Command, Part};
-use record::{Device, Place, Registers};
+use record::{Device, Line, Place, Registers, Watch, MOST_STILL};
 
 /// Clocks of a frame with GLB4 on a part with 14-bit values: a quarter of any other frame.
 pub const QUARTER: u64 = 131_072;
@@ -19,6 +19,7 @@ pub fn fitting(random: &mut Random, part: u16) -> Device {
         waiting: random.byte(),
         active: random.byte(),
         position: position(random, known, configuration),
+        watch: watch(random),
         ..Registers::zeros(part)
     };
     let r = &mut registers;
@@ -60,6 +61,47 @@ pub fn position(random: &mut Random, part: Part, configuration: u8) -> u64 {
         any,
     ]);
     picked % length
+}
+
+/// The bits of a configuration that may enable a watchdog.
+pub const BITS: [u8; 6] = [1, 2, 3, 5, 6, 7];
+
+/// A limit in range: few clocks, about as many as a slice or a header has, more, or the most.
+pub fn limit(random: &mut Random) -> u32 {
+    let most = random.pick(&[3, 30, 400, 3000, MOST_STILL as usize]);
+    let any = random.between(1, most);
+    random.pick(&[any, any, any, MOST_STILL as usize]) as u32
+}
+
+/// A watchdog that fits: counts about its limit, few, many or the most, and any levels.
+pub fn watch(random: &mut Random) -> Watch {
+    let (bit, limit) = (random.pick(&BITS), limit(random));
+    let mut line = || Line {
+        still: still(random, limit),
+        level: random.below(2) as u8,
+    };
+    Watch {
+        din: line(),
+        loadi: line(),
+        limit,
+        bit,
+    }
+}
+
+/// A count in range.
+fn still(random: &mut Random, limit: u32) -> u64 {
+    let (any, limit) = (random.next() % (MOST_STILL + 1), u64::from(limit));
+    let before = limit - random.between(1, limit.min(400) as usize) as u64;
+    random.pick(&[0, 0, 1, before, before, limit - 1, limit, MOST_STILL, any])
+}
+
+/// A watchdog that does not expire within 1,400,000 clocks: the largest limit, and small counts.
+pub fn quiet(random: &mut Random) -> Watch {
+    let mut watch = watch(random);
+    watch.limit = MOST_STILL as u32;
+    watch.din.still %= 600_000;
+    watch.loadi.still %= 600_000;
+    watch
 }
 
 /// The copies of one byte are in the slots, but for the last bit of the last copy.
@@ -126,7 +168,7 @@ pub fn damaged(random: &mut Random, part: u16) -> Device {
     let high = random.pick(&[limit - 1, limit, any]);
     let outputs = known.outputs();
     let r = &mut device.registers;
-    let kinds = if has_unused(r, known) { 15 } else { 13 };
+    let kinds = if has_unused(r, known) { 20 } else { 18 };
     match random.below(kinds) {
         0 => r.part = unknown_part(random),
         1 => r.overtemperature = random.pick(&[1, 2, 255]),
@@ -141,6 +183,7 @@ pub fn damaged(random: &mut Random, part: u16) -> Device {
         10 => device.place.count = random.pick(&[0, 1, 1023, 1024, any]),
         11 => device.place.read = read(random, known, r.configuration),
         12 => r.position = past_end(random, known.frame_clocks(r.configuration)),
+        13..=17 => damage_watch(random, &mut r.watch),
         _ => fill_unused(random, r, known),
     }
     device
@@ -158,6 +201,22 @@ fn past_end(random: &mut Random, length: u64) -> u64 {
         u64::MAX,
         any,
     ])
+}
+
+/// One number of a watchdog, about the ends of its range or far from it.
+fn damage_watch(random: &mut Random, watch: &mut Watch) {
+    let (byte, any) = (random.byte(), random.next());
+    let most = MOST_STILL as u32;
+    let level = random.pick(&[0, 1, 2, 3, 255, byte]);
+    let still = random.pick(&[MOST_STILL, MOST_STILL + 1, 1 << 32, u64::MAX, any]);
+    match random.below(6) {
+        0 => watch.bit = random.pick(&[0, 1, 4, 5, 7, 8, 9, 255, byte]),
+        1 => watch.limit = random.pick(&[0, 1, most, most + 1, u32::MAX, any as u32]),
+        2 => watch.din.level = level,
+        3 => watch.loadi.level = level,
+        4 => watch.din.still = still,
+        _ => watch.loadi.still = still,
+    }
 }
 
 /// A number of bits read: about the length of a slice, or about the limit of another phase.
@@ -212,6 +271,12 @@ pub fn junk(random: &mut Random) -> Device {
             active1: words(random),
             slice: [(); 48].map(|()| random.next() as u16),
             position: random.next(),
+            watch: Watch {
+                din: junk_line(random),
+                loadi: junk_line(random),
+                limit: random.next() as u32,
+                bit: random.byte(),
+            },
         },
         place: Place {
             phase: random.byte(),
@@ -219,5 +284,12 @@ pub fn junk(random: &mut Random) -> Device {
             count: random.next() as u16,
             read: random.next() as u16,
         },
+    }
+}
+
+fn junk_line(random: &mut Random) -> Line {
+    Line {
+        still: random.next(),
+        level: random.byte(),
     }
 }

@@ -91,12 +91,22 @@ fn run(case: &mut Case, random: &mut Random, mut chain: Vec<Device>, part: u16) 
 fn fresh(case: &mut Case, random: &mut Random, mut chain: Vec<Device>, part: u16) {
     let (other, unknown) = (sets::other_part(random, part), sets::unknown_part(random));
     let part = random.pick(&[part, part, other, unknown]);
+    let (bit, limit) = told_watch(random);
     let mut expected_chain = chain.clone();
-    let expected = model::chain::fresh(&mut expected_chain, part);
-    let found = ffi::fresh(&mut chain, part);
+    let expected = model::chain::fresh(&mut expected_chain, part, bit, limit);
+    let found = ffi::fresh(&mut chain, part, bit, limit);
     case.same("fresh", found, expected.err().unwrap_or(0));
     case.same("records after fresh", &chain, &expected_chain);
     case.reach(found);
+}
+
+/// A bit and a limit, seldom one of them out of range.
+fn told_watch(random: &mut Random) -> (u8, u32) {
+    let (bit, limit) = (random.pick(&records::BITS), records::limit(random));
+    let (any, far) = (random.byte(), random.next() as u32);
+    let bit = random.pick(&[bit, bit, bit, bit, 0, 4, 8, any]);
+    let limit = random.pick(&[limit, limit, limit, limit, limit, 0, 2_000_001, far]);
+    (bit, limit)
 }
 
 fn set_fault(case: &mut Case, random: &mut Random, mut chain: Vec<Device>) {

@@ -1,5 +1,6 @@
 //! The clock that each device keeps: boundaries about the clock of a store, configurations that change how long a frame
-//! is, runs longer than a frame, and large chains.
+//! is, runs longer than a frame, and large chains. Most chains here have watchdogs that do not expire; the others are held
+//! against the model alone.
 
 use crate::pair::{frame_clocks, Pair};
 use crate::restore::{active, library_states, loaded, waiting, Restore};
@@ -33,16 +34,18 @@ pub fn configured(case: &mut Case, position: u64, before: &Registers, after: &Re
 }
 
 /// A frame of a set on the wire, with low clocks about it.
-struct Sent<'a> {
+pub struct Sent<'a> {
     set: &'a Set,
     command: Command,
-    states: Vec<u8>,
+    /// All of its states.
+    pub states: Vec<u8>,
     /// Where the frame begins in the states.
     begin: usize,
 }
 
 impl Sent<'_> {
-    fn new<'a>(random: &mut Random, set: &'a Set, command: Command) -> Sent<'a> {
+    /// A frame with any tail and any edge.
+    pub fn new<'a>(random: &mut Random, set: &'a Set, command: Command) -> Sent<'a> {
         let mut states = states::gap(random);
         let begin = states.len();
         let (edge, tail) = (random.pick(&Edge::ALL), sets::tail(random));
@@ -56,20 +59,25 @@ impl Sent<'_> {
         }
     }
 
-    fn slice(&self) -> usize {
+    /// Bits of a slice.
+    pub fn slice(&self) -> usize {
         let part = Part::of(self.set.part).expect("a set in order");
         slice_bits(self.command, part, self.set.configuration)
     }
 
     /// The clock, from 1, with which a device stores its slice.
-    fn store(&self, number: usize) -> usize {
+    pub fn store(&self, number: usize) -> usize {
         self.begin + 24 + number * self.slice()
     }
 
-    /// Records in any phase without a place in a slice, whose own slices are as long as the set's.
-    fn receivers(&self, random: &mut Random) -> Pair {
+    /// Records in any phase without a place in a slice, whose own slices are as long as the set's, with watchdogs of any
+    /// kind, or with such as do not expire.
+    pub fn receivers(&self, random: &mut Random, is_quiet: bool) -> Pair {
         let mut receiver = || {
             let mut device = records::fitting(random, self.set.part);
+            if is_quiet {
+                device.registers.watch = records::quiet(random);
+            }
             let phase = random.pick(&[record::HUNTING, record::PASSING, record::LOST]);
             device.place = Place::of(phase);
             let r = &mut device.registers;
@@ -115,7 +123,8 @@ pub fn boundaries() -> Tally {
 }
 
 fn boundary_case(case: &mut Case, random: &mut Random, sent: &Sent) {
-    let mut chain = sent.receivers(random);
+    let is_quiet = !random.one_in(3);
+    let mut chain = sent.receivers(random, is_quiet);
     let late: Vec<usize> = chain.model.iter().map(|_| random.below(3)).collect();
     for (number, late) in (1..).zip(&late) {
         let clock = sent.store(number) - 1 + late;
@@ -125,6 +134,9 @@ fn boundary_case(case: &mut Case, random: &mut Random, sent: &Sent) {
     }
     let old = chain.model.clone();
     chain.run_cut(case, random, &sent.states);
+    if !is_quiet {
+        return;
+    }
     for (number, late) in (1..).zip(late) {
         let [old, new] = [&old, &chain.library].map(|chain| &chain[number - 1].registers);
         is_in_use(case, sent, number, late == 2, [old, new]);
@@ -167,7 +179,8 @@ fn switch_case(case: &mut Case, random: &mut Random, part: u16) {
     let devices = random.between(1, 4);
     let set = sets::set(random, part, devices);
     let mut sent = Sent::new(random, &set, Command::Configuration);
-    let mut chain = sent.receivers(random);
+    let is_quiet = !random.one_in(3);
+    let mut chain = sent.receivers(random, is_quiet);
     for number in 1..=devices {
         let length = frame_clocks(&chain.model[number - 1].registers);
         let before = length + sent.store(number) as u64 - position(random) % length;
@@ -185,7 +198,9 @@ fn switch_case(case: &mut Case, random: &mut Random, part: u16) {
     let before = chain.library[number - 1].registers;
     chain.run(case, &sent.states[store - 1..store]);
     let after = chain.library[number - 1].registers;
-    is_stored(case, &set, do_copies_differ, [&before, &after]);
+    if is_quiet {
+        is_stored(case, &set, do_copies_differ, [&before, &after]);
+    }
     chain.run_cut(case, random, &sent.states[store..]);
 }
 
@@ -235,6 +250,7 @@ pub fn long_runs() -> Tally {
             device.place = Place::of(random.pick(&[record::PASSING, record::LOST]));
             let r = &mut device.registers;
             (r.configuration, r.position) = (mode, r.position % QUARTER);
+            r.watch = records::quiet(random);
             device
         };
         let mut chain = Pair::of([0x00, 0x10, 0x11].map(device).to_vec());
@@ -274,20 +290,29 @@ pub fn large_chains() -> Tally {
         case.event(LARGE.names[usize::from(states.len() > length)]);
         let chain = (0..devices).map(|_| records::fitting(random, part));
         let mut chain: Vec<Device> = chain.collect();
+        let is_quiet = random.one_in(2);
+        if is_quiet {
+            for device in &mut chain {
+                device.registers.watch = records::quiet(random);
+            }
+        }
         let mut expected = chain.clone();
         let cut = random.between(0, states.len());
         let wait = states::lows(random, 4 * QUARTER as usize);
         for piece in [&states[..cut], &states[cut..], &wait] {
             run_large(case, &mut chain, &mut expected, piece);
         }
-        let compared = ffi::compare(&set.lent(), &chain);
-        case.same("compare", (compared.group, compared.refusal), (0, 0));
+        if is_quiet {
+            let compared = ffi::compare(&set.lent(), &chain);
+            case.same("compare", (compared.group, compared.refusal), (0, 0));
+        }
     });
     tally.close_events(&[0], &[LARGE]);
     tally
 }
 
-fn run_large(case: &mut Case, chain: &mut [Device], expected: &mut [Device], states: &[u8]) {
+/// Runs a chain of the library's, and the baseline's beside it.
+pub fn run_large(case: &mut Case, chain: &mut [Device], expected: &mut [Device], states: &[u8]) {
     let room = states.len() + 23;
     let [mut returned, mut after] = [(); 2].map(|()| vec![0xEE; room]);
     let found = ffi::run(chain, states, &mut returned);

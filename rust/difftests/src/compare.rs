@@ -77,7 +77,7 @@ fn differ(random: &mut Random, part: u16, chain: &mut [Device]) {
 /// Something that a number refuses, mostly.
 fn damage(random: &mut Random, set: &mut Set, chain: &mut Vec<Device>) {
     let at = random.below(chain.len());
-    match random.below(15) {
+    match random.below(16) {
         0 => set.part = sets::unknown_part(random),
         1 => chain[at].registers.part = sets::unknown_part(random),
         2 => set.devices = random.pick(&[0, 1024, usize::MAX]),
@@ -95,6 +95,7 @@ fn damage(random: &mut Random, set: &mut Set, chain: &mut Vec<Device>) {
         }
         12 => chain[at].registers.slice[0] = u16::MAX,
         13 => chain[at].registers.position = 4 * records::QUARTER,
+        14 => chain[at].registers.watch.limit = random.pick(&[0, 2_000_001]),
         _ => chain[at] = records::damaged(random, set.part),
     }
     if random.one_in(3) {

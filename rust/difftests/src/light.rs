@@ -287,7 +287,13 @@ const NUMBERS: [u8; 4] = [1, 2, 4, 13];
 /// What number 13 is given for.
 const WRONG: Events = Events {
     title: "13 for",
-    names: &["a record", "a position", "a device", "an output"],
+    names: &[
+        "a record",
+        "a position",
+        "a watchdog",
+        "a device",
+        "an output",
+    ],
 };
 
 /// Every choice of things that are wrong, so that each is alone and with all that have a larger number; and none.
@@ -328,7 +334,7 @@ fn wrong_question(
     let outputs = Part::of(part).map_or(0, Part::outputs);
     let mut output = random.below(outputs) as u32;
     if is_wrong(13) {
-        let kind = random.below(4);
+        let kind = random.below(5);
         case.event(WRONG.names[kind]);
         match kind {
             0 => chain[random.below(count)].registers.openled = 2,
@@ -336,7 +342,8 @@ fn wrong_question(
                 let r = &mut chain[random.below(count)].registers;
                 r.position = frame_clocks(r);
             }
-            2 => device = random.pick(&[0, count + 1, usize::MAX]),
+            2 => chain[random.below(count)].registers.watch.bit = 4,
+            3 => device = random.pick(&[0, count + 1, usize::MAX]),
             _ => output = random.pick(&[outputs as u32, u32::MAX]),
         }
     }

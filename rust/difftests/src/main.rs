@@ -20,13 +20,14 @@ mod pair;
 mod restore;
 mod serial;
 mod tally;
+mod watch;
 
 use tally::{commas, Tally};
 
 /// A kind of test, with its name.
 type Kind = (&'static str, fn() -> Tally);
 
-const KINDS: [Kind; 29] = [
+const KINDS: [Kind; 37] = [
     ("bits::packing", bits::packing),
     ("bits::parts", bits::parts),
     ("frames::written", frames::written),
@@ -42,6 +43,14 @@ const KINDS: [Kind; 29] = [
     ("clock::switched", clock::switched),
     ("clock::long_runs", clock::long_runs),
     ("clock::large_chains", clock::large_chains),
+    ("watch::told", watch::told),
+    ("watch::judged", watch::judged),
+    ("watch::worked", watch::worked),
+    ("watch::expiries", watch::expiries),
+    ("watch::bursts", watch::bursts),
+    ("watch::pieces", watch::pieces),
+    ("watch::stretches", watch::stretches),
+    ("watch::large_chains", watch::large_chains),
     ("history::restored", history::restored),
     ("light::schedules", light::schedules),
     ("light::lit_clocks", light::lit_clocks),

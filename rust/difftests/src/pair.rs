@@ -3,7 +3,8 @@
 use crate::tally::Case;
 use cases::Random;
 use model::part::Part;
-use record::Device;
+use record::{Device, Watch};
+use std::ops::RangeInclusive;
 
 /// The two chains. They are alike, or a case has differed.
 #[derive(Clone)]
@@ -12,6 +13,10 @@ pub struct Pair {
     pub library: Vec<Device>,
     /// The model's.
     pub model: Vec<Device>,
+    /// Clocks since the two were made, or since [`Pair::begin`].
+    clocks: usize,
+    /// The clocks, from 1 and rising, in which each device's watchdog has expired.
+    expired: Vec<Vec<usize>>,
 }
 
 impl Pair {
@@ -19,14 +24,41 @@ impl Pair {
     pub fn of(records: Vec<Device>) -> Pair {
         Pair {
             library: records.clone(),
+            expired: vec![vec![]; records.len()],
             model: records,
+            clocks: 0,
         }
     }
 
-    /// Both are made fresh.
-    pub fn fresh(&mut self, case: &mut Case, part: u16) {
-        let found = ffi::fresh(&mut self.library, part);
-        let expected = model::chain::fresh(&mut self.model, part);
+    /// Clocks are counted from here.
+    pub fn begin(&mut self) {
+        self.clocks = 0;
+        self.expired.iter_mut().for_each(Vec::clear);
+    }
+
+    /// Whether the watchdog of a device, numbered from 1, has expired in one of these clocks.
+    pub fn has_expired(&self, number: usize, clocks: RangeInclusive<usize>) -> bool {
+        let expired = &self.expired[number - 1];
+        let first = expired.partition_point(|clock| clock < clocks.start());
+        expired
+            .get(first)
+            .is_some_and(|clock| clock <= clocks.end())
+    }
+
+    /// The clocks, from 1 and rising, in which the watchdog of a device, numbered from 1, has expired.
+    pub fn expiries(&self, number: usize) -> &[usize] {
+        &self.expired[number - 1]
+    }
+
+    /// Clocks that were counted.
+    pub fn clocks(&self) -> usize {
+        self.clocks
+    }
+
+    /// Both are made fresh, told a bit and a limit.
+    pub fn fresh(&mut self, case: &mut Case, part: u16, bit: u8, limit: u32) {
+        let found = ffi::fresh(&mut self.library, part, bit, limit);
+        let expected = model::chain::fresh(&mut self.model, part, bit, limit);
         self.answered(case, "fresh", found, expected.err().unwrap_or(0));
     }
 
@@ -36,7 +68,11 @@ impl Pair {
         let mut returned = vec![0xEE; room];
         case.rises(&self.model[0], states);
         let found = ffi::run(&mut self.library, states, &mut returned);
-        let expected = model::chain::run(&mut self.model, states, room).unwrap_or_default();
+        let (before, expired) = (self.clocks, &mut self.expired);
+        let note = |number: usize, clock: usize| expired[number - 1].push(before + clock);
+        let expected = model::chain::run_noting(&mut self.model, states, room, note);
+        let expected = expected.unwrap_or_default();
+        self.clocks += states.len();
         returned.truncate((found.value as usize).min(room));
         case.same("returned", &returned, &expected);
         self.answered(case, "run", found.refusal, 0);
@@ -55,6 +91,13 @@ impl Pair {
         let found = ffi::set_fault(&mut self.library, device, kind, u8::from(flag));
         let expected = model::chain::set_fault(&mut self.model, device, kind, flag);
         self.answered(case, "set fault", found, expected.err().unwrap_or(0));
+    }
+
+    /// A device, numbered from 1, has another watchdog.
+    pub fn set_watch(&mut self, number: usize, watch: Watch) {
+        for chain in [&mut self.library, &mut self.model] {
+            chain[number - 1].registers.watch = watch;
+        }
     }
 
     /// Brings a device, numbered from 1, to the position from which a boundary falls after so many clocks.

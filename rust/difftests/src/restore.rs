@@ -24,6 +24,19 @@ pub const CUTS: Events = Events {
     ],
 };
 
+/// What the watchdog of a device did up to a cut, or to the end of a restore's wait, about the clock of the device's
+/// individual slice.
+pub const EXPIRIES: Events = Events {
+    title: "values by the watchdog",
+    names: &[
+        "old, never expired",
+        "0 in place of old",
+        "new, never expired",
+        "new, expired before their slice",
+        "0 in place of new",
+    ],
+};
+
 /// A set's restore.
 pub struct Restore<'a> {
     set: &'a Set,
@@ -34,6 +47,15 @@ pub struct Restore<'a> {
     /// For each frame in order, where it begins in the states.
     begins: [usize; 4],
 }
+
+/// What a restore leaves in use.
+pub const SHOWN: Events = Events {
+    title: "restored",
+    names: &["whole", "blank at a device that has expired"],
+};
+
+/// What an expiry leaves.
+const BLANK: Phases = [[0; 24]; 2];
 
 /// MUX0 and MUX1 values, as a record holds them.
 type Phases = [[u16; 24]; 2];
@@ -114,25 +136,35 @@ impl Restore<'_> {
     }
 
     /// Every device's registers in use hold the values of its own slices, and what its part does not use holds 0; the
-    /// comparison says so too.
-    pub fn is_restored(&self, case: &mut Case, devices: &[Device]) {
-        for (number, device) in (1..).zip(devices) {
+    /// comparison says so too. Where a watchdog has expired from the clock of its individual slice on, the values are 0.
+    pub fn is_restored(&self, case: &mut Case, chain: &Pair) {
+        let mut is_shown = true;
+        for (number, device) in (1..).zip(&chain.library) {
             let r = &device.registers;
             case.same("configuration", r.configuration, self.set.configuration);
             let calibration = self.set.calibration_of(number);
             case.same("calibration", r.calibration, front(calibration));
             let (_, held) = active(r);
-            let expected = (self.set.global, loaded(self.set, number, held));
-            case.same("in use", active(r), expected);
+            let is_blank = chain.has_expired(number, self.arrival(3, number)..=chain.clocks());
+            let phases = match is_blank {
+                true => BLANK,
+                false => loaded(self.set, number, held),
+            };
+            case.same("in use", active(r), (self.set.global, phases));
+            is_shown &= !is_blank;
         }
-        let compared = ffi::compare(&self.set.lent(), devices);
-        case.same("compare", (compared.group, compared.refusal), (0, 0));
+        case.event(SHOWN.names[usize::from(!is_shown)]);
+        if is_shown {
+            let compared = ffi::compare(&self.set.lent(), &chain.library);
+            case.same("compare", (compared.group, compared.refusal), (0, 0));
+        }
     }
 
     /// After the first `cut` states each group is new where its slice has arrived, and old elsewhere. In use is what
     /// waited when the last boundary fell, before the state of that clock acted; where none fell, what was in use before.
-    pub fn is_cut(&self, case: &mut Case, old: &[Device], new: &[Device], cut: usize) {
-        for (number, (old, new)) in (1..).zip(old.iter().zip(new)) {
+    /// Individual values are 0 where the watchdog has expired since.
+    pub fn is_cut(&self, case: &mut Case, old: &[Device], chain: &Pair, cut: usize) {
+        for (number, (old, new)) in (1..).zip(old.iter().zip(&chain.library)) {
             let (old, new) = (&old.registers, &new.registers);
             let has_arrived = |k| cut >= self.arrival(k, number);
             let configuration = match has_arrived(0) {
@@ -145,27 +177,53 @@ impl Restore<'_> {
                 false => old.calibration,
             };
             case.same("cut: calibration", new.calibration, calibration);
-            let expected = self.waiting_after(number, old, cut);
+            let expected = self.waiting_after(number, old, chain, cut);
             case.same("cut: waiting", waiting(new), expected);
-            let expected = match self.last_boundary(number, old, cut) {
-                None => active(old),
-                Some(clock) => self.waiting_after(number, old, clock - 1),
+            let (last, (global, mut phases)) = match self.last_boundary(number, old, cut) {
+                None => (1, active(old)),
+                Some(clock) => (clock, self.waiting_after(number, old, chain, clock - 1)),
             };
-            case.same("cut: active", active(new), expected);
+            if chain.has_expired(number, last..=cut) {
+                phases = BLANK;
+            }
+            case.same("cut: active", active(new), (global, phases));
             self.count_cut(case, number, old, cut);
+            self.count_expiries(case, number, chain, cut);
         }
     }
 
     /// What waits at a device after so many states.
-    fn waiting_after(&self, number: usize, old: &Registers, states: usize) -> Values {
+    fn waiting_after(&self, number: usize, old: &Registers, chain: &Pair, states: usize) -> Values {
         let (mut global, mut phases) = waiting(old);
         if states >= self.arrival(2, number) {
             global = self.set.global;
         }
-        if states >= self.arrival(3, number) {
+        let arrival = self.arrival(3, number);
+        if chain.has_expired(number, 1..=states.min(arrival - 1)) {
+            phases = BLANK;
+        }
+        if states >= arrival {
             phases = loaded(self.set, number, phases);
         }
+        if chain.has_expired(number, arrival..=states) {
+            phases = BLANK;
+        }
         (global, phases)
+    }
+
+    /// Counts what the watchdog of a device did.
+    fn count_expiries(&self, case: &mut Case, number: usize, chain: &Pair, cut: usize) {
+        let arrival = self.arrival(3, number);
+        let has_arrived = cut >= arrival;
+        let before = chain.has_expired(number, 1..=cut.min(arrival - 1));
+        let after = chain.has_expired(number, arrival..=cut);
+        case.event(match (has_arrived, before, after) {
+            (false, false, _) => "old, never expired",
+            (false, true, _) => "0 in place of old",
+            (true, false, false) => "new, never expired",
+            (true, true, false) => "new, expired before their slice",
+            (true, _, true) => "0 in place of new",
+        });
     }
 
     /// The clock, from 1, of a device's last boundary within the first `cut` states.

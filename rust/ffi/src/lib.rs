@@ -234,10 +234,10 @@ pub fn step(device: Device, state: u8) -> Stepped {
     unsafe { raw::bb_step(device, state) }
 }
 
-/// Makes a chain fresh; the refusal.
-pub fn fresh(devices: &mut [Device], part: u16) -> u8 {
+/// Makes a chain fresh, told the part and the watchdog's bit and limit; the refusal.
+pub fn fresh(devices: &mut [Device], part: u16, bit: u8, limit: u32) -> u8 {
     // SAFETY: the slice is lent for the call, with its length.
-    unsafe { raw::bb_fresh(devices.as_mut_ptr(), devices.len(), part) }
+    unsafe { raw::bb_fresh(devices.as_mut_ptr(), devices.len(), part, bit, limit) }
 }
 
 /// Gives a chain line states.

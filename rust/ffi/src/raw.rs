@@ -71,7 +71,7 @@ extern "C" {
     pub fn bb_data_bytes(states: *const u8, count: usize, out: *mut u8, room: usize) -> Answer;
     pub fn bb_judge(device: Device) -> u8;
     pub fn bb_step(device: Device, state: u8) -> Stepped;
-    pub fn bb_fresh(devices: *mut Device, count: usize, part: u16) -> u8;
+    pub fn bb_fresh(devices: *mut Device, count: usize, part: u16, bit: u8, limit: u32) -> u8;
     pub fn bb_run(
         devices: *mut Device,
         count: usize,

@@ -2,31 +2,54 @@
 
 use crate::device::Device;
 use crate::part::Part;
+use crate::watch::{is_bit, is_limit};
 use crate::{refuse, Refusal};
 
-/// Makes a chain fresh, whatever its records hold.
-pub fn fresh(records: &mut [record::Device], part: u16) -> Result<(), Refusal> {
+/// Makes a chain fresh, whatever its records hold; told the part, and the watchdog's bit and limit.
+pub fn fresh(
+    records: &mut [record::Device],
+    part: u16,
+    bit: u8,
+    limit: u32,
+) -> Result<(), Refusal> {
     Part::of(part)?;
     refuse(2, !(1..=1023).contains(&records.len()))?;
-    records.fill(record::Device::fresh(part));
+    refuse(13, !is_bit(bit) || !is_limit(limit))?;
+    records.fill(record::Device::watched(part, bit, limit));
     Ok(())
 }
 
 /// Gives the chain line states; the states that the last device sends, for a list with room for `room`. With each state
-/// every device first advances by a clock, and then the state goes through the chain.
+/// every device first advances by a clock, then the state goes through the chain, and then every device watches what it
+/// was sent.
 pub fn run(records: &mut [record::Device], states: &[u8], room: usize) -> Result<Vec<u8>, Refusal> {
+    run_noting(records, states, room, |_, _| {})
+}
+
+/// The same; each expiry of a watchdog is noted, by the device's number and the clock, both from 1.
+pub fn run_noting(
+    records: &mut [record::Device],
+    states: &[u8],
+    room: usize,
+    mut note: impl FnMut(usize, usize),
+) -> Result<Vec<u8>, Refusal> {
     judge_parts(records)?;
     refuse(5, room < states.len() + 23)?;
     refuse(13, states.iter().any(|&s| s > 3))?;
     let mut devices = devices_of(records)?;
     let mut returned = vec![];
-    for &state in states {
+    for (clock, &state) in (1..).zip(states) {
         for device in &mut devices {
             device.advance();
         }
         let mut sent = vec![state];
-        for device in &mut devices {
-            sent = pass_through(device, &sent);
+        for (number, device) in (1..).zip(&mut devices) {
+            let sent_on = pass_through(device, &sent);
+            // Its clock can end here: what it watches is its own.
+            if device.watch(&sent) {
+                note(number, clock);
+            }
+            sent = sent_on;
         }
         returned.extend(sent);
     }

@@ -5,6 +5,7 @@ use crate::edge::Edge;
 use crate::frame::header;
 use crate::part::{field_width, multiplexed, slice_bits, Command, Part};
 use crate::serial::clocked;
+use crate::watch::Watch;
 use crate::{refuse, Refusal};
 
 /// Low bits that a record keeps.
@@ -52,6 +53,8 @@ pub struct Device {
     pub slots: [u16; 48],
     /// The position in the frame of light, in clocks.
     pub position: u64,
+    /// The watchdog.
+    pub watch: Watch,
     /// The phase.
     pub phase: Phase,
 }
@@ -76,6 +79,7 @@ impl Device {
             active: [r.active0, r.active1],
             slots: r.slice,
             position: r.position,
+            watch: Watch::of_record(&r.watch)?,
             phase: phase_of(&record.place, part, r.configuration)?,
         })
     }
@@ -97,6 +101,7 @@ impl Device {
                 active1: self.active[1],
                 slice: self.slots,
                 position: self.position,
+                watch: self.watch.to_record(),
             },
             place: place_of(&self.phase),
         }
@@ -111,12 +116,23 @@ impl Device {
         }
     }
 
+    /// A clock of the host ends, in which the device was sent these states. Where its watchdog has then expired, the
+    /// individual values become 0, those that wait and those in use, of MUX0 and MUX1; whether it has.
+    pub fn watch(&mut self, sent: &[u8]) -> bool {
+        let has_expired = self.watch.end_clock(sent, self.configuration);
+        if has_expired {
+            self.waiting = [[0; 24]; 2];
+            self.active = [[0; 24]; 2];
+        }
+        has_expired
+    }
+
     /// Clocks of its frame of light.
     pub fn frame_clocks(&self) -> u64 {
         self.part.frame_clocks(self.configuration)
     }
 
-    /// One line state in, 0 to 3: the states sent on. It does not advance.
+    /// One line state in, 0 to 3: the states sent on. It does not advance, and it does not watch.
     pub fn step(&mut self, state: u8) -> Vec<u8> {
         let bit = state & 1 == 1;
         if state < 2 {

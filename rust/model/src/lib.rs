@@ -3,7 +3,7 @@
 //! This model shares no code or definition with the proved library. The record's layout, its
 //! slots and its phase numbers are those of include/bractbeacon.h, and so are the same on both sides of a differential
 //! test. It is clear and slow: frames are lists of bits, a chain goes state by state and device by device, light is
-//! counted, and current is added up clock by clock. An operation answers a `Result`, with the refusal number as its
+//! counted, each watchdog looks at what its device was sent in each clock, and current is added up clock by clock. An operation answers a `Result`, with the refusal number as its
 //! error, and a refused one changes nothing.
 
 pub mod bits;
@@ -18,6 +18,7 @@ pub mod part;
 pub mod reader;
 pub mod serial;
 pub mod set;
+pub mod watch;
 pub mod writer;
 
 /// A number of the table in docs/RULES.md, "Refusal numbers".

@@ -83,7 +83,7 @@ fn f_individual_of_a_6975() {
 fn returned_of_three(part: u16) -> Vec<u8> {
     let sent = tail(0xA5, 8);
     let mut devices = [Device::fresh(0); 3];
-    chain::fresh(&mut devices, part).unwrap();
+    chain::fresh(&mut devices, part, 1, 2_000_000).unwrap();
     chain::set_fault(&mut devices, 1, 1, true).unwrap();
     chain::set_fault(&mut devices, 3, 1, true).unwrap();
     let states = Set::zeros(part, 3, 0)

@@ -44,7 +44,7 @@ fn any_other_number_is_no_part() {
     for number in [0, 1, 2, 24, 6960, 6970, 6971, 6976, 16_974, u16::MAX] {
         assert_eq!(Part::of(number), Err(1));
         let mut devices = [Device::fresh(6972)];
-        assert_eq!(chain::fresh(&mut devices, number), Err(1));
+        assert_eq!(chain::fresh(&mut devices, number, 0, 0), Err(1));
         devices[0].registers.part = number;
         assert_eq!(Judged::of_record(&devices[0]).err(), Some(1));
         assert_eq!(is_lit(number, 0, 0, 0, output(0)), Err(1));

@@ -17,6 +17,33 @@ pub const PASSING: u8 = 4;
 /// Phase: ignoring high clocks.
 pub const LOST: u8 = 5;
 
+/// The most clocks of a limit, and where a count stops.
+pub const MOST_STILL: u64 = 2_000_000;
+
+/// A line that the watchdog watches.
+#[repr(C)]
+#[derive(Clone, Copy, Debug, PartialEq, Eq)]
+pub struct Line {
+    /// Clocks without a change, up to [`MOST_STILL`].
+    pub still: u64,
+    /// Where the line stands, 0 or 1.
+    pub level: u8,
+}
+
+/// The watchdog of a device.
+#[repr(C)]
+#[derive(Clone, Copy, Debug, PartialEq, Eq)]
+pub struct Watch {
+    /// The data line.
+    pub din: Line,
+    /// The load line.
+    pub loadi: Line,
+    /// The limit of both counts, 1 to [`MOST_STILL`].
+    pub limit: u32,
+    /// The number of the configuration bit that enables it: 1, 2, 3, 5, 6 or 7.
+    pub bit: u8,
+}
+
 /// What a device holds.
 #[repr(C)]
 #[derive(Clone, Copy, Debug, PartialEq, Eq)]
@@ -47,6 +74,8 @@ pub struct Registers {
     pub slice: [u16; 48],
     /// The position in the frame of light, in clocks: 0 when fresh, and below that frame's length.
     pub position: u64,
+    /// The watchdog.
+    pub watch: Watch,
 }
 
 /// Where a device is in a frame that comes in. Numbers that a phase does not use are 0.
@@ -74,8 +103,25 @@ pub struct Device {
     pub place: Place,
 }
 
+impl Line {
+    /// At level 0, with count 0.
+    pub const FRESH: Line = Line { still: 0, level: 0 };
+}
+
+impl Watch {
+    /// A fresh watchdog, told the number of its bit and its limit.
+    pub const fn fresh(bit: u8, limit: u32) -> Watch {
+        Watch {
+            din: Line::FRESH,
+            loadi: Line::FRESH,
+            limit,
+            bit,
+        }
+    }
+}
+
 impl Registers {
-    /// Registers of a part with zeros and no faults.
+    /// Registers of a part with zeros and no faults, and with a watchdog of bit 1 and the largest limit.
     pub const fn zeros(part: u16) -> Registers {
         Registers {
             part,
@@ -91,6 +137,7 @@ impl Registers {
             active1: [0; 24],
             slice: [0; 48],
             position: 0,
+            watch: Watch::fresh(1, MOST_STILL as u32),
         }
     }
 }
@@ -108,12 +155,19 @@ impl Place {
 }
 
 impl Device {
-    /// A fresh device of a part: zeros, no faults, hunting.
+    /// A fresh device of a part: zeros, no faults, hunting. Its watchdog has bit 1 and the largest limit.
     pub const fn fresh(part: u16) -> Device {
         Device {
             registers: Registers::zeros(part),
             place: Place::of(HUNTING),
         }
+    }
+
+    /// A fresh device of a part whose watchdog is told its bit and its limit.
+    pub const fn watched(part: u16, bit: u8, limit: u32) -> Device {
+        let mut device = Device::fresh(part);
+        device.registers.watch = Watch::fresh(bit, limit);
+        device
     }
 }
 
@@ -143,10 +197,17 @@ mod tests {
     fn the_record_has_the_headers_layout() {
         assert_eq!(offset_of!(Registers, slice), 202);
         assert_eq!(offset_of!(Registers, position), 304);
-        assert_eq!(size_of::<Registers>(), 312);
+        assert_eq!(offset_of!(Registers, watch), 312);
+        assert_eq!(offset_of!(Line, level), 8);
+        assert_eq!(size_of::<Line>(), 16);
+        assert_eq!(offset_of!(Watch, loadi), 16);
+        assert_eq!(offset_of!(Watch, limit), 32);
+        assert_eq!(offset_of!(Watch, bit), 36);
+        assert_eq!(size_of::<Watch>(), 40);
+        assert_eq!(size_of::<Registers>(), 352);
         assert_eq!(size_of::<Place>(), 6);
-        assert_eq!(offset_of!(Device, place), 312);
-        assert_eq!(size_of::<Device>(), 320);
+        assert_eq!(offset_of!(Device, place), 352);
+        assert_eq!(size_of::<Device>(), 360);
         assert_eq!(align_of::<Device>(), 8);
     }
 }

@@ -95,7 +95,7 @@ pub line-clock : (before on : Bool) (t : ℕ) (bs : List ℕ) (l : Line) → t +
     → lineBy on (t + 1) (lineIn before on (t + 1) bs l) ≡ lineAfter on bs (lineBy before t l)
 line-clock before on t bs l h e = ap (λ (n : ℕ). line n (lastOf (l .level) bs)) (still-clock before on (moved (l .level) bs) t (l .still) h e)
 
-with-lines : (w : Watch) {a b c d : Line} → a ≡ c → b ≡ d → withLines w a b ≡ withLines w c d
+pub with-lines : (w : Watch) {a b c d : Line} → a ≡ c → b ≡ d → withLines w a b ≡ withLines w c d
 with-lines w p q = cc
 
 pub watch-clock : (before on : Bool) (t configuration : ℕ) (sent : List ℕ) (w : Watch) → on ≡ enabled w configuration → t + 1 < 2 ^ 63 → EarlyWatch t w
@@ -253,7 +253,7 @@ part-nothing ss i to h = go (leb to i) refl
     go true f = part-end ss i to (leb-true to i f)
     go false f = part-over ss i to (omega (arith, h, leb-false to i f))
 
-last-at : (f : ℕ → ℕ) (level : ℕ) (ss : List ℕ) (k : ℕ) → length ss ≡ suc k → lastOf level (map f ss) ≡ f (getD ss k 0)
+pub last-at : (f : ℕ → ℕ) (level : ℕ) (ss : List ℕ) (k : ℕ) → length ss ≡ suc k → lastOf level (map f ss) ≡ f (getD ss k 0)
 unfolding lastOf
 last-at f level [] k e = omega (arith, e)
 last-at f level (s ∷ []) zero e = refl
@@ -262,7 +262,7 @@ last-at f level (s ∷ x ∷ ss) zero e = omega (arith, e)
 last-at f level (s ∷ x ∷ ss) (suc k) e = last-at f (f s) (x ∷ ss) k (omega (arith, e))
 
 -- its last state is the last before `to`, or before the end
-part-last : (f : ℕ → ℕ) (level : ℕ) (ss : List ℕ) (from to : ℕ) → from < min to (length ss)
+pub part-last : (f : ℕ → ℕ) (level : ℕ) (ss : List ℕ) (from to : ℕ) → from < min to (length ss)
     → lastOf level (map f (take (to - from) (drop from ss))) ≡ f (getD ss (min to (length ss) - 1) 0)
 part-last f level ss from to h =
     last-at f level (take (to - from) (drop from ss)) k (simp (length-take, length-drop) (omega (arith, h)))

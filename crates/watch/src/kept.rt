@@ -2,7 +2,7 @@
 // looked at only where its device is sent something, and at the end.
 ghost use mathlib.Core.Path.{_≡_};
 ghost use Prim.Native.Nat.{min, _-_};
-ghost use mathlib.Core.Bool.{true, false, _||_};
+ghost use mathlib.Core.Bool.{false};
 ghost use lib.ListN.{take, drop};
 ghost use mathlib.Core.List.{[], _∷_};
 ghost use Rattle.watch.specs.Watch.{moved};
@@ -70,24 +70,9 @@ pub fn listen(watch: Watch, on: bool, states: &[u8], from: usize, to: usize) -> 
     ensures { λ r. ⌜ r ≡ listened on from (take (to - from) (drop from (now (states .entry)))) watch ⌝ }
 {
     if on {
-        return listen_on(watch, states, from, to);
+        return crate::blocks::listen_on(watch, states, from, to);
     }
     listen_off(watch, states, from, to)
-}
-
-// Clock by clock, while the bit is set.
-fn listen_on(watch: Watch, states: &[u8], from: usize, to: usize) -> Listened
-    ensures { λ r. ⌜ r ≡ listened true from (take (to - from) (drop from (now (states .entry)))) watch ⌝ }
-{
-    let mut w = watch;
-    let mut expired = false;
-    let mut i = from;
-    while i < to && i < states.len() {
-        expired = expired_or(expired, w, i);
-        w = hear(w, true, true, i + 1, states[i]);
-        i += 1;
-    }
-    Listened { watch: w, expired }
 }
 
 // While the bit is clear only the last state is looked at.
@@ -107,17 +92,7 @@ fn listen_off(watch: Watch, states: &[u8], from: usize, to: usize) -> Listened
     }
 }
 
-// Where the bit is set: it expired before, or has expired by a clock.
-fn expired_or(before: bool, watch: Watch, clock: usize) -> bool
-    ensures { λ r. ⌜ r ≡ (before || expiredBy true clock watch) ⌝ }
-{
-    if before {
-        return true;
-    }
-    has_expired(watch, true, clock)
-}
-
-fn lesser(a: usize, b: usize) -> usize
+pub fn lesser(a: usize, b: usize) -> usize
     ensures { λ r. ⌜ r ≡ min a b ⌝ }
 {
     if a < b { a } else { b }
@@ -200,13 +175,13 @@ fn moved_line(line: Line, on: bool, clock: usize, level: u8) -> Line
     }
 }
 
-fn run_on(n: u64, clock: usize) -> u64
+pub fn run_on(n: u64, clock: usize) -> u64
     ensures { λ r. ⌜ r ≡ runOn clock n ⌝ }
 {
     wrapping_add_u64(n, clock as u64)
 }
 
-fn keep_from(n: u64, clock: usize) -> u64
+pub fn keep_from(n: u64, clock: usize) -> u64
     ensures { λ r. ⌜ r ≡ keptFrom clock n ⌝ }
 {
     wrapping_sub_u64(n, clock as u64)

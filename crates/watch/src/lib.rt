@@ -1,7 +1,14 @@
 // A device's watchdog: what it watches, and how a run keeps it.
+mod blocks;
+mod ear;
 mod kept;
 mod watch;
 
+pub use ear::Ear;
+pub use ear::Followed;
+pub use ear::follow;
+pub use ear::join;
+pub use ear::no_ear;
 pub use kept::Listened;
 pub use kept::bring;
 pub use kept::has_expired;

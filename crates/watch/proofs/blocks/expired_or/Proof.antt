@@ -1,6 +1,6 @@
 use borrow.Author.Needs.{needs}
-use Rattle.watch.proofs.kept.expired_or.Statement.{statement}
-use Rattle.watch.proofs.kept.expired_or.Tie as tie
+use Rattle.watch.proofs.blocks.expired_or.Statement.{statement}
+use Rattle.watch.proofs.blocks.expired_or.Tie as tie
 
 returns : tie.Need-returns
 returns c = search needs

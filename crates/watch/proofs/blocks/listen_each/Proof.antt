@@ -6,12 +6,12 @@ use lib.ListN.{take, drop}
 use Prim.Native.Nat.{_-_}
 use mathlib.Core.Bool.{true}
 use mathlib.Core.Path.{_≡_, refl, sym, _∙_}
-use Rattle.watch.proofs.kept.listen_on.Statement.{statement}
-use Rattle.watch.proofs.kept.listen_on.Tie as tie
+use Rattle.watch.proofs.blocks.listen_each.Statement.{statement}
+use Rattle.watch.proofs.blocks.listen_each.Tie as tie
 
 abbrev Inv-loop : tie.InvT-loop
 Inv-loop states from to w₀ expired₀ i₀ w expired i =
-    listened true from (take (to - from) (drop from states)) w₀ ≡ since expired (listened true i (take (to - i) (drop i states)) w)
+    since expired₀ (listened true from (take (to - from) (drop from states)) w₀) ≡ since expired (listened true i (take (to - i) (drop i states)) w)
 
 abbrev μ-loop : tie.MeasureT-loop
 μ-loop states from to w₀ expired₀ i₀ w expired i = to - i
@@ -41,7 +41,7 @@ loop-again : tie.Need-loop-again Inv-loop μ-loop
 loop-again c =
     let p = c .before .before .before .before in
     let t = p .before in
-    let a = t .before .before .args in
+    let a = t .before .before .before .args in
     let l = t .loop in
     rw (c .before .before .expired-or .ensures, c .hear .ensures)
     (l .inv ∙ part-more true (a .states .now) (l .i) (a .to) (l .w) (l .expired) (p .loop-test .taken) (ltb-true _ _ (c .before .before .before .if1 .taken)))
@@ -49,19 +49,19 @@ loop-again c =
 returns : tie.Need-returns Inv-loop μ-loop
 returns c =
     let t = c .before .before in
-    let a = t .before .before .args in
+    let a = t .before .before .before .args in
     let l = t .loop in
     part-none true _ (l .i) (l .w) (l .expired) (part-over (a .states .now) (l .i) (a .to) (ltb-false _ _ (c .if1 .left))) ∙ sym (l .inv)
 
 returns-2 : tie.Need-returns-2 Inv-loop μ-loop
 returns-2 c =
     let t = c .before in
-    let a = t .before .before .args in
+    let a = t .before .before .before .args in
     let l = t .loop in
     part-none true _ (l .i) (l .w) (l .expired) (part-end (a .states .now) (l .i) (a .to) (c .loop-test .left)) ∙ sym (l .inv)
 
-pub listen-on-spec : {M : Type 1} → statement M
-listen-on-spec =
+pub listen-each-spec : {M : Type 1} → statement M
+listen-each-spec =
     tie.close
     (tie.spec
     Inv-loop

@@ -1,2 +1,3 @@
 -- Laws of what a slice stores.
 pub mod Lists
+pub mod Kept

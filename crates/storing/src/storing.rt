@@ -123,15 +123,31 @@ fn store_global(registers: Registers, slice: [u16; 48]) -> Registers
 fn store_configuration(registers: Registers, slice: [u16; 48]) -> Registers
     ensures { λ r. ⌜ r ≡ storedConfiguration (withSlice registers slice) ⌝ }
 {
-    let byte = if same_copies(slice, registers.part) {
-        (slice[0] % 256) as u8
-    } else {
-        registers.configuration
-    };
+    let byte = configuration_of(registers, slice);
     let mut next = registers;
     next.slice = slice;
     next.configuration = byte;
     next
+}
+
+// The configuration that a slice of configuration bytes leaves.
+fn configuration_of(registers: Registers, slice: [u16; 48]) -> u8
+    ensures { λ r. ⌜ r ≡ storedConfiguration (withSlice registers slice) .configuration ⌝ }
+{
+    if same_copies(slice, registers.part) {
+        return (slice[0] % 256) as u8;
+    }
+    registers.configuration
+}
+
+// The configuration that a slice leaves, for who must know it before the slice is stored.
+pub fn configuration_after(registers: Registers, slice: [u16; 48], command: Command) -> u8
+    ensures { λ r. ⌜ r ≡ stored (withSlice registers slice) command .configuration ⌝ }
+{
+    if let Command::Configuration = command {
+        return configuration_of(registers, slice);
+    }
+    registers.configuration
 }
 
 // The last bit of a slice stores it. The slice is given beside the registers, whose own is the one before, so that a record is moved once.

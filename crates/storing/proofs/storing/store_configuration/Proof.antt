@@ -1,24 +1,16 @@
-use Rattle.tables.proofs.Tests.{by-way}
-use mathlib.Core.Path.{sym, _∙_}
+use Rattle.storing.proofs.Kept.{configured}
+use Rattle.registers.specs.Held.{withSlice}
 use borrow.Author.Needs.{needs}
 use Rattle.storing.proofs.storing.store_configuration.Statement.{statement}
 use Rattle.storing.proofs.storing.store_configuration.Tie as tie
 
-same-copies-requires : tie.Need-same-copies-requires
-same-copies-requires c κs = search needs
-
-array-read-byte : tie.Need-array-read-byte
-array-read-byte c = search needs
-
-cast-byte : tie.Need-cast-byte
-cast-byte c = search needs
+configuration-of-requires : tie.Need-configuration-of-requires
+configuration-of-requires c κs = search needs
 
 returns : tie.Need-returns
 returns c =
-    by-way (c .if1 .came)
-    (λ w. rw (w .1, sym (c .before .same-copies .ensures) ∙ w .0 .taken))
-    (λ w. rw (w .1, sym (c .before .same-copies .ensures) ∙ w .0 .left))
+    let a = c .before .args in
+    configured (withSlice (a .registers) (a .slice)) (c .configuration-of .ensures)
 
 pub store-configuration-spec : {M : Type 1} → statement M
-store-configuration-spec =
-    tie.close (tie.spec same-copies-requires array-read-byte cast-byte returns)
+store-configuration-spec = tie.close (tie.spec configuration-of-requires returns)

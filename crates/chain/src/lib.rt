@@ -39,7 +39,7 @@ pub extern "C" fn bb_run(chain: &mut [Device], states: &[u8], returned: &mut [u8
     while cursor.going {
         let i = cursor.index;
         let taken = turns::take_turn(chain[i], cursor, states);
-        let next = turns::turn_after(cursor, taken.at, taken.sent, states, returned);
+        let next = turns::turn_after(cursor, taken.at, taken.sent, taken.ear, states, returned);
         chain[i] = taken.device;
         cursor = next;
     }

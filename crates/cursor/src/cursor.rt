@@ -3,6 +3,7 @@ ghost use mathlib.Core.Path.{_≡_};
 ghost use lib.ListN.{drop};
 ghost use Rattle.cursor.specs.Cursor.{indexOf, turnByState, nextTurn, halted};
 use phases::Sent;
+use watch::Ear;
 
 pub struct Cursor {
     // The number of devices.
@@ -20,6 +21,8 @@ pub struct Cursor {
     pub going: bool,
     // Where the high states that begin at the next state end; 0 until they are looked for.
     pub end: usize,
+    // What watchdogs go by that pass those states.
+    pub ear: Ear,
 }
 
 // By the header under way, or by the next state.
@@ -33,6 +36,7 @@ pub fn next_turn(
 ) -> Cursor
     ensures { λ r. ⌜ r ≡ nextTurn count front at written pending (drop at (now (states .entry))) ⌝ }
 {
+    let ear = watch::no_ear();
     if let Sent::Header { .. } = pending {
         return Cursor {
             count,
@@ -43,6 +47,7 @@ pub fn next_turn(
             pending,
             going: true,
             end: 0,
+            ear,
         };
     }
     turn_by_state(count, front, at, written, states)
@@ -52,6 +57,7 @@ pub fn next_turn(
 pub fn turn_by_state(count: usize, front: usize, at: usize, written: usize, states: &[u8]) -> Cursor
     ensures { λ r. ⌜ r ≡ turnByState count front at written (drop at (now (states .entry))) ⌝ }
 {
+    let ear = watch::no_ear();
     if at < states.len() {
         if states[at] < 2 {
             Cursor {
@@ -63,6 +69,7 @@ pub fn turn_by_state(count: usize, front: usize, at: usize, written: usize, stat
                 pending: Sent::Nothing,
                 going: true,
                 end: 0,
+                ear,
             }
         } else {
             Cursor {
@@ -74,6 +81,7 @@ pub fn turn_by_state(count: usize, front: usize, at: usize, written: usize, stat
                 pending: Sent::Nothing,
                 going: true,
                 end: 0,
+                ear,
             }
         }
     } else {
@@ -86,6 +94,7 @@ pub fn turn_by_state(count: usize, front: usize, at: usize, written: usize, stat
             pending: Sent::Nothing,
             going: false,
             end: 0,
+            ear,
         }
     }
 }
@@ -94,6 +103,7 @@ pub fn turn_by_state(count: usize, front: usize, at: usize, written: usize, stat
 pub fn halt() -> Cursor
     ensures { λ r. ⌜ r ≡ halted ⌝ }
 {
+    let ear = watch::no_ear();
     Cursor {
         count: 0,
         front: 0,
@@ -103,6 +113,7 @@ pub fn halt() -> Cursor
         pending: Sent::Nothing,
         going: false,
         end: 0,
+        ear,
     }
 }
 

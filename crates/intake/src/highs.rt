@@ -130,20 +130,21 @@ fn high_blocks(states: &[u8], from: usize) -> usize
     i
 }
 
-// Whether a block of states is high. No early end, so that the loop is vectorised.
+// Whether a block of states is high, by the least of them. No early end, so that the loop is vectorised.
 fn block_high(states: &[u8], from: usize) -> bool
     requires { ⌜ from + 64 ≤ length (now states) ⌝ }
     ensures { λ r. ⌜ (r ≡ true → highsEnd (drop from (now (states .entry))) from ≡ highsEnd (drop (from + 64) (now (states .entry))) (from + 64)) ⌝ }
 {
-    let mut low: u8 = 0;
+    let mut least: u8 = 255;
     let mut j: usize = 0;
     while j < 64 {
-        if states[from + j] < 2 {
-            low = 1;
+        let s = states[from + j];
+        if s < least {
+            least = s;
         }
         j += 1;
     }
-    low == 0
+    least >= 2
 }
 
 // The place of the first low state, or the end.

@@ -1,10 +1,11 @@
 // How far a device got with the states at hand, and what that makes of it.
 ghost use mathlib.Core.Path.{_≡_};
-ghost use Rattle.intake.specs.Intake.{halfway, settled};
+ghost use Rattle.intake.specs.Intake.{halfway, settledBy};
 use device::Device;
 use phases::Phase;
 use phases::Place;
 use phases::Sent;
+use registers::Registers;
 
 // The device, the place of the next state, and what was sent.
 pub struct Taken {
@@ -34,30 +35,18 @@ pub fn stop(slice: [u16; 48], phase: Phase, from: usize) -> Progress
     }
 }
 
-// What that makes of the device. A header is sent with the last bit of a slice, which is stored in that clock.
-pub fn settle(device: Device, progress: Progress) -> Taken
-    ensures { λ r. ⌜ r ≡ settled device progress ⌝ }
+// What that makes of the registers. A header is sent with the last bit of a slice, which is stored in that clock.
+pub fn settle(registers: Registers, progress: Progress) -> Registers
+    ensures { λ r. ⌜ r ≡ settledBy (progress .sent) (progress .at) registers (progress .slice) ⌝ }
 {
     let slice = progress.slice;
-    let place = progress.place;
     let at = progress.at;
     let sent = progress.sent;
     if let Sent::Header { command, .. } = sent {
-        let stored = storing::store(device.registers, slice, command);
-        return Taken {
-            device: Device {
-                registers: positions::date(device.registers, stored, at),
-                place,
-            },
-            at,
-            sent,
-        };
+        let stored = storing::store(registers, slice, command);
+        return positions::date(registers, stored, at);
     }
-    let mut registers = device.registers;
-    registers.slice = slice;
-    Taken {
-        device: Device { registers, place },
-        at,
-        sent,
-    }
+    let mut next = registers;
+    next.slice = slice;
+    next
 }

@@ -4,11 +4,11 @@ use mathlib.Core.Path.{_≡_, refl, sym, ap}
 use mathlib.Core.Bool.{Bool, true, false, cond}
 use mathlib.Core.List.{List, map-id}
 use Prim.Native.Nat.{ℕ, _+_, _/_, _%_}
-use lib.Dec.{eqb, ltb}
+use lib.Dec.{ltb}
 use lib.ListN.{getD, set}
 use Rattle.machine.specs.Machine as machine
 use Rattle.machine.proofs.Machine.{run-view}
-use Rattle.parts.specs.Parts.{partOf, multiplex, fieldWidth, fieldLimit}
+use Rattle.parts.specs.Parts.{partOf, fieldWidth, fieldLimit}
 use Rattle.parts.specs.declared.command.Command.{Command}
 use Rattle.parts.specs.declared.command.Command.the-variants.{Individual, Calibration, Global, Configuration}
 use Rattle.phases.specs.Phases.{phaseOf, heard, rising, opening, counting, pushed}
@@ -19,7 +19,8 @@ use Rattle.phases.specs.declared.phase.Sent.the-variants.{One, Header}
 use Rattle.watch.specs.declared.watch.Watch.{Watch}
 use Rattle.registers.specs.Held.{withSlice, withWatch, fault, raised}
 use Rattle.registers.specs.declared.registers.Registers.{Registers}
-use Rattle.storing.specs.Stored.{stored, copies}
+use Rattle.turns.proofs.Stored.{stored-watch}
+use Rattle.storing.specs.Stored.{stored}
 use Rattle.device.specs.Step.{step, stepHigh, moved, sending, sliceLength, refitDevice, sentStates}
 use Rattle.device.specs.Run.{stepRecord}
 use Rattle.device.specs.declared.device.Device.{Device}
@@ -98,29 +99,11 @@ module _ (w : Watch) where
   abbrev pub rewatched : Device → Device
   rewatched d = record { registers = withWatch (d .registers) w; place = d .place }
 
-  stored-watch : (r : Registers) (c : Command) → stored (withWatch r w) c ≡ withWatch (stored r c) w
-  stored-watch r Individual = by (eqb (multiplex (r .configuration)) 0) refl
-    where
-      by : (b : Bool) → eqb (multiplex (r .configuration)) 0 ≡ b → stored (withWatch r w) Individual ≡ withWatch (stored r Individual) w
-      by true e = rw e
-      by false e = rw e
-  stored-watch r Calibration = refl
-  stored-watch r Global = by (copies r) refl
-    where
-      by : (b : Bool) → copies r ≡ b → stored (withWatch r w) Global ≡ withWatch (stored r Global) w
-      by true e = rw e
-      by false e = rw e
-  stored-watch r Configuration = by (copies r) refl
-    where
-      by : (b : Bool) → copies r ≡ b → stored (withWatch r w) Configuration ≡ withWatch (stored r Configuration) w
-      by true e = rw e
-      by false e = rw e
-
   acts-watch : {r : Registers} {x y : Stepped} → Acts r (withWatch r w) x y → y ≡ record { device = rewatched (x .device); sent = x .sent }
   acts-watch (stays p) = refl
   acts-watch (passes p s) = refl
   acts-watch (moves slice p) = refl
-  acts-watch {r} (stores slice c n) = ap (λ (q : Registers). sending q Passing (Header c n)) (stored-watch (withSlice r slice) c)
+  acts-watch {r} (stores slice c n) = ap (λ (q : Registers). sending q Passing (Header c n)) (stored-watch w (withSlice r slice) c)
 
   pub step-watched : (d : Device) (s : ℕ) → (rewatched ((stepRecord d s) .0), (stepRecord d s) .1) ≡ stepRecord (rewatched d) s
   unfolding stepRecord

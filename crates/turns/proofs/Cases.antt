@@ -1,6 +1,6 @@
 -- What an enum is in the `else` of an `if let`, or under `_`: the tag says which cases are left. And what a device's
 -- watchdog makes of a turn, put together from its parts. Assumes nothing.
-use mathlib.Core.Path.{_≡_, refl, ap}
+use mathlib.Core.Path.{_≡_, refl, sym, ap, _∙_}
 use mathlib.Core.Bool.{Bool, true, false, _||_}
 use mathlib.Core.List.{List, [], _∷_}
 use mathlib.Core.Logic.{⊎-elim}
@@ -17,14 +17,20 @@ use Rattle.device.specs.declared.device.Device.{Device}
 use Rattle.phases.specs.Phases.{phaseOf}
 use Rattle.phases.proofs.phase.Phase as P
 use Rattle.phases.proofs.phase.Sent as S
-use Rattle.registers.specs.Held.{withWatch}
+use Rattle.registers.specs.Held.{withWatch, withSlice, cleared}
+use Rattle.registers.specs.declared.registers.Registers.{Registers}
+use Rattle.watch.specs.Watch.{enabled}
 use Rattle.watch.specs.Kept.{watchBy, expiredBy, listened}
+use Rattle.positions.specs.Running.{dated}
+use Rattle.turns.proofs.Stored.{stored-watch, stored-cleared, stored-keeps}
 use Rattle.watch.specs.declared.watch.Watch.{Watch}
 use Rattle.watch.specs.declared.kept.Listened.{Listened}
-use Rattle.intake.specs.Intake.{stopped, settled}
-use Rattle.intake.specs.declared.taken.Taken.{Taken}
+use Rattle.watch.specs.declared.ear.Ear.{Ear}
+use Rattle.watch.specs.declared.ear.Followed.{Followed}
+use Rattle.turns.specs.declared.turning.Turn.{Turn}
+use Rattle.intake.specs.Intake.{settledBy}
 use Rattle.intake.specs.declared.taken.Progress.{Progress}
-use Rattle.turns.specs.Watching.{isOn, clearedDevice, reached, heardTo, lateBy, overheard, onward, hearing, watchedTaken, watchedBy}
+use Rattle.turns.specs.Watching.{isOn, clearedIf, clearedDevice, reached, heardTo, lateBy, overheard, onward, hearing, watchedTurn, watchedBy}
 use Rattle.turns.specs.Ending.{byClockDevice, shownWith}
 use Rattle.turns.specs.Front.{isLost, phaseRun, phaseTaken, afterHeader, lowTaken, frontAfter, leaveCursor, leaving, passedTo}
 use Rattle.turns.specs.declared.front.PhaseRun.{PhaseRun}
@@ -74,9 +80,55 @@ pub overheard-is : (p q : Sent) (on : Bool) (ss : List ℕ) (at to : ℕ) (w : W
 unfolding overheard
 overheard-is p q on ss at to w ea en eb el ex = rw (ex, el, eb, en, ea)
 
-pub watchedTaken-is : (d : Device) (p : Sent) (q : Progress) (ss : List ℕ) (at end : ℕ) {before on : Bool} {a b : Listened} {c v : Device} {u : Taken} → before ≡ isOn (d .registers) → a ≡ overheard p (q .sent) before ss at (q .at) (d .registers .watch) → c ≡ clearedDevice (a .expired) d → u ≡ settled c q → on ≡ isOn (u .device .registers) → b ≡ onward (q .sent) before on ss (q .at) end (a .watch) → v ≡ hearing b (u .device) → stopped v (q .at) (q .sent) ≡ watchedTaken d p q ss at end
-unfolding watchedTaken
-watchedTaken-is d p q ss at end e1 ea ec eu e2 eb ev = rw (ev, eb, e2, eu, ec, ea, e1)
+-- what is settled of registers with another watchdog
+pub settled-watch : (x : Sent) (t : ℕ) (r : Registers) (w : Watch) (sl : List ℕ) → settledBy x t (withWatch r w) sl ≡ withWatch (settledBy x t r sl) w
+unfolding dated
+settled-watch Nothing t r w sl = refl
+settled-watch (One s) t r w sl = refl
+settled-watch (Header c n) t r w sl = ap (dated t (withWatch r w)) (stored-watch w (withSlice r sl) c)
+
+-- the configuration goes by that and by no value
+pub settled-configuration : (b : Bool) (x : Sent) (t : ℕ) (r : Registers) (sl : List ℕ) → settledBy x t (clearedIf b r) sl .configuration ≡ settledBy x t r sl .configuration
+unfolding dated
+settled-configuration false x t r sl = refl
+settled-configuration true Nothing t r sl = refl
+settled-configuration true (One s) t r sl = refl
+settled-configuration true (Header c n) t r sl = stored-cleared (withSlice r sl) c
+
+pub settled-none : (x : Sent) (t : ℕ) (r : Registers) (sl : List ℕ) → NoHeader x → r .configuration ≡ settledBy x t r sl .configuration
+settled-none Nothing t r sl h = refl
+settled-none (One s) t r sl h = refl
+settled-none (Header c n) t r sl h = absurd (not-last h)
+
+pub watchedTurn-is : (d : Device) (p : Sent) (q : Progress) (e : Ear) (ss : List ℕ) (at end : ℕ) {before on x : Bool} {a : Listened} {b : Followed} {n : ℕ} {c u v : Registers}
+    → before ≡ isOn (d .registers) → a ≡ overheard p (q .sent) before ss at (q .at) (d .registers .watch) → n ≡ settledBy (q .sent) (q .at) (d .registers) (q .slice) .configuration
+    → on ≡ enabled (d .registers .watch) n → b ≡ onward (q .sent) before on e ss (q .at) end (a .watch) → c ≡ withWatch (clearedIf (a .expired) (d .registers)) (b .heard .watch)
+    → u ≡ settledBy (q .sent) (q .at) c (q .slice) → b .heard .expired ≡ x → v ≡ clearedIf x u
+    → _≡_ {A = Turn} (record { device = record { registers = v; place = q .place }; at = q .at; sent = q .sent; ear = b .ear }) (watchedTurn d p q e ss at end)
+unfolding watchedTurn dated
+watchedTurn-is d p q e ss at end {before} {on} {x} {a} {b} {n} {c} {u} {v} e1 ea en e2 eb ec eu ex ev =
+    let r : Registers = d .registers in
+    let s : Registers = settledBy (q .sent) (q .at) (clearedIf (a .expired) r) (q .slice) in
+    let known : n ≡ s .configuration = en ∙ sym (settled-configuration (a .expired) (q .sent) (q .at) r (q .slice)) in
+    let same : u ≡ withWatch s (b .heard .watch) =
+    eu ∙ ap (λ (z : Registers). settledBy (q .sent) (q .at) z (q .slice)) ec ∙ settled-watch (q .sent) (q .at) (clearedIf (a .expired) r) (b .heard .watch) (q .slice) in
+    let switched : on ≡ isOn s = e2 ∙ ap (λ (m : ℕ). enabled (r .watch) m) known ∙ ap (λ (w : Watch). enabled w (s .configuration)) (sym (settled-bit (a .expired) (q .sent) (q .at) r (q .slice))) in
+    let registers : v ≡ withWatch (clearedIf (b .heard .expired) s) (b .heard .watch) =
+    ev ∙ ap (clearedIf x) same ∙ cleared-watch x s (b .heard .watch) ∙ ap (λ (z : Bool). withWatch (clearedIf z s) (b .heard .watch)) (sym ex) in
+    ap (λ (z : Registers). record { device = record { registers = z; place = q .place }; at = q .at; sent = q .sent; ear = b .ear }) registers
+    ∙ rw (eb, switched, ea, e1)
+  where
+    cleared-watch : (y : Bool) (z : Registers) (w : Watch) → clearedIf y (withWatch z w) ≡ withWatch (clearedIf y z) w
+    cleared-watch true z w = refl
+    cleared-watch false z w = refl
+
+    settled-bit : (y : Bool) (z : Sent) (t : ℕ) (r : Registers) (sl : List ℕ) → settledBy z t (clearedIf y r) sl .watch ≡ r .watch
+    settled-bit false Nothing t r sl = refl
+    settled-bit true Nothing t r sl = refl
+    settled-bit false (One s) t r sl = refl
+    settled-bit true (One s) t r sl = refl
+    settled-bit false (Header c n) t r sl = stored-keeps (withSlice r sl) c
+    settled-bit true (Header c n) t r sl = stored-keeps (withSlice (cleared r) sl) c
 
 -- it hears, and is cleared: in either order
 pub hearing-cleared : (b : Bool) (w : Watch) (d : Device) → hearing (record { watch = w; expired = b }) d ≡ clearedDevice b (record { registers = withWatch (d .registers) w; place = d .place })

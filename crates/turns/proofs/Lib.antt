@@ -5,11 +5,14 @@ pub mod Header
 pub mod Hearing
 pub mod Late
 pub mod Heard
+pub mod Stored
 pub mod Cases
+pub mod LowStates
 pub mod Phases
 pub mod Taking
 pub mod Stores
 pub mod Passing
+pub mod Onward
 pub mod Served
 pub mod Turns
 pub mod Same

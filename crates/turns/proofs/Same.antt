@@ -4,11 +4,11 @@
 use mathlib.Core.Path.{_≡_, refl, ap, sym, _∙_, subst}
 use mathlib.Core.Bool.{Bool, true, false, cond, true≢false}
 use mathlib.Core.List.{List, [], _∷_, _++_, map, flatten, append-assoc}
-use Prim.Native.Nat.{ℕ, zero, suc, _+_, _-_, _<_, _≤_}
+use Prim.Native.Nat.{ℕ, zero, suc, _+_, _-_, _^_, _<_, _≤_}
 use native.Mathlib.Omega.{arith}
 use lib.Dec.{ltb, leb}
-use lib.ListN.{length, getD, set, take, drop, length-map, length-append, take-append-drop}
-use lib.Seq.{set-at, set-getD, getD-at, drop-drop, drop-append-seam, length-take-le}
+use lib.ListN.{length, getD, set, take, drop, length-map, length-append, length-drop, take-append-drop}
+use lib.Seq.{set-at, set-getD, getD-at, getD-drop, drop-drop, drop-append-seam, length-take-le}
 use borrow.Author.Tests.{ltb-true, ltb-false, leb-true, leb-false}
 use Rattle.machine.specs.Machine.{chain}
 use Rattle.machine.proofs.Machine.{run-then, chain-empty, chain-nil, chain-devices}
@@ -26,16 +26,20 @@ use Rattle.device.specs.declared.device.Device.{Device}
 use Rattle.device.proofs.Places.{place-phase}
 use Rattle.intake.specs.Intake.{stopped, highTaken, progressOf, highsEnd}
 use Rattle.intake.proofs.Settled.{Settles, settled-high}
+use Rattle.watch.specs.Watch.{loadBit}
 use Rattle.watch.specs.Kept.{listened}
+use Rattle.watch.specs.declared.ear.Ear.{Ear}
+use Rattle.watch.proofs.Ears.{Right, Loaded, right-none, right-later}
 use Rattle.watch.proofs.Clocks.{listened-append, listened-bit}
 use Rattle.watch.specs.declared.kept.Listened.{Listened}
-use Rattle.turns.specs.Watching.{isOn, hearing, watchedTaken}
+use Rattle.turns.specs.Watching.{isOn, hearing, watchedTurn}
+use Rattle.turns.proofs.Onward.{watchedTaken, Ahead, rightFrom, watched-turn, watched-ear}
 use Rattle.intake.specs.declared.taken.Taken.{Taken}
 use Rattle.calls.specs.Chain.{allFit, blank}
 use Rattle.cursor.specs.declared.cursor.Cursor.{Cursor}
 use Rattle.cursor.specs.Cursor.{indexOf, cursor, turnByState, nextTurn}
 use Rattle.turns.specs.Front.{isPassing, passes, phaseRun, phaseTaken, frontTaken, sliceStart, afterHeader, deviceTaken, putAll, putEnd, highCount, frontAfter}
-use Rattle.turns.specs.Front.{leaveCursor, leaveOut, deviceTurn, frontWatched, turnedOut, Running, turning, turns, started, enough, frontRun, Turned}
+use Rattle.turns.specs.Front.{leaveCursor, leaveOut, deviceTurn, frontWatched, turnTaken, turnedOut, Running, turning, turns, started, enough, frontRun, Turned}
 use Rattle.turns.proofs.LeavingStates.{put-full, length-put, put-append, highCount-fit, length-header-states, highsEnd-highCount}
 use Rattle.turns.proofs.Timed.{timed}
 use Rattle.turns.proofs.Taking.{High, AllPass, passer, Takes, takes-none, takes, takes-low, Ending, quiet, sent, endings, ending-low}
@@ -44,8 +48,9 @@ use Rattle.turns.proofs.Late.{Packet, singles, stepLate, runLate, relay
 use Rattle.turns.proofs.Stores.{StoresLast, stores-last}
 use Rattle.turns.proofs.Passing.{AllHigh, passed, passed-all, relay-pass}
 use Rattle.turns.proofs.Served.{underWay, heardBefore, ins-late, ServedStore, served-quiet, served-stores, served-passes}
-use Rattle.turns.proofs.Turns.{no-way, owed, low-front, leaveTurn, turnWithin, turned-is, turned-out-is, Good, measure, good-start, good-next, nearer-next, turns-on, turns-stop, near-start, under, IsNext, leave-under}
-use Rattle.tables.proofs.Booleans.{and-left, and-both, cond-both}
+use Rattle.turns.proofs.Turns.{no-way, owed, low-front, leaveTurn, turnWithin, turned-is, turned-out-is, within-later, nextTurn-range, Good, measure, good-start, good-next, nearer-next, turns-on, turns-stop, near-start, under, IsNext, leave-under}
+use Rattle.tables.specs.Lists.{allBelow}
+use Rattle.tables.proofs.Booleans.{and-left, and-right, and-both, cond-both}
 
 abbrev Whole : Type 0
 Whole = List Device × List Packet
@@ -134,6 +139,37 @@ highs-over (x ∷ xs) = go (highs-over xs) (ltb x 2) refl
 highs-low : (s : ℕ) (xs : List ℕ) → ltb s 2 ≡ true → highCount (s ∷ xs) ≡ 0
 unfolding highCount
 highs-low s xs e = ap (λ (t : Bool). cond t 0 (highCount xs + 1)) e
+
+-- ---- states at high load
+
+below-drop : (k : ℕ) (xs : List ℕ) → allBelow xs 4 ≡ true → allBelow (drop k xs) 4 ≡ true
+below-drop zero xs h = h
+below-drop (suc k) [] h = h
+below-drop (suc k) (x ∷ xs) h = below-drop k xs (and-right (ltb x 4) (allBelow xs 4) h)
+
+loaded-one : (s : ℕ) → ltb s 4 ≡ true → ltb s 2 ≡ false → loadBit s ≡ 1
+loaded-one s h g = omega (arith, ltb-true s 4 h, ltb-false s 2 g)
+
+highs-loaded : (xs : List ℕ) → allBelow xs 4 ≡ true → Loaded (highsOf xs)
+unfolding highCount
+highs-loaded [] h = tt
+highs-loaded (x ∷ xs) h = go (highs-loaded xs (and-right (ltb x 4) (allBelow xs 4) h)) (ltb x 2) refl
+  where
+    one : (n : ℕ) → suc n ≡ n + 1
+    one n = omega arith
+
+    go : Loaded (highsOf xs) → (t : Bool) → ltb x 2 ≡ t → Loaded (take (cond t 0 (highCount xs + 1)) (x ∷ xs))
+    go r true e = tt
+    go r false e = subst (λ (n : ℕ). Loaded (take n (x ∷ xs))) (one (highCount xs)) (loaded-one x (and-left (ltb x 4) (allBelow xs 4) h) e, r)
+
+last-loaded : (init rest : List ℕ) (last : ℕ) → allBelow (init ++ last ∷ rest) 4 ≡ true → AllHigh (init ++ last ∷ []) → loadBit last ≡ 1
+last-loaded [] rest last h (AllHigh.also e a) = loaded-one last (and-left (ltb last 4) (allBelow rest 4) h) e
+last-loaded (x ∷ init) rest last h (AllHigh.also e a) = last-loaded init rest last (and-right (ltb x 4) (allBelow (init ++ last ∷ rest) 4) h) a
+
+-- a high state stands first
+highs-some : (s : ℕ) (xs : List ℕ) → ltb s 2 ≡ false → highCount (s ∷ xs) ≡ highCount xs + 1
+unfolding highCount
+highs-some s xs e = ap (λ (t : Bool). cond t 0 (highCount xs + 1)) e
 
 -- what a device has heard that passed high states, and then more of them
 passed-append : (k : ℕ) (xs ys : List ℕ) (d : Device) → passed (k + length xs) ys (passed k xs d) ≡ passed k (xs ++ ys) d
@@ -227,7 +263,7 @@ small-header (Header a m) s c n e = subst (λ (x : ℕ). x < 1024) (ap count e) 
     count (One b) = 0
     count (Header c n) = n
 
-module _ (ss : List ℕ) (fin : List Device × (List ℕ × ℕ)) where
+module _ (ss : List ℕ) (fin : List Device × (List ℕ × ℕ)) (short : length ss < 2 ^ 63) (below : allBelow ss 4 ≡ true) where
   -- the states from a place on, each in its clock
   abbrev ahead : ℕ → List Packet
   ahead at = singles at (drop at ss)
@@ -268,11 +304,14 @@ module _ (ss : List ℕ) (fin : List Device × (List ℕ × ℕ)) where
     pub at : ℕ
     pub w : ℕ
     pub end : ℕ
+    pub ear : Ear
     pub count : length ps ≡ f
     pub passing : AllPass ps
     pub neat : AllNeat (d ∷ qs)
     pub small : Small p
     pub ends : end ≡ at + highCount (drop at ss)
+    pub within : at ≤ length ss
+    pub right : Right ss (at + 1) ear
     pub devices : joined (relayLate ps (ahead at)) (d ∷ qs) (underWay at p) .0 ≡ fin .0
     pub out : wrote ws w (statesIn (joined (relayLate ps (ahead at)) (d ∷ qs) (underWay at p) .1)) ≡ fin .1
 
@@ -282,11 +321,15 @@ module _ (ss : List ℕ) (fin : List Device × (List ℕ × ℕ)) where
 
   -- what the turn makes of the front device that got so far
   abbrev watchedIn : Front → Taken → Device
-  watchedIn b t = watchedTaken (b .d) (b .p) (progressOf t) ss (b .at) (b .end) .device
+  watchedIn b t = watchedTurn (b .d) (b .p) (progressOf t) (b .ear) ss (b .at) (b .end) .device
+
+  -- the ear that it leaves is right
+  abbrev RightAfter : Front → Taken → Type 0
+  RightAfter b t = Right ss (t .at + 1) (watchedTurn (b .d) (b .p) (progressOf t) (b .ear) ss (b .at) (b .end) .ear)
 
   -- the front device became that
   InvariantTaken : Front → Taken → Type 0
-  InvariantTaken b t = Invariant (set (recordsOf b) (b .f) (watchedIn b t)) (b .ws) (frontAfter (b .f) (t .sent)) (t .at) (b .w) (t .sent)
+  InvariantTaken b t = Invariant (set (recordsOf b) (b .f) (watchedIn b t)) (b .ws) (frontAfter (b .f) (t .sent)) (t .at) (b .w) (t .sent) × RightAfter b t
 
   -- what those before the front have heard goes on over the states that were taken
   heard-on : (b : Front) (own rest : List ℕ) (k : ℕ) → drop (b .at) ss ≡ own ++ rest → k ≡ b .at + length own → AllHigh own
@@ -313,8 +356,11 @@ module _ (ss : List ℕ) (fin : List Device × (List ℕ × ℕ)) where
   -- it becomes e and sends nothing
   stays : (low : Bool) (b : Front) (e : Device) (k : ℕ) → (low ≡ true → b .ps ≡ []) → Neat (watchedIn b (stopped e k Nothing)) → Settles (b .d) (stopped e k Nothing)
       → Takes low (afterHeader (b .d) (b .p)) (drop (b .at) ss) (b .at) (stopped e k Nothing) → InvariantTaken b (stopped e k Nothing)
-  unfolding InvariantTaken Small
+  unfolding InvariantTaken Small Ahead
   stays low b e k z ne st x =
+      let later : Right ss (k + 1) (b .ear) = right-later ss (b .at + 1) (k + 1) (b .ear) (omega (arith, x .far)) (b .right) in
+      let same : watchedIn b (stopped e k Nothing) ≡ watchedTaken (b .d) (b .p) (progressOf (stopped e k Nothing)) ss (b .at) (b .end) .device =
+      watched-turn (b .d) (b .p) (progressOf (stopped e k Nothing)) (b .ear) ss (b .at) (b .end) short tt later in
       let q : List Device = map (passed (b .at) (x .own)) (b .ps) in
       let n : Device = watchedIn b (stopped e k Nothing) in
       let g : low ≡ false → AllHigh (x .own) = λ f. high-all (b .at) (x .own) (x .high f) in
@@ -322,22 +368,24 @@ module _ (ss : List ℕ) (fin : List Device × (List ℕ × ℕ)) where
       let m : joined (relayLate (b .ps) (ahead (b .at))) (b .d ∷ b .qs) (underWay (b .at) (b .p)) ≡ joined (relayLate q (ahead k)) (n ∷ b .qs) [] =
       ap (λ (xs : List ℕ). joined (relayLate (b .ps) (singles (b .at) xs)) (b .d ∷ b .qs) (underWay (b .at) (b .p))) (x .whole)
       ∙ takes-on (b .ps) (b .qs) (b .d) (hearing (heardBefore (b .d) (b .p) (b .at)) (afterHeader (b .d) (b .p))) n (underWay (b .at) (b .p)) [] (x .own) (x .rest) (b .at) low (b .passing) z g
-      (ins-late (b .d) (b .p) (b .at) (small-header (b .p) (b .small))) (served-quiet ss (b .d) (b .p) (b .at) (b .end) low e k st x)
+      (ins-late (b .d) (b .p) (b .at) (small-header (b .p) (b .small))) (served-quiet ss (b .d) (b .p) (b .at) (b .end) low e k st x ∙ ap (λ (y : Device). (y, [])) (sym same))
       ∙ ap (λ (y : ℕ). mid (relayLate q (singles y (x .rest))) n [] (b .qs)) (sym (x .far))
       ∙ ap (λ (xs : List ℕ). mid (relayLate q (singles k xs)) n [] (b .qs)) (sym r)
-      ∙ sym (here (relayLate q (ahead k)) n (b .qs)) in
-      record {
-        ps = q;
-        qs = n ∷ b .qs;
-        split = set-at (map (passed (b .at) (highs (b .at))) (b .ps)) (b .d) (b .qs) n (b .f) (count-heard b (b .at) (highs (b .at)))
-            ∙ ap (λ (xs : List Device). xs ++ n ∷ b .qs) (heard-by low b (x .own) (x .rest) k z g (x .whole) (x .far));
-        count = count-heard b (b .at) (x .own);
-        passing = passed-all (b .ps) (b .at) (x .own) (b .passing);
-        neat = (ne, b .neat .1);
-        small = tt;
-        devices = sym (ap (λ (y : Whole). y .0) m) ∙ b .devices;
-        out = sym (ap (λ (y : Whole). wrote (b .ws) (b .w) (statesIn (y .1))) m) ∙ b .out;
-      }
+      ∙ sym (here (relayLate q (ahead k)) n (b .qs)) in (
+        record {
+          ps = q;
+          qs = n ∷ b .qs;
+          split = set-at (map (passed (b .at) (highs (b .at))) (b .ps)) (b .d) (b .qs) n (b .f) (count-heard b (b .at) (highs (b .at)))
+              ∙ ap (λ (xs : List Device). xs ++ n ∷ b .qs) (heard-by low b (x .own) (x .rest) k z g (x .whole) (x .far));
+          count = count-heard b (b .at) (x .own);
+          passing = passed-all (b .ps) (b .at) (x .own) (b .passing);
+          neat = (ne, b .neat .1);
+          small = tt;
+          devices = sym (ap (λ (y : Whole). y .0) m) ∙ b .devices;
+          out = sym (ap (λ (y : Whole). wrote (b .ws) (b .w) (statesIn (y .1))) m) ∙ b .out;
+        },
+        watched-ear (b .d) (b .p) (progressOf (stopped e k Nothing)) (b .ear) ss (b .at) (b .end) later,
+      )
 
   map-last : (f : Device → Device) (xs : List Device) (y : Device) → map f (xs ++ (y ∷ [])) ≡ map f xs ++ (f y ∷ [])
   map-last f [] y = refl
@@ -356,8 +404,8 @@ module _ (ss : List ℕ) (fin : List Device × (List ℕ × ℕ)) where
 
   -- it stores, sends a header and passes then
   sends-on : (b : Front) (c : Command) (n : ℕ) (t : Taken) → t ≡ highTaken (afterHeader (b .d) (b .p)) (drop (b .at) ss) (b .at) → t .sent ≡ Header c n → t .device .place ≡ placeOf Passing → n < 1024
-      → Invariant (set (recordsOf b) (b .f) (watchedIn b t)) (b .ws) (b .f + 1) (t .at) (b .w) (Header c n)
-  unfolding Small
+      → Invariant (set (recordsOf b) (b .f) (watchedIn b t)) (b .ws) (b .f + 1) (t .at) (b .w) (Header c n) × RightAfter b t
+  unfolding Small Ahead
   sends-on b c n t i header-sent place few =
       let dd : Device = afterHeader (b .d) (b .p) in
       let l : StoresLast dd (drop (b .at) ss) (b .at) c n t =
@@ -378,30 +426,50 @@ module _ (ss : List ℕ) (fin : List Device × (List ℕ × ℕ)) where
       ∙ ap (λ (y : ℕ). mid (relayLate q (singles y (l .rest))) x (underWay k (Header c n)) (b .qs)) (sym far)
       ∙ ap (λ (xs : List ℕ). mid (relayLate q (singles k xs)) x (underWay k (Header c n)) (b .qs)) (sym r)
       ∙ sym (moves-on q x (b .qs) (underWay k (Header c n)) (ahead k)) in
-      let h : watchedIn b t ≡ passed k (highs k) x = v .watched ∙ ap (λ (xs : List ℕ). passed k xs x) (follow b own (l .rest) k whole high far) in
-      record {
-        ps = q ++ (x ∷ []);
-        qs = b .qs;
-        split = set-at (map (passed (b .at) (highs (b .at))) (b .ps)) (b .d) (b .qs) (watchedIn b t) (b .f) (count-heard b (b .at) (highs (b .at)))
-            ∙ ap (λ (y : Device). map (passed (b .at) (highs (b .at))) (b .ps) ++ y ∷ b .qs) h
-            ∙ ap (λ (xs : List Device). xs ++ passed k (highs k) x ∷ b .qs) (heard-on b own (l .rest) k whole far high)
-            ∙ sym (append-assoc (map (passed k (highs k)) q) (passed k (highs k) x ∷ []) (b .qs))
-            ∙ ap (λ (xs : List Device). xs ++ b .qs) (sym (map-last (passed k (highs k)) q x));
-        count = length-append q (x ∷ []) ∙ ap (λ (y : ℕ). y + 1) (count-heard b (b .at) own);
-        passing = pass-more q (v .registers) (passed-all (b .ps) (b .at) own (b .passing));
-        neat = b .neat .1;
-        small = few;
-        devices = sym (ap (λ (y : Whole). y .0) m) ∙ b .devices;
-        out = sym (ap (λ (y : Whole). wrote (b .ws) (b .w) (statesIn (y .1))) m) ∙ b .out;
-      }
+      let follows : take (b .end - k) (drop k ss) ≡ highs k = follow b own (l .rest) k whole high far in
+      let stored : getD ss (k - 1) 0 ≡ l .last =
+      ap (λ (i : ℕ). getD ss i 0) (omega (arith, l .far)) ∙ sym (getD-drop (b .at) ss (length (l .init)) 0) ∙ ap (λ (xs : List ℕ). getD xs (length (l .init)) 0) (l .whole)
+      ∙ getD-at (l .init) (l .last) (l .rest) 0 (length (l .init)) refl in
+      let right-at : Right ss k (b .ear) = right-later ss (b .at + 1) k (b .ear) (omega (arith, l .far)) (b .right) in
+      let clear-ahead : Ahead (Header c n) ss k (b .end) = (
+        omega (arith, l .far),
+        (
+          omega (arith, b .ends, highCount-fit (drop (b .at) ss), length-drop (b .at) ss, b .within),
+          (
+            subst Loaded (sym follows) (highs-loaded (drop k ss) (below-drop k ss below)),
+            ap loadBit stored ∙ last-loaded (l .init) (l .rest) (l .last) (ap (λ (xs : List ℕ). allBelow xs 4) (sym (l .whole)) ∙ below-drop (b .at) ss below) high,
+          ),
+        ),
+      ) in
+      let same : watchedIn b t ≡ watchedTaken (b .d) (b .p) (progressOf t) ss (b .at) (b .end) .device =
+      watched-turn (b .d) (b .p) (progressOf t) (b .ear) ss (b .at) (b .end) short (subst (λ (y : Sent). Ahead y ss k (b .end)) (sym header-sent) clear-ahead)
+      (subst (λ (y : Sent). Right ss (rightFrom y k) (b .ear)) (sym header-sent) right-at) in
+      let h : watchedIn b t ≡ passed k (highs k) x = same ∙ v .watched ∙ ap (λ (xs : List ℕ). passed k xs x) follows in (
+        record {
+          ps = q ++ (x ∷ []);
+          qs = b .qs;
+          split = set-at (map (passed (b .at) (highs (b .at))) (b .ps)) (b .d) (b .qs) (watchedIn b t) (b .f) (count-heard b (b .at) (highs (b .at)))
+              ∙ ap (λ (y : Device). map (passed (b .at) (highs (b .at))) (b .ps) ++ y ∷ b .qs) h
+              ∙ ap (λ (xs : List Device). xs ++ passed k (highs k) x ∷ b .qs) (heard-on b own (l .rest) k whole far high)
+              ∙ sym (append-assoc (map (passed k (highs k)) q) (passed k (highs k) x ∷ []) (b .qs))
+              ∙ ap (λ (xs : List Device). xs ++ b .qs) (sym (map-last (passed k (highs k)) q x));
+          count = length-append q (x ∷ []) ∙ ap (λ (y : ℕ). y + 1) (count-heard b (b .at) own);
+          passing = pass-more q (v .registers) (passed-all (b .ps) (b .at) own (b .passing));
+          neat = b .neat .1;
+          small = few;
+          devices = sym (ap (λ (y : Whole). y .0) m) ∙ b .devices;
+          out = sym (ap (λ (y : Whole). wrote (b .ws) (b .w) (statesIn (y .1))) m) ∙ b .out;
+        },
+        watched-ear (b .d) (b .p) (progressOf t) (b .ear) ss (b .at) (b .end) (subst (λ (y : Sent). Right ss (rightFrom y k) (b .ear)) (sym header-sent) right-at),
+      )
 
   -- what was heard leaves the place
   neat-watched : (b : Front) (e : Device) (k : ℕ) → passes e ≡ false → Neat (watchedIn b (stopped e k Nothing))
-  unfolding watchedTaken
+  unfolding watchedTurn
   neat-watched b e k p q = absurd (true≢false (sym q ∙ p))
 
   neat-same : (b : Front) → Neat (watchedIn b (stopped (b .d) (b .at) Nothing))
-  unfolding watchedTaken
+  unfolding watchedTurn
   neat-same b q = ap (λ (x : Place). record { registers = watchedIn b (stopped (b .d) (b .at) Nothing) .registers; place = x }) (ap (λ (y : Device). y .place) (b .neat .0 q))
 
   after-turn : (low : Bool) (b : Front) (t : Taken) → (low ≡ true → b .ps ≡ []) → (low ≡ false → t ≡ highTaken (afterHeader (b .d) (b .p)) (drop (b .at) ss) (b .at))
@@ -425,32 +493,44 @@ module _ (ss : List ℕ) (fin : List Device × (List ℕ × ℕ)) where
   not-low-sent e = absurd (true≢false (sym e))
 
   -- a passing device moves the front on
-  hands-on : (b : Front) → underWay (b .at) (b .p) ≡ [] → ((c : Command) (n : ℕ) → b .p ≡ Header c n → ⊥) → b .d ≡ passer (b .d .registers) → InvariantTaken b (stopped (b .d) (b .at) (One 0))
-  unfolding InvariantTaken Small
-  hands-on b i no-header g =
+  hands-on : (b : Front) → underWay (b .at) (b .p) ≡ [] → ((c : Command) (n : ℕ) → b .p ≡ Header c n → ⊥) → b .d ≡ passer (b .d .registers) → b .at < b .end
+      → InvariantTaken b (stopped (b .d) (b .at) (One 0))
+  unfolding InvariantTaken Small Ahead
+  hands-on b i no-header g some =
       let A : Whole = relayLate (b .ps) (ahead (b .at)) in
       let more : List Device = b .ps ++ (b .d ∷ []) in
       let P : Device → Device = passed (b .at) (highs (b .at)) in
       let n : Device = watchedIn b (stopped (b .d) (b .at) (One 0)) in
       let zero-more : b .at ≡ b .at + 0 = omega arith in
+      let follows : take (b .end - b .at) (drop (b .at) ss) ≡ highs (b .at) = follow b [] (drop (b .at) ss) (b .at) refl AllHigh.none zero-more in
+      let clear-ahead : Ahead (One 0) ss (b .at) (b .end) = (
+        some,
+        (
+          omega (arith, b .ends, highCount-fit (drop (b .at) ss), length-drop (b .at) ss, b .within),
+          subst Loaded (sym follows) (highs-loaded (drop (b .at) ss) (below-drop (b .at) ss below)),
+        ),
+      ) in
       let h : n ≡ P (b .d) =
-      served-passes ss (b .d) (b .p) (b .at) (b .end) 0 no-header ∙ ap (λ (xs : List ℕ). passed (b .at) xs (b .d)) (follow b [] (drop (b .at) ss) (b .at) refl AllHigh.none zero-more) in
+      watched-turn (b .d) (b .p) (progressOf (stopped (b .d) (b .at) (One 0))) (b .ear) ss (b .at) (b .end) short clear-ahead (b .right)
+      ∙ served-passes ss (b .d) (b .p) (b .at) (b .end) 0 no-header ∙ ap (λ (xs : List ℕ). passed (b .at) xs (b .d)) follows in
       let m : joined A (b .d ∷ b .qs) (underWay (b .at) (b .p)) ≡ joined (relayLate more (ahead (b .at))) (b .qs) [] =
-      ap (joined A (b .d ∷ b .qs)) i ∙ here A (b .d) (b .qs) ∙ sym (moves-on (b .ps) (b .d) (b .qs) [] (ahead (b .at))) in
-      record {
-        ps = more;
-        qs = b .qs;
-        split = set-at (map P (b .ps)) (b .d) (b .qs) n (b .f) (count-heard b (b .at) (highs (b .at)))
-            ∙ ap (λ (y : Device). map P (b .ps) ++ y ∷ b .qs) h
-            ∙ sym (append-assoc (map P (b .ps)) (P (b .d) ∷ []) (b .qs))
-            ∙ ap (λ (xs : List Device). xs ++ b .qs) (sym (map-last P (b .ps) (b .d)));
-        count = length-append (b .ps) (b .d ∷ []) ∙ ap (λ (y : ℕ). y + 1) (b .count);
-        passing = subst (λ (y : Device). AllPass (b .ps ++ (y ∷ []))) (sym g) (pass-more (b .ps) (b .d .registers) (b .passing));
-        neat = b .neat .1;
-        small = tt;
-        devices = sym (ap (λ (y : Whole). y .0) m) ∙ b .devices;
-        out = sym (ap (λ (y : Whole). wrote (b .ws) (b .w) (statesIn (y .1))) m) ∙ b .out;
-      }
+      ap (joined A (b .d ∷ b .qs)) i ∙ here A (b .d) (b .qs) ∙ sym (moves-on (b .ps) (b .d) (b .qs) [] (ahead (b .at))) in (
+        record {
+          ps = more;
+          qs = b .qs;
+          split = set-at (map P (b .ps)) (b .d) (b .qs) n (b .f) (count-heard b (b .at) (highs (b .at)))
+              ∙ ap (λ (y : Device). map P (b .ps) ++ y ∷ b .qs) h
+              ∙ sym (append-assoc (map P (b .ps)) (P (b .d) ∷ []) (b .qs))
+              ∙ ap (λ (xs : List Device). xs ++ b .qs) (sym (map-last P (b .ps) (b .d)));
+          count = length-append (b .ps) (b .d ∷ []) ∙ ap (λ (y : ℕ). y + 1) (b .count);
+          passing = subst (λ (y : Device). AllPass (b .ps ++ (y ∷ []))) (sym g) (pass-more (b .ps) (b .d .registers) (b .passing));
+          neat = b .neat .1;
+          small = tt;
+          devices = sym (ap (λ (y : Whole). y .0) m) ∙ b .devices;
+          out = sym (ap (λ (y : Whole). wrote (b .ws) (b .w) (statesIn (y .1))) m) ∙ b .out;
+        },
+        watched-ear (b .d) (b .p) (progressOf (stopped (b .d) (b .at) (One 0))) (b .ear) ss (b .at) (b .end) (b .right),
+      )
 
   -- no header is under way
   fronts : (b : Front) (rest : List ℕ) → afterHeader (b .d) (b .p) ≡ b .d → underWay (b .at) (b .p) ≡ [] → ((c : Command) (n : ℕ) → b .p ≡ Header c n → ⊥) → drop (b .at) ss ≡ rest
@@ -467,7 +547,7 @@ module _ (ss : List ℕ) (fin : List Device × (List ℕ × ℕ)) where
           let t = phaseTaken (b .d) (phaseRun (phaseOf (b .d .place)) (s ∷ xs) (b .at)) in
           after-turn true b t (λ _. no-more (b .ps) (b .count ∙ z s xs refl h)) (λ q. absurd (true≢false q)) (λ _. refl) refl
           (subst (λ (y : Device). Takes true y (drop (b .at) ss) (b .at) t) (sym dd) (subst (λ (r : List ℕ). Takes true (b .d) r (b .at) t) (sym e) (takes-low (b .d) s xs (b .at) h))) (ending-low (b .d) s xs (b .at) h)
-      go false h true g = hands-on b i no-header (b .neat .0 g)
+      go false h true g = hands-on b i no-header (b .neat .0 g) (omega (arith, b .ends, ap highCount e ∙ highs-some s xs h))
       go false h false g =
           let t = highTaken (b .d) (s ∷ xs) (b .at) in
           after-turn false b t (not-low (b .ps))
@@ -662,12 +742,18 @@ module _ (ss : List ℕ) (fin : List Device × (List ℕ × ℕ)) where
   index-is (One b) c rest e l v = index-turnByState (One b) c rest e l v
   index-is (Header k m) c rest e l v = ap (λ (x : Cursor). x .index) e ∙ ap (λ (t : Bool). cond t (c .front) 0) l
 
+  -- what the turn of a device leaves
+  abbrev Turns : List Device → List ℕ → Cursor → Device → Type 0
+  Turns ys ws c x =
+      InvariantAt (set ys (c .index) (deviceTurn x c ss .device)) ws (deviceTurn x c ss .cursor)
+      × Right ss (deviceTaken x (c .pending) (drop (c .at) ss) (c .at) .at + 1) (frontWatched x c ss .ear)
+
   device-holds : (ys : List Device) (ws : List ℕ) (c : Cursor) → (h : InvariantAt ys ws c) → IsNext (c .pending) c (drop (c .at) ss) → c .index ≡ c .front
-      → c .end ≡ highsEnd (drop (c .at) ss) (c .at) → (qs : List Device) → h .qs ≡ qs → 0 < length qs
-      → InvariantAt (set ys (c .index) (deviceTurn (getD ys (c .index) blank) c ss .device)) ws (deviceTurn (getD ys (c .index) blank) c ss .cursor)
-  unfolding InvariantTaken watchedTaken
-  device-holds ys ws c h e j en [] q l = absurd (omega (arith, l))
-  device-holds ys ws c h e j en (d ∷ qs) q l =
+      → c .end ≡ highsEnd (drop (c .at) ss) (c .at) → c .at ≤ length ss → Right ss (c .at + 1) (c .ear) → (qs : List Device) → h .qs ≡ qs → 0 < length qs
+      → Turns ys ws c (getD ys (c .index) blank)
+  unfolding InvariantTaken watchedTurn
+  device-holds ys ws c h e j en wi ri [] q l = absurd (omega (arith, l))
+  device-holds ys ws c h e j en wi ri (d ∷ qs) q l =
       let f : ℕ = c .front in
       let at : ℕ = c .at in
       let p : Sent = c .pending in
@@ -687,22 +773,27 @@ module _ (ss : List ℕ) (fin : List Device × (List ℕ × ℕ)) where
         at = at;
         w = c .written;
         end = c .end;
+        ear = c .ear;
         count = h .count;
         passing = h .passing;
         neat = subst AllNeat q (h .neat);
         small = h .small;
         ends = en ∙ highsEnd-highCount (drop at ss) at;
+        within = wi;
+        right = ri;
         devices = ap (λ (b : List Device). joined (relayLate (h .ps) (ahead at)) b (underWay at p) .0) (sym q) ∙ h .devices;
         out = ap (λ (b : List Device). wrote ws (c .written) (statesIn (joined (relayLate (h .ps) (ahead at)) b (underWay at p) .1))) (sym q) ∙ h .out;
       } in
       let n : Device = frontWatched d c ss .device in
-      let served : Invariant (set (heard ++ d ∷ qs) f n) ws (frontAfter f (t .sent)) (t .at) (c .written) (t .sent) =
+      let served : Invariant (set (heard ++ d ∷ qs) f n) ws (frontAfter f (t .sent)) (t .at) (c .written) (t .sent) × Right ss (t .at + 1) (frontWatched d c ss .ear) =
       serves b p refl (λ s xs r k u. low-front p c s xs (e ∙ ap (λ (y : List ℕ). nextTurn (c .count) f at (c .written) p y) r) k u) in
       let next-holds : InvariantAt (set (heard ++ d ∷ qs) f n) ws (deviceTurn d c ss .cursor) =
-      nextTurn-holds (c .count) (set (heard ++ d ∷ qs) f n) ws (frontAfter f (t .sent)) (t .at) (c .written) (t .sent) (drop (t .at) ss) refl served in
-      subst (λ (x : Device). InvariantAt (set ys (c .index) (deviceTurn x c ss .device)) ws (deviceTurn x c ss .cursor)) (sym dd)
-      (subst (λ (k : ℕ). InvariantAt (set ys k (deviceTurn d c ss .device)) ws (deviceTurn d c ss .cursor)) (sym j)
-      (subst (λ (b : List Device). InvariantAt (set b f (deviceTurn d c ss .device)) ws (deviceTurn d c ss .cursor)) (sym sp) next-holds))
+      nextTurn-holds (c .count) (set (heard ++ d ∷ qs) f n) ws (frontAfter f (t .sent)) (t .at) (c .written) (t .sent) (drop (t .at) ss) refl (served .0) in
+      subst (Turns ys ws c) (sym dd) (
+        subst (λ (k : ℕ). InvariantAt (set ys k (deviceTurn d c ss .device)) ws (deviceTurn d c ss .cursor)) (sym j)
+            (subst (λ (b : List Device). InvariantAt (set b f (deviceTurn d c ss .device)) ws (deviceTurn d c ss .cursor)) (sym sp) next-holds),
+        served .1,
+      )
 
   leave-holds : (ys : List Device) (ws : List ℕ) (p : Sent) (c : Cursor) → (h : InvariantUnder ys ws p c) → h .qs ≡ []
       → InvariantAt ys (leaveOut (under p c) ss ws) (leaveCursor p (under p c) ss (length ws))
@@ -721,10 +812,11 @@ module _ (ss : List ℕ) (fin : List Device × (List ℕ × ℕ)) where
       nextTurn-holds (c .count) ys _ (c .front) (c .at) _ Nothing (drop (c .at) ss) refl (leaves ys ws (c .front) (c .at) (c .written) k m h e)
 
   turn-holds : (ys : List Device) (ws : List ℕ) (c : Cursor) → length ys ≡ c .count → InvariantAt ys ws c → IsNext (c .pending) c (drop (c .at) ss)
-      → c .end ≡ highsEnd (drop (c .at) ss) (c .at) → c .going ≡ true
+      → c .end ≡ highsEnd (drop (c .at) ss) (c .at) → c .at ≤ length ss → Right ss (c .at + 1) (c .ear) → 0 < c .count → c .going ≡ true
       → InvariantAt (set ys (c .index) (turnWithin (getD ys (c .index) blank) c ss (length ws) .device)) (cond (ltb (c .front) (c .count)) ws (leaveOut c ss ws))
       (turnWithin (getD ys (c .index) blank) c ss (length ws) .cursor)
-  turn-holds ys ws c l h e en v = go (ltb (c .front) (c .count)) refl
+      × Right ss (turnWithin (getD ys (c .index) blank) c ss (length ws) .cursor .at + 1) (turnTaken (getD ys (c .index) blank) c ss .ear)
+  turn-holds ys ws c l h e en wi ri some v = go (ltb (c .front) (c .count)) refl
     where
       long : length (h .ps) + length (h .qs) ≡ c .count
       long =
@@ -737,12 +829,23 @@ module _ (ss : List ℕ) (fin : List Device × (List ℕ × ℕ)) where
       go : (t : Bool) → ltb (c .front) (c .count) ≡ t
           → InvariantAt (set ys (c .index) (cond t (deviceTurn d c ss) (leaveTurn d c ss (length ws)) .device)) (cond t ws (leaveOut c ss ws))
           (cond t (deviceTurn d c ss) (leaveTurn d c ss (length ws)) .cursor)
+          × Right ss (cond t (deviceTurn d c ss) (leaveTurn d c ss (length ws)) .cursor .at + 1)
+          (cond t (frontWatched d c ss) (record { device = d; at = c .at; sent = Nothing; ear = c .ear }) .ear)
       go true q =
-          device-holds ys ws c h e (index-is (c .pending) c (drop (c .at) ss) e q v) en (h .qs) refl (omega (arith, long, h .count, ltb-true (c .front) (c .count) q))
+          let t : Taken = deviceTaken d (c .pending) (drop (c .at) ss) (c .at) in
+          let both = device-holds ys ws c h e (index-is (c .pending) c (drop (c .at) ss) e q v) en wi ri (h .qs) refl (omega (arith, long, h .count, ltb-true (c .front) (c .count) q)) in (
+            both .0,
+            subst (λ (k : ℕ). Right ss (k + 1) (frontWatched d c ss .ear))
+                (sym (nextTurn-range (c .count) (frontAfter (c .front) (t .sent)) (t .at) (c .written) (t .sent) (drop (t .at) ss) some .at)) (both .1),
+          )
       go false q =
-          subst (λ (b : List Device). InvariantAt b (leaveOut c ss ws) (leaveCursor (c .pending) c ss (length ws))) (sym (set-getD ys (c .index) blank))
-          (subst (InvariantAt ys (leaveOut c ss ws)) (leave-under (c .pending) c ss (length ws))
-          (leave-holds ys ws (c .pending) c h (no-more (h .qs) (omega (arith, long, h .count, ltb-false (c .front) (c .count) q)))))
+          let later : c .at ≤ leaveCursor (c .pending) c ss (length ws) .at =
+          subst (λ (t : Bool). c .at ≤ cond t (deviceTurn d c ss) (leaveTurn d c ss (length ws)) .cursor .at) q (within-later d c ss (length ws) some) in (
+            subst (λ (b : List Device). InvariantAt b (leaveOut c ss ws) (leaveCursor (c .pending) c ss (length ws))) (sym (set-getD ys (c .index) blank))
+                (subst (InvariantAt ys (leaveOut c ss ws)) (leave-under (c .pending) c ss (length ws))
+                (leave-holds ys ws (c .pending) c h (no-more (h .qs) (omega (arith, long, h .count, ltb-false (c .front) (c .count) q))))),
+            right-later ss (c .at + 1) (leaveCursor (c .pending) c ss (length ws) .at + 1) (c .ear) (omega (arith, later)) ri,
+          )
 
   -- ---- the end
   abbrev Ended : List Device → List ℕ → ℕ → Type 0
@@ -786,27 +889,32 @@ module _ (ss : List ℕ) (fin : List Device × (List ℕ × ℕ)) where
       (end-holds (r .devices) (r .out) (r .cursor .pending) (r .cursor) h (good .next) e
       (subst (λ (m : ℕ). r .cursor .written ≤ m) (sym (good .out)) (good .written)))
 
-  turns-same : (n room : ℕ) (r : Running) → Good n ss room r → InvariantAt (r .devices) (r .out) (r .cursor) → r .cursor .going ≡ true
-      → InvariantAt (turning ss r .devices) (turning ss r .out) (turning ss r .cursor)
-  turns-same n room r good h e =
+  -- between turns
+  abbrev Holds : Running → Type 0
+  Holds r = InvariantAt (r .devices) (r .out) (r .cursor) × Right ss (r .cursor .at + 1) (r .cursor .ear)
+
+  turns-same : (n room : ℕ) (r : Running) → 0 < n → Good n ss room r → Holds r → r .cursor .going ≡ true → Holds (turning ss r)
+  turns-same n room r some good h e =
       let d : Device = getD (r .devices) (r .cursor .index) blank in
       let w : r .cursor .written ≤ length (r .out) = subst (λ (m : ℕ). r .cursor .written ≤ m) (sym (good .out)) (good .written) in
       let u : Turned = turnWithin d (r .cursor) ss (length (r .out)) in
-      subst (λ (t : Turned). InvariantAt (set (r .devices) (r .cursor .index) (t .device)) (turnedOut (r .cursor) ss (r .out)) (t .cursor))
+      let more : 0 < r .cursor .count = subst (λ (m : ℕ). 0 < m) (sym (good .count)) some in
+      let both = turn-holds (r .devices) (r .out) (r .cursor) (good .devices ∙ sym (good .count)) (h .0) (good .next) (good .end) (good .at) (h .1) more e in
+      subst (λ (t : Turned). InvariantAt (set (r .devices) (r .cursor .index) (t .device)) (turnedOut (r .cursor) ss (r .out)) (t .cursor)
+      × Right ss (t .cursor .at + 1) (turnTaken d (r .cursor) ss .ear))
       (sym (turned-is d (r .cursor) ss (length (r .out)) (good .at) w))
-      (subst (λ (os : List ℕ). InvariantAt (set (r .devices) (r .cursor .index) (u .device)) os (u .cursor)) (sym (turned-out-is (r .cursor) ss (r .out) (good .at) w))
-      (turn-holds (r .devices) (r .out) (r .cursor) (good .devices ∙ sym (good .count)) h (good .next) (good .end) e))
+      (subst (λ (os : List ℕ). InvariantAt (set (r .devices) (r .cursor .index) (u .device)) os (u .cursor)) (sym (turned-out-is (r .cursor) ss (r .out) (good .at) w)) (both .0), both .1)
 
-  by-going : (t n room : ℕ) (r : Running) → 0 < n → n < 1024 → Good n ss room r → InvariantAt (r .devices) (r .out) (r .cursor) → (g : Bool) → r .cursor .going ≡ g
+  by-going : (t n room : ℕ) (r : Running) → 0 < n → n < 1024 → Good n ss room r → Holds r → (g : Bool) → r .cursor .going ≡ g
       → (r .cursor .going ≡ true → Same (turns t ss r)) → Same (turns t ss r)
-  by-going t n room r some few good h false e k = finish t n room r good h e
+  by-going t n room r some few good h false e k = finish t n room r good (h .0) e
   by-going t n room r some few good h true e k = k e
 
-  turns-all : (t n room : ℕ) (r : Running) → 0 < n → n < 1024 → Good n ss room r → measure (length ss) n (r .cursor) ≤ t → InvariantAt (r .devices) (r .out) (r .cursor) → Same (turns t ss r)
+  turns-all : (t n room : ℕ) (r : Running) → 0 < n → n < 1024 → Good n ss room r → measure (length ss) n (r .cursor) ≤ t → Holds r → Same (turns t ss r)
   turns-all zero n room r some few good near h = by-going zero n room r some few good h (r .cursor .going) refl (λ e. absurd (omega (arith, near, nearer-next n ss room r some few good e)))
   turns-all (suc t) n room r some few good near h =
       by-going (suc t) n room r some few good h (r .cursor .going) refl (λ e. subst Same (sym (turns-on t ss r e))
-      (turns-all t n room (turning ss r) some few (good-next n ss room r some good) (omega (arith, near, nearer-next n ss room r some few good e)) (turns-same n room r good h e)))
+      (turns-all t n room (turning ss r) some few (good-next n ss room r some good) (omega (arith, near, nearer-next n ss room r some few good e)) (turns-same n room r some good h e)))
 
 -- records that fit are neat
 fits-neat : (d : Device) → fits d ≡ true → Neat d
@@ -827,15 +935,17 @@ all-neat [] h = tt
 all-neat (d ∷ ds) h = let both = and-both (fits d) (allFit ds) h in (fits-neat d (both .0), all-neat ds (both .1))
 
 -- a run by its front: the devices, what is written, and where it ends are those of the late run
-pub front-run-same : (ds : List Device) (ss os : List ℕ) → 0 < length ds → length ds < 1024 → AllNeat ds
+pub front-run-same : (ds : List Device) (ss os : List ℕ) → 0 < length ds → length ds < 1024 → AllNeat ds → length ss < 2 ^ 63 → allBelow ss 4 ≡ true
     → let w : Whole = relayLate ds (singles 0 ss) in
     (frontRun ds ss os .devices ≡ w .0) × (frontRun ds ss os .out ≡ putAll os 0 (statesIn (w .1))) ×
     (frontRun ds ss os .cursor .written ≡ putEnd (length os) 0 (length (statesIn (w .1))))
 unfolding frontRun chain Small
-front-run-same ds ss os some few ne =
+front-run-same ds ss os some few ne short below =
     let w : Whole = relayLate ds (singles 0 ss) in
     let fin : List Device × (List ℕ × ℕ) = (w .0, (putAll os 0 (statesIn (w .1)), putEnd (length os) 0 (length (statesIn (w .1))))) in
-    let all = turns-all ss fin (enough ss) (length ds) (length os) (started ds ss os) some few (good-start ds ss os some) (near-start ds ss few)
-    (nextTurn-holds ss fin (length ds) ds os 0 0 0 Nothing ss refl
-    (record { ps = []; qs = ds; split = refl; count = refl; passing = AllPass.none; neat = ne; small = tt; devices = refl; out = refl })) in
+    let all = turns-all ss fin short below (enough ss) (length ds) (length os) (started ds ss os) some few (good-start ds ss os some) (near-start ds ss few) (
+      nextTurn-holds ss fin short below (length ds) ds os 0 0 0 Nothing ss refl
+          (record { ps = []; qs = ds; split = refl; count = refl; passing = AllPass.none; neat = ne; small = tt; devices = refl; out = refl }),
+      right-none ss (started ds ss os .cursor .at + 1),
+    ) in
     (all .0, ap (λ (x : List ℕ × ℕ). x .0) (all .1), ap (λ (x : List ℕ × ℕ). x .1) (all .1))

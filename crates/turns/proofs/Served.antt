@@ -29,7 +29,8 @@ use Rattle.intake.specs.declared.taken.Taken.{Taken}
 use Rattle.intake.specs.declared.taken.Progress.{Progress}
 use Rattle.intake.proofs.Settled.{Settles}
 use Rattle.turns.specs.Front.{afterHeader}
-use Rattle.turns.specs.Watching.{isOn, clearedIf, hearing, reached, overheard, onward, watchedTaken}
+use Rattle.turns.specs.Watching.{isOn, clearedIf, hearing, reached, overheard}
+use Rattle.turns.proofs.Onward.{heardOnward, watchedTaken}
 use Rattle.turns.proofs.LeavingStates.{header-parts}
 use Rattle.turns.proofs.Timed.{Timed, timed, stepTimed, runTimed, stamped}
 use Rattle.turns.proofs.Taking.{passer, Takes}
@@ -131,7 +132,7 @@ module _ (ss : List ℕ) (d : Device) (p : Sent) (k end : ℕ) where
   -- and what the turn makes of it
   quiet-watched : (e : Device) (j : ℕ) (own : List ℕ) → Settles d (stopped e j Nothing) → take (j - k) (drop k ss) ≡ own
       → watchedTaken d p (progressOf (stopped e j Nothing)) ss k end .device ≡ hearing (after b0 (listened on k own (b0 .watch))) e
-  unfolding watchedTaken overheard onward
+  unfolding watchedTaken overheard heardOnward
   quiet-watched e j own st o =
       let B : Listened = listened on k own (b0 .watch) in
       let sl : List ℕ = e .registers .slice in
@@ -227,7 +228,7 @@ module _ (ss : List ℕ) (d : Device) (p : Sent) (k end : ℕ) where
         hearing (listened (isOn U) t following (watchIn on (isOn U) t (s ∷ []) (B .watch))) (at U Passing)
 
     served-whole : watchedTaken d p whole ss k end .device ≡ servedIn (d .registers)
-    unfolding watchedTaken overheard onward
+    unfolding watchedTaken overheard heardOnward
     served-whole =
         ap (λ (m : ℕ). looked m (take (m - k) (drop k ss)) (getD ss m 0)) (less-one (k + length (l .init)))
         ∙ ap (λ (own : List ℕ). looked (k + length (l .init)) own (getD ss (k + length (l .init)) 0)) own-init
@@ -266,7 +267,7 @@ module _ (ss : List ℕ) (d : Device) (p : Sent) (k end : ℕ) where
 
 pub served-passes : (ss : List ℕ) (d : Device) (p : Sent) (k end b : ℕ) → ((c : Command) (n : ℕ) → p ≡ Header c n → ⊥)
     → watchedTaken d p (progressOf (stopped d k (One b))) ss k end .device ≡ passed k (take (end - k) (drop k ss)) d
-unfolding watchedTaken overheard onward listened
+unfolding watchedTaken overheard heardOnward listened
 served-passes ss d p k end b h = go p h
   where
     none : take (k - k) (drop k ss) ≡ []

@@ -24,7 +24,9 @@ use Rattle.turns.specs.declared.front.PhaseRun.{PhaseRun}
 use Rattle.cursor.specs.Cursor.{indexOf, cursor, turnByState, nextTurn, beginRun, halted}
 use Rattle.turns.specs.Front.{passes, phaseRun, phaseTaken, frontTaken, sliceStart, deviceTaken, putEnd, highCount, frontAfter, leaving, leaveCursor, leaveOut}
 use Rattle.turns.specs.Front.{deviceTurn, within, turned, turnedOut, Running, turning, turns, started, enough, Turned, turnTaken, frontWatched, cursorTo, onTo, cursorAfter, leaveAfter, leaveRoom}
-use Rattle.turns.specs.Watching.{watchedTaken}
+use Rattle.turns.specs.Watching.{watchedTurn}
+use Rattle.turns.specs.declared.turning.Turn.{Turn}
+use Rattle.watch.specs.declared.ear.Ear.{Ear}
 use Rattle.turns.proofs.LeavingStates.{highCount-within, length-put}
 use Rattle.turns.proofs.Phases.{phaseRun-low, phaseRun-along}
 use Rattle.tables.proofs.Booleans.{cond-both}
@@ -61,13 +63,13 @@ index-within n f h = go (ltb f n) refl
     go false e = h
 
 -- what every cursor of a next turn has
-record InRange (n k w : ℕ) (c : Cursor) : Type 0 where
+pub record InRange (n k w : ℕ) (c : Cursor) : Type 0 where
   pub count : c .count ≡ n
   pub index : c .index < n
   pub at : c .at ≡ k
   pub written : c .written ≡ w
 
-nextTurn-range : (n f at w : ℕ) (p : Sent) (rest : List ℕ) → 0 < n → InRange n at w (nextTurn n f at w p rest)
+pub nextTurn-range : (n f at w : ℕ) (p : Sent) (rest : List ℕ) → 0 < n → InRange n at w (nextTurn n f at w p rest)
 nextTurn-range n f at w Nothing rest h =
     turnByState-has n f at w rest (InRange n at w) (record { count = refl; index = h; at = refl; written = refl }) (record { count = refl; index = h; at = refl; written = refl })
     (record { count = refl; index = index-within n f h; at = refl; written = refl })
@@ -274,21 +276,21 @@ pub turned-device : (d : Device) (c : Cursor) (ss : List ℕ) (room : ℕ) → t
 unfolding turned
 turned-device d c ss room = go (ltb (c .front) (c .count))
   where
-    go : (t : Bool) → cond t (frontWatched d c ss) (stopped d (c .at) Nothing) .device
+    go : (t : Bool) → cond t (frontWatched d c ss) (record { device = d; at = c .at; sent = Nothing; ear = c .ear }) .device
         ≡ cond t (deviceTurn d c ss) (record { device = d; cursor = leaveAfter c ss room }) .device
     go true = refl
     go false = refl
 
 pub turned-cursor : (d : Device) (c : Cursor) (ss : List ℕ) (room : ℕ)
-    → cursorAfter c (turnTaken d c ss .at) (turnTaken d c ss .sent) ss room ≡ onTo c ss (turned d c ss room .cursor)
-unfolding turned watchedTaken
+    → cursorAfter c (turnTaken d c ss .at) (turnTaken d c ss .sent) (turnTaken d c ss .ear) ss room ≡ onTo c (turnTaken d c ss .ear) ss (turned d c ss room .cursor)
+unfolding turned watchedTurn
 turned-cursor d c ss room = go (ltb (c .front) (c .count))
   where
-    taken : Bool → Taken
-    taken t = cond t (frontWatched d c ss) (stopped d (c .at) Nothing)
+    taken : Bool → Turn
+    taken t = cond t (frontWatched d c ss) (record { device = d; at = c .at; sent = Nothing; ear = c .ear })
 
-    go : (t : Bool) → onTo c ss (cond t (cursorTo c (taken t .at) (taken t .sent) ss) (leaveAfter c ss room))
-        ≡ onTo c ss (cond t (deviceTurn d c ss) (record { device = d; cursor = leaveAfter c ss room }) .cursor)
+    go : (t : Bool) → onTo c (taken t .ear) ss (cond t (cursorTo c (taken t .at) (taken t .sent) ss) (leaveAfter c ss room))
+        ≡ onTo c (taken t .ear) ss (cond t (deviceTurn d c ss) (record { device = d; cursor = leaveAfter c ss room }) .cursor)
     go true = refl
     go false = refl
 
@@ -297,7 +299,7 @@ turned-fit d c ss room h a b =
     subst (λ (t : Turned). Fit (c .count) ss room (t .cursor)) (sym (turned-is d c ss room a b)) (within-fit d c ss room h a b)
 
 -- a turn does not go back
-within-later : (d : Device) (c : Cursor) (ss : List ℕ) (room : ℕ) → 0 < c .count → c .at ≤ turnWithin d c ss room .cursor .at
+pub within-later : (d : Device) (c : Cursor) (ss : List ℕ) (room : ℕ) → 0 < c .count → c .at ≤ turnWithin d c ss room .cursor .at
 within-later d c ss room h =
     let t : Taken = deviceTaken d (c .pending) (drop (c .at) ss) (c .at) in
     cond-both (λ (u : Turned). c .at ≤ u .cursor .at) (ltb (c .front) (c .count)) (deviceTurn d c ss) (leaveTurn d c ss room)
@@ -316,8 +318,8 @@ turned-later : (d : Device) (c : Cursor) (ss : List ℕ) (room : ℕ) → 0 < c 
 turned-later d c ss room h a b = subst (λ (t : Turned). c .at ≤ t .cursor .at) (sym (turned-is d c ss room a b)) (within-later d c ss room h)
 
 -- the end of high states that a cursor goes on with is that at its place
-end-on : (c k : Cursor) (ss : List ℕ) → c .end ≡ highsEnd (drop (c .at) ss) (c .at) → c .at ≤ k .at → onTo c ss k .end ≡ highsEnd (drop (k .at) ss) (k .at)
-end-on c k ss e l = go (ltb (k .at) (c .end)) refl
+end-on : (c k : Cursor) (e : Ear) (ss : List ℕ) → c .end ≡ highsEnd (drop (c .at) ss) (c .at) → c .at ≤ k .at → onTo c e ss k .end ≡ highsEnd (drop (k .at) ss) (k .at)
+end-on c k ear ss e l = go (ltb (k .at) (c .end)) refl
   where
     go : (t : Bool) → ltb (k .at) (c .end) ≡ t → cond t (c .end) (highsEnd (drop (k .at) ss) (k .at)) ≡ highsEnd (drop (k .at) ss) (k .at)
     go true h = e ∙ sym (highs-later ss (c .at) (k .at) l (omega (arith, ltb-true (k .at) (c .end) h, e)))
@@ -341,7 +343,7 @@ good-next n ss room r h g =
       at = f .at;
       written = f .written;
       next = is-next c (drop (c .at) ss) (f .next);
-      end = end-on (r .cursor) c ss (g .end) (turned-later d (r .cursor) ss (length (r .out)) some (g .at) w);
+      end = end-on (r .cursor) c (turnTaken d (r .cursor) ss .ear) ss (g .end) (turned-later d (r .cursor) ss (length (r .out)) some (g .at) w);
     }
 
 pub good-start : (ds : List Device) (ss os : List ℕ) → 0 < length ds → Good (length ds) ss (length os) (started ds ss os)

@@ -85,7 +85,7 @@ front-same : (ds : List Device) (ss os : List ℕ) → length ss < 2 ^ 63 → Ac
     (frontRun ds ss os .cursor .written ≡ length (through ds ss .1))
 front-same ds ss os short h =
     let w : List Device × List Packet = relayLate ds (singles 0 ss) in
-    let s = front-run-same ds ss os (h .some) (h .few) (all-neat ds (h .fit)) in
+    let s = front-run-same ds ss os (h .some) (h .few) (all-neat ds (h .fit)) short (h .below) in
     let c : _≡_ {A = List Device × List ℕ} (map (byClockDevice (length ss)) (w .0), statesIn (w .1)) (through ds ss) = run-by-clock ds ss short (h .fit) in
     let o : statesIn (w .1) ≡ through ds ss .1 = ap (λ (x : List Device × List ℕ). x .1) c in
     let r : length (through ds ss .1) ≤ length os = omega (arith, room-enough ds ss (h .fit), h .enoughRoom) in (

@@ -19,8 +19,10 @@ use Rattle.intake.specs.Intake.{stopped, highTaken, progressOf, highsEnd}
 use Rattle.intake.specs.declared.taken.Taken.{Taken}
 use Rattle.calls.specs.Chain.{blank}
 use Rattle.cursor.specs.declared.cursor.Cursor.{Cursor}
-use Rattle.cursor.specs.Cursor.{withEnd, nextTurn, halted, beginRun}
-use Rattle.turns.specs.Watching.{watchedTaken}
+use Rattle.cursor.specs.Cursor.{withAhead, nextTurn, halted, beginRun}
+use Rattle.watch.specs.declared.ear.Ear.{Ear}
+use Rattle.turns.specs.Watching.{watchedTurn}
+use Rattle.turns.specs.declared.turning.Turn.{Turn}
 use Rattle.turns.specs.declared.front.PhaseRun.{PhaseRun}
 use Rattle.turns.specs.declared.front.Heard.{Heard}
 
@@ -139,12 +141,12 @@ pub record Turned : Type 0 where
   pub cursor : Cursor
 
 -- what the front device takes, and what its watchdog hears
-abbrev pub frontWatched : Device → Cursor → List ℕ → Taken
-frontWatched d c ss = watchedTaken d (c .pending) (progressOf (deviceTaken d (c .pending) (drop (c .at) ss) (c .at))) ss (c .at) (c .end)
+abbrev pub frontWatched : Device → Cursor → List ℕ → Turn
+frontWatched d c ss = watchedTurn d (c .pending) (progressOf (deviceTaken d (c .pending) (drop (c .at) ss) (c .at))) (c .ear) ss (c .at) (c .end)
 
 -- what the device of a turn takes: the front device what is its own, and none takes anything where all pass
-abbrev pub turnTaken : Device → Cursor → List ℕ → Taken
-turnTaken d c ss = cond (ltb (c .front) (c .count)) (frontWatched d c ss) (stopped d (c .at) Nothing)
+abbrev pub turnTaken : Device → Cursor → List ℕ → Turn
+turnTaken d c ss = cond (ltb (c .front) (c .count)) (frontWatched d c ss) (record { device = d; at = c .at; sent = Nothing; ear = c .ear })
 
 -- the cursor after the front device took the states before a place and sent
 abbrev pub cursorTo : Cursor → ℕ → Sent → List ℕ → Cursor
@@ -186,15 +188,15 @@ leaveAfter c ss room = cond (within c ss room) (leaveCursor (c .pending) c ss ro
 abbrev pub leaveRoom : Cursor → List ℕ → List ℕ → List ℕ
 leaveRoom c ss os = cond (within c ss (length os)) (leaveOut c ss os) os
 
--- the next cursor k, and where the high states at its next state end: where those of c do, or looked for anew
-abbrev pub onTo : Cursor → List ℕ → Cursor → Cursor
-onTo c ss k = withEnd k (cond (ltb (k .at) (c .end)) (c .end) (highsEnd (drop (k .at) ss) (k .at)))
+-- the next cursor k, with an ear, and where the high states at its next state end: where those of c do, or looked for anew
+abbrev pub onTo : Cursor → Ear → List ℕ → Cursor → Cursor
+onTo c e ss k = withAhead k (cond (ltb (k .at) (c .end)) (c .end) (highsEnd (drop (k .at) ss) (k .at))) e
 
--- the cursor after a turn whose device took the states before a place and sent
-abbrev pub cursorAfter : Cursor → ℕ → Sent → List ℕ → ℕ → Cursor
-cursorAfter c at s ss room = onTo c ss (cond (ltb (c .front) (c .count)) (cursorTo c at s ss) (leaveAfter c ss room))
+-- the cursor after a turn whose device took the states before a place, sent, and left an ear
+abbrev pub cursorAfter : Cursor → ℕ → Sent → Ear → List ℕ → ℕ → Cursor
+cursorAfter c at s e ss room = onTo c e ss (cond (ltb (c .front) (c .count)) (cursorTo c at s ss) (leaveAfter c ss room))
 
--- a turn of any device with any cursor, but for where high states end
+-- a turn of any device with any cursor, but for what the next cursor knows of the high states ahead
 unfoldable pub turned : Device → Cursor → List ℕ → ℕ → Turned
 turned d c ss room =
     cond (ltb (c .front) (c .count)) (deviceTurn d c ss) (record { device = d; cursor = leaveAfter c ss room })
@@ -218,8 +220,9 @@ nowAt ds c os = record { devices = ds; cursor = c; out = os }
 -- the turn of the device that the cursor names
 abbrev pub turnAt : List Device → Cursor → List ℕ → List ℕ → Turned
 turnAt ds c ss os =
-    let t : Turned = turned (getD ds (c .index) blank) c ss (length os) in
-    record { device = t .device; cursor = onTo c ss (t .cursor) }
+    let d : Device = getD ds (c .index) blank in
+    let t : Turned = turned d c ss (length os) in
+    record { device = t .device; cursor = onTo c (turnTaken d c ss .ear) ss (t .cursor) }
 
 -- one turn
 abbrev pub turning : List ℕ → Running → Running

@@ -1,12 +1,15 @@
 -- Inside: the watchdog of the device of a turn. What is under way to it reaches it first, in the clock in which it was sent; then come its own
 -- states, one to a clock. A device that stores, or that passes, then hears all the high states that follow, which it will pass: so it needs no
--- look before a header reaches it again, or the end. That the whole is the run clock by clock is in proofs/ByClock and proofs/Same.
+-- look before a header reaches it again, or the end. While its bit is set it goes by an ear, which the run keeps from device to device. That the whole is the run clock by clock is in proofs/ByClock and proofs/Same.
 use Prim.Native.Nat.{ℕ, _-_, _%_}
 use mathlib.Core.Bool.{Bool, false, _||_, cond}
 use mathlib.Core.List.{List, [], _∷_}
 use lib.ListN.{getD, take, drop}
 use Rattle.watch.specs.Watch.{enabled}
 use Rattle.watch.specs.Kept.{watchBy, expiredBy, watchIn, movedIn, listened}
+use Rattle.watch.specs.Ear.{followed, joined}
+use Rattle.watch.specs.declared.ear.Ear.{Ear}
+use Rattle.watch.specs.declared.ear.Followed.{Followed}
 use Rattle.watch.specs.declared.watch.Watch.{Watch}
 use Rattle.watch.specs.declared.kept.Listened.{Listened}
 use Rattle.phases.specs.declared.phase.Sent.{Sent}
@@ -15,9 +18,9 @@ use Rattle.registers.specs.Held.{cleared, withWatch}
 use Rattle.registers.specs.declared.registers.Registers.{Registers}
 use Rattle.positions.specs.Running.{byClock}
 use Rattle.device.specs.declared.device.Device.{Device}
-use Rattle.intake.specs.Intake.{stopped, settled}
-use Rattle.intake.specs.declared.taken.Taken.{Taken}
+use Rattle.intake.specs.Intake.{settled}
 use Rattle.intake.specs.declared.taken.Progress.{Progress}
+use Rattle.turns.specs.declared.turning.Turn.{Turn}
 
 -- the watchdog's bit is set
 abbrev pub isOn : Registers → Bool
@@ -64,21 +67,21 @@ overheard p q on ss at to w =
     let b : Listened = listened on at (take (heardTo q to - at) (drop at ss)) (a .watch) in
     record { watch = b .watch; expired = a .expired || (b .expired || lateBy q on to (b .watch)) }
 
--- the clock of a store, and the states from `to` up to `end`, which it will pass; the bit is set before the store or not, and after it or not
-unfoldable pub onward : Sent → Bool → Bool → List ℕ → ℕ → ℕ → Watch → Listened
-onward Nothing before on ss to end w = record { watch = w; expired = false }
-onward (One s) before on ss to end w = listened on to (take (end - to) (drop to ss)) w
-onward (Header c n) before on ss to end w =
-    listened on to (take (end - to) (drop to ss)) (watchIn before on to (getD ss (to - 1) 0 ∷ []) w)
+-- the clock of a store, and the states from `to` up to `end`, which it will pass and hears by an ear; the bit is set before the store or not, and
+-- after it or not
+unfoldable pub onward : Sent → Bool → Bool → Ear → List ℕ → ℕ → ℕ → Watch → Followed
+onward Nothing before on e ss to end w = record { heard = record { watch = w; expired = false }; ear = e }
+onward (One s) before on e ss to end w = joined on e ss to end w
+onward (Header c n) before on e ss to end w = followed on e ss to end (watchIn before on to (getD ss (to - 1) 0 ∷ []) w)
 
 -- a device with what its watchdog has heard
 abbrev pub hearing : Listened → Device → Device
 hearing b d = record { registers = withWatch (clearedIf (b .expired) (d .registers)) (b .watch); place = d .place }
 
--- a device that got so far with the states from `at` on, p being under way, where high states end at `end`
-unfoldable pub watchedTaken : Device → Sent → Progress → List ℕ → ℕ → ℕ → Taken
-watchedTaken d p q ss at end =
+-- a device that got so far with the states from `at` on, p being under way, where high states end at `end`, by an ear
+unfoldable pub watchedTurn : Device → Sent → Progress → Ear → List ℕ → ℕ → ℕ → Turn
+watchedTurn d p q e ss at end =
     let a : Listened = overheard p (q .sent) (isOn (d .registers)) ss at (q .at) (d .registers .watch) in
     let u : Device = settled (clearedDevice (a .expired) d) q .device in
-    let b : Listened = onward (q .sent) (isOn (d .registers)) (isOn (u .registers)) ss (q .at) end (a .watch) in
-    stopped (hearing b u) (q .at) (q .sent)
+    let b : Followed = onward (q .sent) (isOn (d .registers)) (isOn (u .registers)) e ss (q .at) end (a .watch) in
+    record { device = hearing (b .heard) u; at = q .at; sent = q .sent; ear = b .ear }

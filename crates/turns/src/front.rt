@@ -1,6 +1,8 @@
 // What the device of a turn takes.
 ghost use mathlib.Core.Path.{_≡_};
-ghost use lib.ListN.{drop};
+ghost use mathlib.Core.Bool.{true};
+ghost use Prim.Native.Nat.{ℕ, _<_, _≤_, _+_};
+ghost use lib.ListN.{length, getD, drop};
 ghost use Rattle.intake.specs.Intake.{progressOf};
 ghost use Rattle.turns.specs.Front.{isLost, afterHeader, lowTaken, deviceTaken};
 ghost use Rattle.turns.specs.Front.{phaseOnly, phaseStep, phaseRun, hearAll, huntsOn};
@@ -89,8 +91,53 @@ fn low_take(device: Device, pending: Sent, states: &[u8], at: usize) -> Progress
     }
 }
 
-// Low states are heard one after the other, the window in a local.
+// Low states: behind blocks of them the window is that of the last nine, whatever it was before.
 fn hear_all(window: u16, states: &[u8], from: usize) -> Heard
+    ensures { λ r. ⌜ r ≡ hearAll window (drop from (now (states .entry))) from ⌝ }
+{
+    let end = low_blocks(states, from);
+    if end - from < 9 {
+        return hear_each(window, states, from);
+    }
+    hear_each(0, states, end - 9)
+}
+
+// Where blocks of low states alone end.
+fn low_blocks(states: &[u8], from: usize) -> usize
+    ensures { λ r. ⌜ (from ≤ r) × ((k : ℕ) → from ≤ k → k < r → (k < length (now (states .entry))) × (getD (now (states .entry)) k 0 < 2)) ⌝ }
+{
+    let mut i = from;
+    while i < states.len() {
+        if states.len() - i < 64 {
+            return i;
+        }
+        if !block_low(states, i) {
+            return i;
+        }
+        i += 64;
+    }
+    i
+}
+
+// Whether a block of states is low: whether the greatest is. No early end, so that the loop is vectorised.
+fn block_low(states: &[u8], from: usize) -> bool
+    requires { ⌜ from + 64 ≤ length (now states) ⌝ }
+    ensures { λ r. ⌜ (r ≡ true → (k : ℕ) → from ≤ k → k < from + 64 → (k < length (now (states .entry))) × (getD (now (states .entry)) k 0 < 2)) ⌝ }
+{
+    let mut most: u8 = 0;
+    let mut j: usize = 0;
+    while j < 64 {
+        let s = states[from + j];
+        if s > most {
+            most = s;
+        }
+        j += 1;
+    }
+    most < 2
+}
+
+// Low states are heard one after the other, the window in a local.
+fn hear_each(window: u16, states: &[u8], from: usize) -> Heard
     ensures { λ r. ⌜ r ≡ hearAll window (drop from (now (states .entry))) from ⌝ }
 {
     let mut w = window;

@@ -4,6 +4,7 @@ mod leaving;
 mod turning;
 mod watching;
 
+pub use turning::Turn;
 pub use turning::bring;
 pub use turning::take_turn;
 pub use turning::turn_after;

@@ -10,25 +10,34 @@ ghost use Rattle.intake.specs.Intake.{highsEnd};
 ghost use Rattle.turns.specs.Ending.{byClockDevice, shownWith};
 use cursor::Cursor;
 use device::Device;
-use intake::Taken;
 use phases::Sent;
-use watch::Watch;
+use watch::Ear;
+
+// What a turn makes of its device, the place of the next state, what was sent, and the ear that the next turns go by.
+pub struct Turn {
+    pub device: Device,
+    pub at: usize,
+    pub sent: Sent,
+    pub ear: Ear,
+}
 
 // What the device of the turn takes.
-pub fn take_turn(device: Device, cursor: Cursor, states: &[u8]) -> Taken
+pub fn take_turn(device: Device, cursor: Cursor, states: &[u8]) -> Turn
     ensures { λ r. ⌜ r ≡ turnTaken device cursor (now (states .entry)) ⌝ }
 {
     let at = cursor.at;
+    let ear = cursor.ear;
     if cursor.front < cursor.count {
         let pending = cursor.pending;
         let progress = crate::front::device_take(device, pending, states, at);
         let end = cursor.end;
-        return crate::watching::watched_take(device, pending, progress, states, at, end);
+        return crate::watching::watched_take(device, pending, progress, ear, states, at, end);
     }
-    Taken {
+    Turn {
         device,
         at,
         sent: Sent::Nothing,
+        ear,
     }
 }
 
@@ -37,17 +46,19 @@ pub fn turn_after(
     cursor: Cursor,
     at: usize,
     sent: Sent,
+    ear: Ear,
     states: &[u8],
     returned: &mut [u8],
 ) -> Cursor
-    ensures { λ r. ⌜ (r ≡ cursorAfter cursor at sent (now (states .entry)) (length (now (returned .entry)))) × (now (returned .exit) ≡ turnedOut cursor (now (states .entry)) (now (returned .entry))) ⌝ }
+    ensures { λ r. ⌜ (r ≡ cursorAfter cursor at sent ear (now (states .entry)) (length (now (returned .entry)))) × (now (returned .exit) ≡ turnedOut cursor (now (states .entry)) (now (returned .entry))) ⌝ }
 {
     let mut next = turn_to(cursor, at, sent, states, returned);
     next.end = end_at(cursor.end, next.at, states);
+    next.ear = ear;
     next
 }
 
-// The same, but for where the high states at the next state end.
+// The same, but for what the cursor knows of the high states ahead.
 fn turn_to(cursor: Cursor, at: usize, sent: Sent, states: &[u8], returned: &mut [u8]) -> Cursor
     ensures { λ r. ⌜ (r ≡ cond (ltb (cursor .front) (cursor .count)) (cursorTo cursor at sent (now (states .entry))) (leaveAfter cursor (now (states .entry)) (length (now (returned .entry))))) × (now (returned .exit) ≡ turnedOut cursor (now (states .entry)) (now (returned .entry))) ⌝ }
 {

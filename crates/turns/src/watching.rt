@@ -2,12 +2,16 @@
 ghost use mathlib.Core.Path.{_≡_};
 ghost use lib.ListN.{getD};
 ghost use Prim.Native.Nat.{_-_};
-ghost use Rattle.turns.specs.Watching.{isOn, clearedDevice, hearing, reached, heardTo, lateBy, overheard, onward, watchedTaken};
+ghost use Rattle.turns.specs.Watching.{isOn, clearedIf, reached, heardTo, lateBy, overheard, onward, watchedTurn};
+ghost use Rattle.registers.specs.Held.{withWatch};
+ghost use Rattle.intake.specs.Intake.{settledBy};
+use crate::turning::Turn;
 use device::Device;
 use intake::Progress;
-use intake::Taken;
 use phases::Sent;
 use registers::Registers;
+use watch::Ear;
+use watch::Followed;
 use watch::Listened;
 use watch::Watch;
 
@@ -16,25 +20,54 @@ pub fn watched_take(
     device: Device,
     pending: Sent,
     progress: Progress,
+    ear: Ear,
     states: &[u8],
     at: usize,
     end: usize,
-) -> Taken
-    ensures { λ r. ⌜ r ≡ watchedTaken device pending progress (now (states .entry)) at end ⌝ }
+) -> Turn
+    ensures { λ r. ⌜ r ≡ watchedTurn device pending progress ear (now (states .entry)) at end ⌝ }
 {
     let sent = progress.sent;
     let to = progress.at;
     let before = is_on(device.registers);
     let watch = device.registers.watch;
     let heard = overhear(watch, before, pending, sent, states, at, to);
-    let taken = intake::settle(clear_if(device, heard.expired), progress);
-    let on = is_on(taken.device.registers);
-    let ahead = hear_on(heard.watch, before, on, sent, states, to, end);
-    Taken {
-        device: with_heard(taken.device, ahead),
+    let on = watch::is_enabled(watch, configuration_after(device.registers, progress));
+    let ahead = hear_on(heard.watch, before, on, sent, ear, states, to, end);
+    let next = ahead.ear;
+    let place = progress.place;
+    let listened = with_heard(device.registers, heard.expired, ahead.heard.watch);
+    let settled = intake::settle(listened, progress);
+    if ahead.heard.expired {
+        let registers = settled.clear();
+        return Turn {
+            device: Device { registers, place },
+            at: to,
+            sent,
+            ear: next,
+        };
+    }
+    Turn {
+        device: Device {
+            registers: settled,
+            place,
+        },
         at: to,
         sent,
+        ear: next,
     }
+}
+
+// The configuration that the registers have behind what the device got.
+fn configuration_after(registers: Registers, progress: Progress) -> u8
+    ensures { λ r. ⌜ r ≡ settledBy (progress .sent) (progress .at) registers (progress .slice) .configuration ⌝ }
+{
+    let sent = progress.sent;
+    let slice = progress.slice;
+    if let Sent::Header { command, .. } = sent {
+        return storing::configuration_after(registers, slice, command);
+    }
+    registers.configuration
 }
 
 // The watchdog's bit is set.
@@ -44,30 +77,24 @@ pub fn is_on(registers: Registers) -> bool
     watch::is_enabled(registers.watch, registers.configuration)
 }
 
-// A device whose watchdog has expired, or not.
-pub fn clear_if(device: Device, expired: bool) -> Device
-    ensures { λ r. ⌜ r ≡ clearedDevice expired device ⌝ }
+// Registers whose watchdog had expired or not, with what it heard. They are written in place, number by number, before a slice is stored in them,
+// so that they are not moved once more.
+fn with_heard(registers: Registers, expired: bool, watch: Watch) -> Registers
+    ensures { λ r. ⌜ r ≡ withWatch (clearedIf expired registers) watch ⌝ }
 {
+    let mut next = registers;
+    next.watch.din.still = watch.din.still;
+    next.watch.din.level = watch.din.level;
+    next.watch.loadi.still = watch.loadi.still;
+    next.watch.loadi.level = watch.loadi.level;
+    next.watch.limit = watch.limit;
+    next.watch.bit = watch.bit;
     if expired {
-        let place = device.place;
-        let registers = device.registers.clear();
-        return Device { registers, place };
+        next.waiting0 = [0u16; 24];
+        next.waiting1 = [0u16; 24];
+        next.active0 = [0u16; 24];
+        next.active1 = [0u16; 24];
     }
-    device
-}
-
-// A device with what its watchdog has heard, number by number, so that the record is not moved once more.
-pub fn with_heard(device: Device, heard: Listened) -> Device
-    ensures { λ r. ⌜ r ≡ hearing heard device ⌝ }
-{
-    let watch = heard.watch;
-    let mut next = clear_if(device, heard.expired);
-    next.registers.watch.din.still = watch.din.still;
-    next.registers.watch.din.level = watch.din.level;
-    next.registers.watch.loadi.still = watch.loadi.still;
-    next.registers.watch.loadi.level = watch.loadi.level;
-    next.registers.watch.limit = watch.limit;
-    next.registers.watch.bit = watch.bit;
     next
 }
 
@@ -134,21 +161,25 @@ fn hear_on(
     before: bool,
     on: bool,
     sent: Sent,
+    ear: Ear,
     states: &[u8],
     to: usize,
     end: usize,
-) -> Listened
-    ensures { λ r. ⌜ r ≡ onward sent before on (now (states .entry)) to end watch ⌝ }
+) -> Followed
+    ensures { λ r. ⌜ r ≡ onward sent before on ear (now (states .entry)) to end watch ⌝ }
 {
     match sent {
-        Sent::Nothing => Listened {
-            watch,
-            expired: false,
+        Sent::Nothing => Followed {
+            heard: Listened {
+                watch,
+                expired: false,
+            },
+            ear,
         },
-        Sent::One(_) => watch::listen(watch, on, states, to, end),
+        Sent::One(_) => watch::join(watch, on, ear, states, to, end),
         Sent::Header { .. } => {
             let stored = watch::hear(watch, before, on, to, state_before(states, to));
-            watch::listen(stored, on, states, to, end)
+            watch::follow(stored, on, ear, states, to, end)
         }
     }
 }

@@ -24,7 +24,8 @@ use Rattle.cursor.specs.declared.entry.Entry.{Entry}
 use Rattle.cursor.specs.declared.entry.Ran.{Ran}
 use Rattle.judgement.specs.declared.judging.Judged.{Judged}
 use Rattle.phases.specs.declared.phase.Sent.{Sent}
-use Rattle.intake.specs.declared.taken.Taken.{Taken}
+use Rattle.watch.specs.declared.ear.Ear.{Ear}
+use Rattle.turns.specs.declared.turning.Turn.{Turn}
 use Rattle.turns.specs.Front.{Running, nowAt, turnTaken, cursorAfter, turned, turnedOut, turning, enough, onTo}
 use Rattle.refusals.specs.Rows.{runRows}
 use Rattle.cursor.specs.Answer.{ran}
@@ -38,8 +39,10 @@ use Rattle.cursor.proofs.entry.Ran as R
 use Rattle.cursor.proofs.entry.Ran.Laws as R′
 use Rattle.judgement.proofs.judging.Judged as J
 use Rattle.judgement.proofs.judging.Judged.Laws as J′
-use Rattle.intake.proofs.taken.Taken as S
-use Rattle.intake.proofs.taken.Taken.Laws as S′
+use Rattle.turns.proofs.turning.Turn as S
+use Rattle.turns.proofs.turning.Turn.Laws as S′
+use Rattle.watch.proofs.ear.Ear as G
+use Rattle.watch.proofs.ear.Ear.Laws as G′
 use Rattle.phases.proofs.phase.Sent as N
 use Rattle.phases.proofs.phase.Sent.Laws as N′
 use Rattle.refusals.proofs.Found.{run-refusal-found}
@@ -98,6 +101,12 @@ nvals = EL.vals N.the-type N′.the-laws
 abbrev NIs : Sent → Type 0
 NIs x = Is N.the-row x (nvals x)
 
+abbrev gvals : Ear → List Val
+gvals = LL.vals G.the-type G′.the-laws
+
+abbrev GIs : Ear → Type 0
+GIs e = Is G.the-row e (gvals e)
+
 abbrev rval : Ran → Val
 rval = LL.val R.the-type R′.the-laws
 
@@ -110,6 +119,9 @@ module _ {M : Type 1} {𝓤 : URA M} {H : Heap 𝓤} {A : Atoms 𝓤} {W : Given
 
   abbrev sent-of : (x : Sent) → NIs x → Passed W N.the-row
   sent-of x is = record { value = x; values = nvals x; makes = EL.makes N.the-type N′.the-plain 𝓤 H A; is = is }
+
+  abbrev ear-of : (e : Ear) → GIs e → Passed W G.the-row
+  ear-of e is = record { value = e; values = gvals e; makes = LL.makes G.the-type G′.the-plain 𝓤 H A; is = is }
 
 abbrev stayed : Stays (bb-run.ended .signature .params) (bb-run.ended .kept)
 stayed =
@@ -239,25 +251,25 @@ module _ {M : Type 1} (𝓤 : URA M) (H : Heap 𝓤) (A : Atoms 𝓤) (W : Given
       nothing ! $ move ! (2 ∷ 0 ∷ []) $ join ! $ join ! $ nothing ! $ move ! (1 ∷ 0 ∷ []) $ done !
 
   -- the room too, at ws, for ν′ under the name δ′
-  module _ (ν ν′ : ℕ) (δ δ′ : GName) (c : Cursor) (k : ℕ) (x : Sent) (ws : List ℕ) where
+  module _ (ν ν′ : ℕ) (δ δ′ : GName) (c : Cursor) (k : ℕ) (x : Sent) (e : Ear) (ws : List ℕ) where
     abbrev to-after : AfterC .Ghost
     to-after = (
       (
         (ν ∷ [], (ν′ ∷ [], tt)),
         (fullShare, (fullShare, tt)),
         tt,
-        (c, (k, (x, (ref b₁ o₁ δ ss, (ref b₂ o₂ δ′ ws, tt))))),
-        (cvals c, (vint w64 k ∷ [], (nvals x, (sl b₁ o₁ (length ss), (sl b₂ o₂ (length ws), tt))))),
+        (c, (k, (x, (e, (ref b₁ o₁ δ ss, (ref b₂ o₂ δ′ ws, tt)))))),
+        (cvals c, (vint w64 k ∷ [], (nvals x, (gvals e, (sl b₁ o₁ (length ss), (sl b₂ o₂ (length ws), tt)))))),
       ),
       tt,
     )
 
-    asks-after : CIs c → k < 2 ^ 64 → NIs x
+    asks-after : CIs c → k < 2 ^ 64 → NIs x → GIs e
         → ent 𝓤 (sep 𝓤 (States ν δ) (sep 𝓤 (Token ν) (sep 𝓤 (sem 𝓤 H A (LentMut u8 (ν′ ∷ []) b₂ o₂ δ′ ws)) (Token ν′)))) (AfterC .pre to-after)
-    asks-after c-is k-fits x-is =
+    asks-after c-is k-fits x-is e-is =
         qed W (‵ (LentShared u8 (ν ∷ []) b₁ o₁ δ ss) ∷ ‵ (flft (ν ∷ []) fullShare) ∷ ‵ (LentMut u8 (ν′ ∷ []) b₂ o₂ δ′ ws) ∷ ‵ (flft (ν′ ∷ []) fullShare) ∷ []) ∵
         nothing ! $ move ! (3 ∷ 0 ∷ []) $ fjoin ! $ move ! (1 ∷ 0 ∷ []) $ fjoin ! $
-        gives ! (sent-of x x-is) $ gives ! (number w64 k k-fits) $ gives ! (cursor-of c c-is) $
+        gives ! (ear-of e e-is) $ gives ! (sent-of x x-is) $ gives ! (number w64 k k-fits) $ gives ! (cursor-of c c-is) $
         nothing ! $ move ! (3 ∷ 0 ∷ []) $ join ! $ move ! (2 ∷ 0 ∷ []) $ join ! $ join ! $ nothing ! $ move ! (1 ∷ 0 ∷ []) $ done !
 
   module _ (𝓣 : Tables 𝓤 H) (known-judge : Triple 𝓤 (𝓣 .C judge.Symbol.name) (JudgeC 𝓤 H A mem run)) (known-enter : Triple 𝓤 (𝓣 .C opening.Symbol.name) EnterC)
@@ -289,11 +301,11 @@ module _ {M : Type 1} (𝓤 : URA M) (H : Heap 𝓤) (A : Atoms 𝓤) (W : Given
       abbrev Left : Out → SProp 𝓤
       Left = afterBlock 𝓤 H (afterSeq 𝓤 H (Wp 𝓤 H (𝓣 .C) (𝓣 .Λ) E code.Mir.t-9 (atReturn 𝓤 H E Post)) (atReturn 𝓤 H E Post))
 
-      abbrev Turn : SProp 𝓤 → SProp 𝓤
-      Turn X = Wp 𝓤 H (𝓣 .C) (𝓣 .Λ) E code.Mir.turn-1 (afterTurn 𝓤 H X Left)
+      abbrev OneTurn : SProp 𝓤 → SProp 𝓤
+      OneTurn X = Wp 𝓤 H (𝓣 .C) (𝓣 .Λ) E code.Mir.turn-1 (afterTurn 𝓤 H X Left)
 
       more : (s : Running) (X : SProp 𝓤) → Good (length xs) ss (length os) s → CIs (s .cursor) → s .cursor .going ≡ true
-          → (CIs (turning ss s .cursor) → ent 𝓤 (⋆ 𝓤 H A (At (turning ss s))) X) → ent 𝓤 (⋆ 𝓤 H A (At s)) (Turn X)
+          → (CIs (turning ss s .cursor) → ent 𝓤 (⋆ 𝓤 H A (At (turning ss s))) X) → ent 𝓤 (⋆ 𝓤 H A (At s)) (OneTurn X)
       unfolding afterTurn
       more s X good c-is going k =
           let ys : List Device = s .devices in
@@ -325,7 +337,7 @@ module _ {M : Type 1} (𝓤 : URA M) (H : Heap 𝓤) (A : Atoms 𝓤) (W : Given
           (λ ν δ. and-then ! (held ! 17 refl) (and-then ! (held ! 41 refl) (and-then ! (held ! 49 refl) (no-more !))))
           (λ ν δ r zs is′. heard ! (r ≡ turnTaken d c ss) (λ e.
           let parts = LL.owed S.the-type S′.the-laws r _ is′ in
-          let changed : r .device ≡ turned d c ss (length ws) .device = ap (λ (u : Taken). u .device) e ∙ turned-device d c ss (length ws) in
+          let changed : r .device ≡ turned d c ss (length ws) .device = ap (λ (u : Turn). u .device) e ∙ turned-device d c ss (length ws) in
           move ! (1 ∷ 2 ∷ 0 ∷ []) $ land ! (here !) (init ! 36 refl (LL.lawful S.the-type S′.the-laws 𝓤 H A W .typed r _ is′ .0)) $
           -- the cursor after it: the states and the room are lent on
           assigns ! (addr ! (from ! (fld ! refl (hop ! (look-in ! 46 (sub ! 0 refl (whole !))) (stop !))))) (here !) (init ! 14 refl (tt, tt)) $
@@ -333,19 +345,19 @@ module _ {M : Type 1} (𝓤 : URA M) (H : Heap 𝓤) (A : Atoms 𝓤) (W : Given
           (init ! 12 refl (tt, (tt, (record { fits = g₂ .0 }, tt)))) $
           rewrite ! 12 (λ (z : ℕ). ‵ (fat fullShare (sliceTy refO) l₂₀ 0 (sliceVal (b₂, o₂) z))) (sym lw) refl $
           move ! (2 ∷ []) $ lends-shared ! tt u8 qs ss b₁ o₁ g₁ (λ ν″ δ″. move ! (6 ∷ []) $ lends ! tt u8 ws b₂ o₂ (subst (Room u8) (sym lw) g₂) (λ ν′ δ′.
-          let outside-after : AfterC .Ghost = to-after ν″ ν′ δ″ δ′ c (r .at) (r .sent) ws in
+          let outside-after : AfterC .Ghost = to-after ν″ ν′ δ″ δ′ c (r .at) (r .sent) (r .ear) ws in
           join ! $ move ! (3 ∷ 0 ∷ []) $ join ! $ move ! (2 ∷ 0 ∷ []) $ join ! $
-          use1 W (raw (AfterC .pre outside-after)) (asks-after ν″ ν′ δ″ δ′ c (r .at) (r .sent) ws c-is (parts .1 .0 .1) (parts .1 .1 .0)) $
+          use1 W (raw (AfterC .pre outside-after)) (asks-after ν″ ν′ δ″ δ′ c (r .at) (r .sent) (r .ear) ws c-is (parts .1 .0 .1) (parts .1 .1 .0) (parts .1 .1 .1 .0)) $
           calls-val ! (fmOf 𝓤 H (W .laws) 𝓣) after.ended (after.clauses 𝓤 H A mem run) known-after outside-after cval (LL.tells C.the-type C′.the-laws)
           (and-then ! (held ! 41 refl) (and-then ! (held-field ! 37 1 refl refl refl) (and-then ! (held-field ! 37 2 refl refl refl)
-          (and-then ! (held ! 49 refl) (and-then ! (held ! 13 refl) (no-more !)))))) (λ r′ zs′ is″.
-          let room : List ℕ = zs′ .1 .1 .1 .1 .0 in
-          heard ! ((r′ ≡ cursorAfter c (r .at) (r .sent) ss (length ws)) × (room ≡ turnedOut c ss ws)) (λ e′.
-          let next : r′ ≡ onTo c ss (turned d c ss (length ws) .cursor) = is-next r r′ e (e′ .0) in
+          (and-then ! (held-field ! 37 3 refl refl refl) (and-then ! (held ! 49 refl) (and-then ! (held ! 13 refl) (no-more !))))))) (λ r′ zs′ is″.
+          let room : List ℕ = zs′ .1 .1 .1 .1 .1 .0 in
+          heard ! ((r′ ≡ cursorAfter c (r .at) (r .sent) (r .ear) ss (length ws)) × (room ≡ turnedOut c ss ws)) (λ e′.
+          let next : r′ ≡ onTo c (turnTaken d c ss .ear) ss (turned d c ss (length ws) .cursor) = is-next r r′ e (e′ .0) in
           use1 W (‵ (flft (ν″ ∷ []) fullShare) ⊛ ‵ (flft (ν′ ∷ []) fullShare) ⊛ ‵ ftrue) (id⊢ 𝓤 _) $
           split ! $ move ! (1 ∷ []) $ split ! $ move ! (1 ∷ []) $ drop ! $
           -- [ν′; ν; what says the last values; away; away; the chain's; open; seen; open; …]
-          move ! (2 ∷ []) $ fsplit ! $ drop ! $ fsplit ! $ drop ! $ fsplit ! $ drop ! $ fsplit ! $ drop ! $ fsplit ! $ fsplit ! $
+          move ! (2 ∷ []) $ fsplit ! $ drop ! $ fsplit ! $ drop ! $ fsplit ! $ drop ! $ fsplit ! $ drop ! $ fsplit ! $ drop ! $ fsplit ! $ fsplit ! $
           move ! (3 ∷ 5 ∷ 0 ∷ []) $ returned ! tt u8 room b₂ o₂ $ move ! (1 ∷ []) $ drop ! $ move ! (1 ∷ []) $ drop ! $
           move ! (1 ∷ 2 ∷ []) $ returned-shared ! tt u8 qs ss b₁ o₁ $ move ! (2 ∷ 3 ∷ 0 ∷ 4 ∷ 1 ∷ []) $
           land ! (here !) (init ! 34 refl (clawful .typed r′ _ is″ .0)) $
@@ -368,14 +380,14 @@ module _ {M : Type 1} (𝓤 : URA M) (H : Heap 𝓤) (A : Atoms 𝓤) (W : Given
           i-fits : s .cursor .index < 2 ^ 64
           i-fits = omega (arith, good .index, g .0)
 
-          is-next : (r : Taken) (r′ : Cursor) → r ≡ turnTaken (getD (s .devices) (s .cursor .index) blank) (s .cursor) ss
-              → r′ ≡ cursorAfter (s .cursor) (r .at) (r .sent) ss (length (s .out))
-              → r′ ≡ onTo (s .cursor) ss (turned (getD (s .devices) (s .cursor .index) blank) (s .cursor) ss (length (s .out)) .cursor)
+          is-next : (r : Turn) (r′ : Cursor) → r ≡ turnTaken (getD (s .devices) (s .cursor .index) blank) (s .cursor) ss
+              → r′ ≡ cursorAfter (s .cursor) (r .at) (r .sent) (r .ear) ss (length (s .out))
+              → r′ ≡ onTo (s .cursor) (turnTaken (getD (s .devices) (s .cursor .index) blank) (s .cursor) ss .ear) ss (turned (getD (s .devices) (s .cursor .index) blank) (s .cursor) ss (length (s .out)) .cursor)
           is-next r r′ e e′ =
-              e′ ∙ ap (λ (u : Taken). cursorAfter (s .cursor) (u .at) (u .sent) ss (length (s .out))) e
+              e′ ∙ ap (λ (u : Turn). cursorAfter (s .cursor) (u .at) (u .sent) (u .ear) ss (length (s .out))) e
               ∙ turned-cursor (getD (s .devices) (s .cursor .index) blank) (s .cursor) ss (length (s .out))
 
-      ends : (s : Running) (X : SProp 𝓤) (t : ℕ) → Stands (length xs) ss (length os) t fin s → s .cursor .going ≡ false → ent 𝓤 (⋆ 𝓤 H A (At s)) (Turn X)
+      ends : (s : Running) (X : SProp 𝓤) (t : ℕ) → Stands (length xs) ss (length os) t fin s → s .cursor .going ≡ false → ent 𝓤 (⋆ 𝓤 H A (At s)) (OneTurn X)
       unfolding afterTurn
       ends s X t st going =
           qed W (At s) ∵ exec ! (𝓣 .C) (𝓣 .Λ) E code.Mir.turn-1 (anyQ (afterTurn 𝓤 H X Left)) $
@@ -436,13 +448,13 @@ module _ {M : Type 1} (𝓤 : URA M) (H : Heap 𝓤) (A : Atoms 𝓤) (W : Given
           lo : length (fin .out) ≡ length os
           lo = subst (λ (r : Running). length (r .out) ≡ length os) last (st .out)
 
-      turns-by : (t : ℕ) (s : Running) (u : Bool) → s .cursor .going ≡ u → Ok t s → ent 𝓤 (⋆ 𝓤 H A (At s)) (Turn (Again 𝓤 H A Ok At t))
+      turns-by : (t : ℕ) (s : Running) (u : Bool) → s .cursor .going ≡ u → Ok t s → ent 𝓤 (⋆ 𝓤 H A (At s)) (OneTurn (Again 𝓤 H A Ok At t))
       turns-by t s false e k = ends s (Again 𝓤 H A Ok At t) t (k .0) e
       turns-by zero s true e k = absurd (stands-zero (length xs) ss (length os) fin s (k .0) e)
       turns-by (suc t) s true e k = more s (Again 𝓤 H A Ok At (suc t)) (k .0 .live e .good) (k .1) e (λ c-is.
           again 𝓤 H A Ok At (suc t) t (turning ss s) (omega arith) (stands-next (length xs) ss (length os) t fin s (k .0) e, c-is))
 
-      turns : (t : ℕ) (s : Running) → Ok t s → ent 𝓤 (⋆ 𝓤 H A (At s)) (Turn (Again 𝓤 H A Ok At t))
+      turns : (t : ℕ) (s : Running) → Ok t s → ent 𝓤 (⋆ 𝓤 H A (At s)) (OneTurn (Again 𝓤 H A Ok At t))
       turns t s k = turns-by t s (s .cursor .going) refl k
 
       enters : CIs (bg .cursor) → ent 𝓤 (⋆ 𝓤 H A (At (nowAt xs (bg .cursor) os))) (Wp 𝓤 H (𝓣 .C) (𝓣 .Λ) E (loop code.Mir.turn-1) Left)

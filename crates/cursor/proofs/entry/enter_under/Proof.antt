@@ -9,8 +9,11 @@ turn-by-state-requires c κs = search needs
 highs-end-requires : tie.Need-highs-end-requires
 highs-end-requires c κs = search needs
 
+no-ear-requires : tie.Need-no-ear-requires
+no-ear-requires c κs = search needs
+
 returns : tie.Need-returns
-returns c = rw (c .highs-end .ensures, c .before .turn-by-state .ensures, eq-eqb _ _ (c .before .before .if1 .taken))
+returns c = rw (c .no-ear .ensures, c .before .highs-end .ensures, c .before .before .turn-by-state .ensures, eq-eqb _ _ (c .before .before .before .if1 .taken))
 
 halt-requires : tie.Need-halt-requires
 halt-requires c κs = search needs
@@ -19,4 +22,4 @@ returns-2 : tie.Need-returns-2
 returns-2 c = rw (c .halt .ensures, ne-eqb _ _ (c .before .if1 .left))
 
 pub enter-under-spec : {M : Type 1} → statement M
-enter-under-spec = tie.close (tie.spec turn-by-state-requires highs-end-requires halt-requires returns returns-2)
+enter-under-spec = tie.close (tie.spec turn-by-state-requires highs-end-requires no-ear-requires halt-requires returns returns-2)

@@ -1,6 +1,3 @@
-use mathlib.Core.Path.{ap}
-use Rattle.registers.specs.declared.registers.Registers.{Registers}
-use Rattle.intake.specs.Intake.{stopped}
 use Rattle.intake.proofs.Cases.{settledBy-none}
 use borrow.Author.Needs.{needs}
 use Rattle.intake.proofs.taken.settle.Statement.{statement}
@@ -20,11 +17,9 @@ returns c = rw (c .date .ensures, c .before .store .ensures, c .before .before .
 
 returns-2 : tie.Need-returns-2
 returns-2 c =
-    let m = c .before in
-    let a = m .before .before .before .args in
+    let a = c .before .before .args in
     let p = a .progress in
-    ap (λ (r : Registers). stopped (record { registers = r; place = p .place }) (p .at) (p .sent))
-    (settledBy-none (p .sent) (p .at) (a .device .registers) (p .slice) (m .match .keys2))
+    settledBy-none (p .sent) (p .at) (a .registers) (p .slice) (c .match .keys2)
 
 pub settle-spec : {M : Type 1} → statement M
 settle-spec = tie.close (tie.spec enum-known-sent store-requires date-requires returns returns-2)

@@ -1,63 +1,49 @@
-use mathlib.Core.Path.{_≡_, refl, sym, _∙_}
-use Prim.Native.Nat.{_-_, _<_}
-use lib.ListN.{length, drop}
+-- Nine or more low states are heard as the last nine of them are, from 0. Assumes nothing.
 use borrow.Author.Needs.{needs}
-use Rattle.turns.specs.Front.{hearAll}
-use Rattle.turns.proofs.Phases.{hear-end, hear-stop, hear-next}
+use native.Mathlib.Omega.{arith}
+use mathlib.Core.Path.{_≡_, sym, _∙_}
+use Prim.Native.Nat.{ℕ, _-_, _+_, _≤_}
+use Rattle.turns.proofs.LowStates.{lows-forget, lows-same}
 use Rattle.turns.proofs.front.hear_all.Statement.{statement}
 use Rattle.turns.proofs.front.hear_all.Tie as tie
 
-abbrev Inv-loop : tie.InvT-loop
-Inv-loop window states from w₀ i₀ w i = (w < 65536) × (hearAll window (drop from states) from ≡ hearAll w (drop i states) i)
+low-blocks-requires : tie.Need-low-blocks-requires
+low-blocks-requires c κs = search needs
 
-abbrev μ-loop : tie.MeasureT-loop
-μ-loop window states from w₀ i₀ w i = length states - i
+sub-if1 : tie.Need-sub-if1
+sub-if1 c = search needs
 
-loop-holds : tie.Need-loop-holds Inv-loop μ-loop
-loop-holds c = (search needs, refl)
+hear-each-requires : tie.Need-hear-each-requires
+hear-each-requires c κs = search needs
 
-shared-slice-read-s : tie.Need-shared-slice-read-s Inv-loop μ-loop
-shared-slice-read-s c = search needs
+returns : tie.Need-returns
+returns c = search needs
 
-returns : tie.Need-returns Inv-loop μ-loop
-returns c =
-    let t = c .before .before .before in
-    let l = t .loop in
-    sym (l .inv .1 ∙ hear-stop (l .w) (t .before .args .states .now) (l .i) (l .i) (c .before .before .loop-test .taken) (c .if1 .taken))
+sub-hear-each : tie.Need-sub-hear-each
+sub-hear-each c = search needs
 
-cast-w : tie.Need-cast-w Inv-loop μ-loop
-cast-w c = search needs
+hear-each-requires-2 : tie.Need-hear-each-requires-2
+hear-each-requires-2 c κs = search needs
 
-mul-w : tie.Need-mul-w Inv-loop μ-loop
-mul-w c = search needs
-
-cast-w-2 : tie.Need-cast-w-2 Inv-loop μ-loop
-cast-w-2 c = search needs
-
-add-w : tie.Need-add-w Inv-loop μ-loop
-add-w c = search needs
-
-cast-w-3 : tie.Need-cast-w-3 Inv-loop μ-loop
-cast-w-3 c = search needs
-
-add-i : tie.Need-add-i Inv-loop μ-loop
-add-i c = search needs
-
-loop-less : tie.Need-loop-less Inv-loop μ-loop
-loop-less c = search needs
-
-loop-again : tie.Need-loop-again Inv-loop μ-loop
-loop-again c =
-    let t = c .before .before .before in
-    let l = t .loop in
-    (search needs, l .inv .1 ∙ hear-next (l .w) (t .before .args .states .now) (l .i) (l .i) (c .before .before .loop-test .taken) (c .if1 .left))
-
-returns-2 : tie.Need-returns-2 Inv-loop μ-loop
+returns-2 : tie.Need-returns-2
 returns-2 c =
-    let l = c .before .loop in
-    sym (l .inv .1 ∙ hear-end (l .w) (c .before .before .args .states .now) (l .i) (l .i) (c .loop-test .left))
+    let t = c .before .before in
+    let a = t .before .before .args in
+    let e : ℕ = t .low-blocks .result in
+    let far : a .from + 9 ≤ e = search needs in
+    let place : a .from + (e - 9 - a .from) ≡ e - 9 = omega (arith, far) in
+    let nine : e ≡ e - 9 + 9 = omega (arith, far) in
+    c .hear-each2 .ensures
+    ∙ sym (lows-forget (a .states .now) (e - 9 - a .from) (a .window) 0 (a .from) (e - 9) place (lows-same (a .states .now) (a .from) e (e - 9 + 9) nine (t .low-blocks .ensures .1)))
 
 pub hear-all-spec : {M : Type 1} → statement M
 hear-all-spec =
     tie.close
-    (tie.spec Inv-loop μ-loop loop-holds shared-slice-read-s returns cast-w mul-w cast-w-2 add-w cast-w-3 add-i loop-less loop-again returns-2)
+    (tie.spec
+    low-blocks-requires
+    sub-if1
+    hear-each-requires
+    returns
+    sub-hear-each
+    hear-each-requires-2
+    returns-2)

@@ -9,8 +9,8 @@ enum-told c = search needs
 enum-told-2 : tie.Need-enum-told-2
 enum-told-2 c = search needs
 
-listen-requires : tie.Need-listen-requires
-listen-requires c κs = search needs
+join-requires : tie.Need-join-requires
+join-requires c κs = search needs
 
 enum-told-3 : tie.Need-enum-told-3
 enum-told-3 c = search needs
@@ -21,8 +21,8 @@ state-before-requires c κs = search needs
 hear-requires : tie.Need-hear-requires
 hear-requires c κs = search needs
 
-listen-requires-2 : tie.Need-listen-requires-2
-listen-requires-2 c κs = search needs
+follow-requires : tie.Need-follow-requires
+follow-requires c κs = search needs
 
 returns : tie.Need-returns
 unfolding onward
@@ -30,13 +30,13 @@ returns c = rw (c .enum-told .given .1)
 
 returns-2 : tie.Need-returns-2
 unfolding onward
-returns-2 c = rw (c .listen .ensures, c .before .enum-told2 .given .1)
+returns-2 c = rw (c .join .ensures, c .before .enum-told2 .given .1)
 
 returns-3 : tie.Need-returns-3
 unfolding onward
 returns-3 c =
     let h = c .before in
-    rw (c .listen2 .ensures, h .hear .ensures, h .before .state-before .ensures, h .before .before .enum-told3 .given .1)
+    rw (c .follow .ensures, h .hear .ensures, h .before .state-before .ensures, h .before .before .enum-told3 .given .1)
 
 pub hear-on-spec : {M : Type 1} → statement M
 hear-on-spec =
@@ -44,11 +44,11 @@ hear-on-spec =
     (tie.spec
     enum-told
     enum-told-2
-    listen-requires
+    join-requires
     enum-told-3
     state-before-requires
     hear-requires
-    listen-requires-2
+    follow-requires
     returns
     returns-2
     returns-3)

@@ -1,6 +1,7 @@
 -- Inside: the watchdog of the device of a turn. What is under way to it reaches it first, in the clock in which it was sent; then come its own
 -- states, one to a clock. A device that stores, or that passes, then hears all the high states that follow, which it will pass: so it needs no
--- look before a header reaches it again, or the end. While its bit is set it goes by an ear, which the run keeps from device to device. That the whole is the run clock by clock is in proofs/ByClock and proofs/Same.
+-- look before a header reaches it again, or the end. While its bit is set it goes by an ear, which the run keeps from device to device. That the
+-- whole is the run clock by clock is in proofs/ByClock and proofs/Same.
 use Prim.Native.Nat.{ℕ, _-_, _%_}
 use mathlib.Core.Bool.{Bool, false, _||_, cond}
 use mathlib.Core.List.{List, [], _∷_}

@@ -134,7 +134,7 @@ struct bb_answer {
 /* A line that a device's watchdog watches. */
 struct bb_line {
     uint64_t still; /* the count: clocks without a change, 0 to BB_MOST_STILL, where it stops */
-    uint64_t level; /* where the line stands: 0 or 1 */
+    uint8_t level;  /* where the line stands: 0 or 1 */
 };
 
 /*
@@ -149,7 +149,7 @@ struct bb_watch {
     struct bb_line din;   /* the data line */
     struct bb_line loadi; /* the load line */
     uint32_t limit;       /* of both counts: 1 to BB_MOST_STILL */
-    uint32_t bit;         /* the number of the configuration bit that enables it: 1, 2, 3, 5, 6 or 7 */
+    uint8_t bit;          /* the number of the configuration bit that enables it: 1, 2, 3, 5, 6 or 7 */
 };
 
 /*
@@ -203,7 +203,8 @@ struct bb_place {
 };
 
 /*
- * One device: a record of plain numbers. No call looks at the padding before `position` and behind `place`.
+ * One device: a record of plain numbers. No call looks at the padding before `position`, behind a line's `level`,
+ * behind the watchdog's `bit` and behind `place`.
  */
 struct bb_device {
     struct bb_registers registers;

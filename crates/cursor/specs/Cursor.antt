@@ -2,8 +2,8 @@
 -- device of the next turn, the next state, where the high states at it end and what watchdogs go by there, the states returned so far, and a
 -- header that is under way.
 use Rattle.std.specs.Prelude.{ℕ, Bool, true, false, cond, List, [], ◌∷◌, ltb}
-use Rattle.hearing.specs.Ear.{no_ear}
-use Rattle.hearing.specs.declared.ear.Ear.{Ear}
+use Rattle.watch.specs.Ear.{no_ear}
+use Rattle.watch.specs.declared.ear.Ear.{Ear}
 use Rattle.intake.specs.Intake.{highs_end}
 use Rattle.phases.specs.declared.phase.Sent.{Sent}
 use Rattle.phases.specs.declared.phase.Sent.TheVariants.{Nothing, One, Header}

@@ -2,7 +2,7 @@
 ghost use Rattle.std.specs.Prelude.{◌≡◌, drop};
 ghost use Rattle.cursor.specs.Cursor.{index_of, turn_by_state, next_turn, halted};
 
-use hearing::Ear;
+use watch::Ear;
 use phases::Sent;
 
 // Words come first, and what is smaller comes last: a gap in the middle slows each move.
@@ -38,7 +38,7 @@ pub fn next_turn(
 ) -> Cursor
     ensures { result ≡ next_turn count front at written pending (drop at states.now) }
 {
-    let ear = hearing::no_ear();
+    let ear = watch::no_ear();
     if let Sent::Header { .. } = pending {
         return Cursor {
             count,
@@ -59,7 +59,7 @@ pub fn next_turn(
 pub fn turn_by_state(count: usize, front: usize, at: usize, written: usize, states: &[u8]) -> Cursor
     ensures { result ≡ turn_by_state count front at written (drop at states.now) }
 {
-    let ear = hearing::no_ear();
+    let ear = watch::no_ear();
     if at < states.len() {
         if states[at] < 2 {
             Cursor {
@@ -105,7 +105,7 @@ pub fn turn_by_state(count: usize, front: usize, at: usize, written: usize, stat
 pub fn halt() -> Cursor
     ensures { result ≡ halted }
 {
-    let ear = hearing::no_ear();
+    let ear = watch::no_ear();
     Cursor {
         count: 0,
         front: 0,

@@ -36,7 +36,7 @@ fn enter_under(refusal: u8, n: usize, states: &[u8]) -> Entry
     if refusal == 0 {
         let mut cursor = crate::cursor::turn_by_state(n, 0, 0, 0, states);
         cursor.end = intake::highs_end(states, 0);
-        cursor.ear = hearing::no_ear();
+        cursor.ear = watch::no_ear();
         Entry { refusal, cursor }
     } else {
         let cursor = crate::cursor::halt();

@@ -1,5 +1,7 @@
 // The parts, the four commands, and the number of devices. What they mean, and what slices are, is in specs/Parts; frames as bits and as line
 // states are in specs/Wire.
+#![tactic(auto)]
+
 mod command;
 mod count;
 mod part;

@@ -25,8 +25,8 @@ use Rattle.positions.specs.Running.{has_ended, position_by, by_clock, dated}
 use Rattle.turns.proofs.Stored.{stored-watch, stored-cleared, stored-keeps}
 use Rattle.watch.specs.declared.watch.Watch.{Watch}
 use Rattle.watch.specs.declared.kept.Listened.{Listened}
-use Rattle.hearing.specs.declared.ear.Ear.{Ear}
-use Rattle.hearing.specs.declared.ear.Followed.{Followed}
+use Rattle.watch.specs.declared.ear.Ear.{Ear}
+use Rattle.watch.specs.declared.ear.Followed.{Followed}
 use Rattle.turns.specs.declared.turning.Turn.{Turn}
 use Rattle.intake.specs.Intake.{settled_by}
 use Rattle.intake.specs.declared.taken.Progress.{Progress}

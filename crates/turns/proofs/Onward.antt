@@ -9,10 +9,10 @@ use native.Mathlib.Omega.{arith}
 use lib.ListN.{length, get_or, take, drop}
 use Rattle.watch.specs.Watch.{load_bit, last_of}
 use Rattle.watch.specs.Kept.{watch_in, listened}
-use Rattle.hearing.specs.declared.ear.Ear.{Ear}
+use Rattle.watch.specs.declared.ear.Ear.{Ear}
 use Rattle.watch.specs.declared.kept.Listened.{Listened}
 use Rattle.watch.specs.declared.watch.Watch.{Watch}
-use Rattle.hearing.proofs.Ears.{Right, Loaded, right-later, followed-on, followed-right, joined-on, joined-right}
+use Rattle.watch.proofs.Ears.{Right, Loaded, right-later, followed-on, followed-right, joined-on, joined-right}
 use Rattle.phases.specs.declared.phase.Sent.{Sent}
 use Rattle.phases.specs.declared.phase.Sent.TheVariants.{Nothing, One, Header}
 use Rattle.device.specs.declared.device.Device.{Device}

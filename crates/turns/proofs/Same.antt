@@ -28,8 +28,8 @@ use Rattle.intake.specs.Intake.{stopped, high_taken, progress_of, highs_end}
 use Rattle.intake.proofs.Settled.{Settles, settled-high}
 use Rattle.watch.specs.Watch.{load_bit}
 use Rattle.watch.specs.Kept.{listened}
-use Rattle.hearing.specs.declared.ear.Ear.{Ear}
-use Rattle.hearing.proofs.Ears.{Right, Loaded, right-none, right-later}
+use Rattle.watch.specs.declared.ear.Ear.{Ear}
+use Rattle.watch.proofs.Ears.{Right, Loaded, right-none, right-later}
 use Rattle.watch.proofs.Clocks.{listened-append, listened-bit}
 use Rattle.watch.specs.declared.kept.Listened.{Listened}
 use Rattle.turns.specs.Watching.{is_on, hearing, watched_turn}

@@ -262,7 +262,7 @@ front_by_lem d ss i low passing h e g =
     ∙ ap (λ (xs : List ℕ). front_by d xs i (ltb (get_or ss i 0) 2) (passes d)) (drop-on ss i h)
     ∙ ap (λ (xs : List ℕ). front_taken d xs i) (sym (drop-on ss i h))
 
-pub front_low : (d : Device) (ss : List ℕ) (i : ℕ) → i < length ss → get_or ss i 0 < 2 → low_taken d (drop i ss) i ≡ front_taken d (drop i ss) i
+pub front_low : (d : Device) (ss : List ℕ) (i : ℕ) → i < length ss → get_or ss i 0 < 2 → low_taken d Nothing (drop i ss) i ≡ front_taken d (drop i ss) i
 front_low d ss i h l = front_by_lem d ss i true (passes d) h (lt-ltb (get_or ss i 0) 2 l) refl
 
 pub front-passes : (d : Device) (ss : List ℕ) (i : ℕ) → i < length ss → 2 ≤ get_or ss i 0 → passes d ≡ true → stopped d i (One 0) ≡ front_taken d (drop i ss) i

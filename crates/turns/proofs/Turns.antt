@@ -26,7 +26,7 @@ use Rattle.turns.specs.Front.{passes, phase_run, phase_taken, front_taken, slice
 use Rattle.turns.specs.Front.{device_turn, within, turned, turned_out, Running, turning, turns, started, enough, Turned, turn_taken, front_watched, cursor_to, on_to, cursor_after, leave_after, leave_room}
 use Rattle.turns.specs.Watching.{watched_turn}
 use Rattle.turns.specs.declared.turning.Turn.{Turn}
-use Rattle.hearing.specs.declared.ear.Ear.{Ear}
+use Rattle.watch.specs.declared.ear.Ear.{Ear}
 use Rattle.turns.proofs.LeavingStates.{high_count-within, length-put}
 use Rattle.turns.proofs.Phases.{phase_run-low, phase_run-along}
 use Rattle.tables.proofs.Booleans.{cond_both}

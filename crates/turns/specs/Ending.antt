@@ -1,7 +1,10 @@
 -- Inside: how a run ends, by its refusal, and what each device is then by the last clock. Where it begins is in cursor/specs/Entry.
 use Rattle.std.specs.Prelude.{ℕ, Bool, cond, List, eqb, length}
-use Rattle.registers.specs.Held.{activated}
+use Rattle.watch.specs.Watch.{line, with_lines}
+use Rattle.watch.specs.declared.watch.Watch.{Watch}
+use Rattle.registers.specs.Held.{with_watch, activated}
 use Rattle.registers.specs.declared.registers.Registers.{Registers}
+use Rattle.positions.specs.Running.{by_clock}
 use Rattle.device.specs.declared.device.Device.{Device}
 use Rattle.calls.specs.Calls.{run_refusal}
 use Rattle.cursor.specs.Cursor.{halted}
@@ -19,6 +22,12 @@ run_end ds ss os = run_under (run_refusal ds ss (length os)) ds ss os
 -- registers that show what waited, if a frame has ended, and have no value, if their watchdog has expired
 abbrev pub shown_if : Bool → Bool → Registers → Registers
 shown_if ended expired r = cleared_if expired (cond ended (activated r) r)
+
+-- a device as it is shown by clock t, with the counts of a watchdog
+abbrev pub shown_with : Device → Watch → ℕ → Device
+shown_with d w t =
+    let v : Watch = d.registers.watch in
+    record { registers = with_watch (by_clock t d.registers) (with_lines v (line w.din.still v.din.level) (line w.loadi.still v.loadi.level)); place = d.place }
 
 -- a device by clock t of the run
 abbrev pub by_clock_device : ℕ → Device → Device

@@ -16,7 +16,7 @@ use Rattle.intake.specs.declared.taken.Taken.{Taken}
 use Rattle.calls.specs.Chain.{blank}
 use Rattle.cursor.specs.declared.cursor.Cursor.{Cursor}
 use Rattle.cursor.specs.Cursor.{with_ahead, next_turn, halted, begin_run}
-use Rattle.hearing.specs.declared.ear.Ear.{Ear}
+use Rattle.watch.specs.declared.ear.Ear.{Ear}
 use Rattle.turns.specs.Watching.{watched_turn}
 use Rattle.turns.specs.declared.turning.Turn.{Turn}
 use Rattle.turns.specs.declared.front.PhaseRun.{PhaseRun}
@@ -95,9 +95,11 @@ after_header d (Header c n) = slice_start d c n
 after_header d Nothing = d
 after_header d (One s) = d
 
--- a device at a low state
-abbrev pub low_taken : Device → List ℕ → ℕ → Taken
-low_taken d ss i = phase_taken d (phase_run (phase_of d.place) ss i)
+-- such a device at a low state, which after a header it leaves to the first device
+abbrev pub low_taken : Device → Sent → List ℕ → ℕ → Taken
+low_taken d (Header c n) ss i = stopped d i Nothing
+low_taken d Nothing ss i = phase_taken d (phase_run (phase_of d.place) ss i)
+low_taken d (One s) ss i = phase_taken d (phase_run (phase_of d.place) ss i)
 
 -- a device that sent, or passes, is no longer the front
 abbrev pub front_after : ℕ → Sent → ℕ

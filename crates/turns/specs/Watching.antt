@@ -5,9 +5,9 @@
 use Rattle.std.specs.Prelude.{ℕ, ◌-◌, ◌%◌, Bool, false, ◌||◌, cond, List, [], ◌∷◌, get_or, take, drop}
 use Rattle.watch.specs.Watch.{enabled}
 use Rattle.watch.specs.Kept.{watch_by, expired_by, watch_in, moved_in, listened}
-use Rattle.hearing.specs.Ear.{followed, joined}
-use Rattle.hearing.specs.declared.ear.Ear.{Ear}
-use Rattle.hearing.specs.declared.ear.Followed.{Followed}
+use Rattle.watch.specs.Ear.{followed, joined}
+use Rattle.watch.specs.declared.ear.Ear.{Ear}
+use Rattle.watch.specs.declared.ear.Followed.{Followed}
 use Rattle.watch.specs.declared.watch.Watch.{Watch}
 use Rattle.watch.specs.declared.kept.Listened.{Listened}
 use Rattle.phases.specs.declared.phase.Sent.{Sent}

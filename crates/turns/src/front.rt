@@ -2,6 +2,7 @@
 ghost use Rattle.std.specs.Prelude.{◌≡◌, true, ℕ, ◌<◌, ◌≤◌, ◌+◌, length, get_or, drop};
 ghost use Rattle.intake.specs.Intake.{progress_of};
 ghost use Rattle.turns.specs.Front.{is_lost, low_taken, device_taken};
+ghost use Rattle.phases.specs.declared.phase.Sent.TheVariants.{Nothing};
 ghost use Rattle.turns.specs.Front.{phase_only, phase_step, phase_run, hear_all, hunts_on};
 
 use device::Device;
@@ -50,7 +51,7 @@ pub fn device_take(device: Device, pending: Sent, states: &[u8], at: usize) -> P
 
 // From a low state on as long as the phase alone goes on, so that a flood moves no record.
 fn low_take(device: Device, states: &[u8], at: usize) -> Progress
-    ensures { result ≡ progress_of (low_taken device (drop at states.now) at) }
+    ensures { result ≡ progress_of (low_taken device Nothing (drop at states.now) at) }
 {
     let place = device.place;
     let before = phases::phase_of(place);

@@ -7,7 +7,7 @@ ghost use Rattle.turns.specs.Ending.{by_clock_device, shown_if};
 
 use cursor::Cursor;
 use device::Device;
-use hearing::Ear;
+use watch::Ear;
 use phases::Sent;
 use registers::Registers;
 

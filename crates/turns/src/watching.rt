@@ -6,7 +6,7 @@ ghost use Rattle.intake.specs.Intake.{settled_by};
 
 use crate::turning::Turn;
 use device::Device;
-use hearing::{Ear, Followed};
+use watch::{Ear, Followed};
 use intake::Progress;
 use phases::Sent;
 use registers::Registers;
@@ -108,7 +108,7 @@ fn overhear(
     ensures { result ≡ overheard pending sent on states.now at to watch }
 {
     let reached = reach(watch, on, pending, at);
-    let own = hearing::listen(reached.watch, on, states, at, heard_to(sent, to));
+    let own = watch::listen(reached.watch, on, states, at, heard_to(sent, to));
     let late = is_late(own.watch, on, sent, to);
     Listened {
         watch: own.watch,
@@ -173,10 +173,10 @@ fn hear_on(
             },
             ear,
         },
-        Sent::One(_) => hearing::join(watch, on, ear, states, to, end),
+        Sent::One(_) => watch::join(watch, on, ear, states, to, end),
         Sent::Header { .. } => {
             let stored = watch::hear(watch, before, on, to, state_before(states, to));
-            hearing::follow(stored, on, ear, states, to, end)
+            watch::follow(stored, on, ear, states, to, end)
         }
     }
 }

@@ -15,7 +15,7 @@ const INDIVIDUAL: u8 = 0;
 const SLICE: u8 = 3;
 
 // A device that waits for SYNC. Both its lines have stood still for so many clocks, at these levels.
-pub fn still_for(configuration: u8, limit: u32, clocks: u64, data: u64, load: u64) -> Device {
+pub fn still_for(configuration: u8, limit: u32, clocks: u64, data: u8, load: u8) -> Device {
     let watch = Watch {
         din: line_of(clocks, data),
         loadi: line_of(clocks, load),
@@ -32,7 +32,7 @@ pub fn still_for(configuration: u8, limit: u32, clocks: u64, data: u64, load: u6
     with_values(Device { registers, place })
 }
 
-fn line_of(still: u64, level: u64) -> Line {
+fn line_of(still: u64, level: u8) -> Line {
     Line { still, level }
 }
 

@@ -7,8 +7,8 @@ use device::Device;
 pub struct Seen {
     pub data: u64,
     pub load: u64,
-    pub data_level: u64,
-    pub load_level: u64,
+    pub data_level: u8,
+    pub load_level: u8,
     pub waiting0: u16,
     pub waiting1: u16,
     pub active0: u16,
@@ -16,7 +16,7 @@ pub struct Seen {
 }
 
 // The values are those that were there before.
-pub fn kept(data: u64, load: u64, data_level: u64, load_level: u64) -> Seen {
+pub fn kept(data: u64, load: u64, data_level: u8, load_level: u8) -> Seen {
     Seen {
         data,
         load,
@@ -30,7 +30,7 @@ pub fn kept(data: u64, load: u64, data_level: u64, load_level: u64) -> Seen {
 }
 
 // The watchdog has expired.
-pub fn cleared(data: u64, load: u64, data_level: u64, load_level: u64) -> Seen {
+pub fn cleared(data: u64, load: u64, data_level: u8, load_level: u8) -> Seen {
     Seen {
         data,
         load,
@@ -72,8 +72,8 @@ fn words(seen: Seen) {
     cases::count(seen.data);
     cases::count(seen.load);
     cases::text(b", levels");
-    cases::count(seen.data_level);
-    cases::count(seen.load_level);
+    cases::count(seen.data_level as u64);
+    cases::count(seen.load_level as u64);
     cases::text(b", values");
     cases::count(seen.waiting0 as u64);
     cases::count(seen.waiting1 as u64);

@@ -1,2 +1,5 @@
 -- Laws of a watchdog within a run.
 pub mod Clocks
+pub mod Changes
+pub mod Ears
+pub mod ByBlock

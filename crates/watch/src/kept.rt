@@ -42,8 +42,8 @@ pub fn hear(watch: Watch, before: bool, on: bool, clock: usize, state: u8) -> Wa
     ensures { result ≡ watch_in before on clock (state ∷ []) watch }
 {
     Watch {
-        din: line_in(watch.din, before, on, clock, (state % 2) as u64),
-        loadi: line_in(watch.loadi, before, on, clock, (state / 2) as u64),
+        din: line_in(watch.din, before, on, clock, state % 2),
+        loadi: line_in(watch.loadi, before, on, clock, state / 2),
         limit: watch.limit,
         bit: watch.bit,
     }
@@ -54,15 +54,25 @@ pub fn move_lines(watch: Watch, on: bool, clock: usize, din: u8, loadi: u8) -> W
     ensures { result ≡ moved_in on clock din loadi watch }
 {
     Watch {
-        din: moved_line(watch.din, on, clock, din as u64),
-        loadi: moved_line(watch.loadi, on, clock, loadi as u64),
+        din: moved_line(watch.din, on, clock, din),
+        loadi: moved_line(watch.loadi, on, clock, loadi),
         limit: watch.limit,
         bit: watch.bit,
     }
 }
 
-// One state in each clock, from a place up to another, while the bit is clear: only the last state is looked at.
-pub fn listen_off(watch: Watch, states: &[u8], from: usize, to: usize) -> Listened
+// One state in each clock, from a place up to another, while the configuration stays.
+pub fn listen(watch: Watch, on: bool, states: &[u8], from: usize, to: usize) -> Listened
+    ensures { result ≡ listened on from (take (to - from) (drop from states.now)) watch }
+{
+    if on {
+        return crate::blocks::listen_on(watch, states, from, to);
+    }
+    listen_off(watch, states, from, to)
+}
+
+// While the bit is clear only the last state is looked at.
+fn listen_off(watch: Watch, states: &[u8], from: usize, to: usize) -> Listened
     ensures { result ≡ listened false from (take (to - from) (drop from states.now)) watch }
 {
     let end = lesser(to, states.len());
@@ -114,7 +124,7 @@ fn at_most_the_end(n: u64) -> u64
 }
 
 // A line takes one level in a clock.
-fn line_in(line: Line, before: bool, on: bool, clock: usize, level: u64) -> Line
+fn line_in(line: Line, before: bool, on: bool, clock: usize, level: u8) -> Line
     ensures { result ≡ line_in before on clock (level ∷ []) line }
 {
     if on {
@@ -130,7 +140,7 @@ fn line_in(line: Line, before: bool, on: bool, clock: usize, level: u64) -> Line
 }
 
 // Its count, where the bit is set at the end of the clock.
-fn still_in(line: Line, before: bool, clock: usize, level: u64) -> u64
+fn still_in(line: Line, before: bool, clock: usize, level: u8) -> u64
     ensures { result ≡ still_in before clock (moved line.level (level ∷ [])) line.still }
 {
     if line.level != level {
@@ -146,7 +156,7 @@ fn still_in(line: Line, before: bool, clock: usize, level: u64) -> u64
 }
 
 // A line that changes in a clock.
-fn moved_line(line: Line, on: bool, clock: usize, level: u64) -> Line
+fn moved_line(line: Line, on: bool, clock: usize, level: u8) -> Line
     ensures { result ≡ moved_line on clock level line }
 {
     if on {

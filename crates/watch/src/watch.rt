@@ -8,9 +8,8 @@ ghost use Rattle.watch.specs.Watch.{is_bit, is_limit, line_fits, watch_fits, ena
 pub struct Line {
     // The clocks for which it has stood still.
     pub still: u64,
-    // The level last seen. As wide as the count, and the bit as the limit, so that no bytes stand between a record's numbers: such bytes are
-    // slow to move.
-    pub level: u64,
+    // The level last seen.
+    pub level: u8,
 }
 
 #[repr(C)]
@@ -21,18 +20,11 @@ pub struct Watch {
     // A line that has stood still for so many clocks has stopped.
     pub limit: u32,
     // The number of the configuration bit that enables it.
-    pub bit: u32,
+    pub bit: u8,
 }
 
 // A configuration bit that may enable a watchdog.
 pub fn is_bit(bit: u8) -> bool
-    ensures { result ≡ is_bit bit }
-{
-    bit_fits(bit as u32)
-}
-
-// The same, as a record has it.
-fn bit_fits(bit: u32) -> bool
     ensures { result ≡ is_bit bit }
 {
     1 <= bit && (bit <= 7 && bit != 4)
@@ -55,8 +47,7 @@ fn line_fits(line: Line) -> bool
 pub fn watch_fits(watch: Watch) -> bool
     ensures { result ≡ watch_fits watch }
 {
-    bit_fits(watch.bit)
-        && (is_limit(watch.limit) && (line_fits(watch.din) && line_fits(watch.loadi)))
+    is_bit(watch.bit) && (is_limit(watch.limit) && (line_fits(watch.din) && line_fits(watch.loadi)))
 }
 
 // The configuration has the enabling bit.
@@ -79,6 +70,6 @@ pub fn fresh(bit: u8, limit: u32) -> Watch
         din: Line { still: 0, level: 0 },
         loadi: Line { still: 0, level: 0 },
         limit,
-        bit: bit as u32,
+        bit,
     }
 }

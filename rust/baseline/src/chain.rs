@@ -154,7 +154,7 @@ pub fn fresh(devices: &mut [Device], part: u16, bit: u8, limit: u32) -> Result<(
     if devices.is_empty() || devices.len() > 1023 {
         return Err(2);
     }
-    if !watch::is_told(u32::from(bit), limit) {
+    if !watch::is_told(bit, limit) {
         return Err(13);
     }
     devices.fill(Device::watched(part, bit, limit));

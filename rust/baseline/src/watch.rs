@@ -28,7 +28,7 @@ pub fn fits(watch: &Watch) -> bool {
 
 /// Whether a chain can be told this bit and this limit.
 #[inline]
-pub fn is_told(bit: u32, limit: u32) -> bool {
+pub fn is_told(bit: u8, limit: u32) -> bool {
     bit < 8 && 0b1110_1110 >> bit & 1 == 1 && limit.wrapping_sub(1) < MOST_STILL as u32
 }
 
@@ -55,7 +55,7 @@ pub fn idle(r: &mut Registers, clocks: usize) {
 /// A clock in which the device is sent a header, which changes both lines and ends at high load.
 #[inline]
 pub fn burst(r: &mut Registers, count: u16) {
-    let level = u64::from(count & 1);
+    let level = (count & 1) as u8;
     (r.watch.din, r.watch.loadi) = (Line { still: 0, level }, Line { still: 0, level: 1 });
 }
 
@@ -108,7 +108,7 @@ fn last_other(states: &[u8], than: u8, bit: u8) -> Option<usize> {
 
 /// A line at the end of states, of which the last change is known. The count may be over its most.
 fn follow(line: &mut Line, states: &[u8], bit: u8, change: Option<usize>) {
-    let level = |state: u8| u64::from(state & bit != 0);
+    let level = |state: u8| u8::from(state & bit != 0);
     line.still = match change {
         Some(change) => (states.len() - 1 - change) as u64,
         None if level(states[0]) != line.level => states.len() as u64 - 1,
@@ -120,7 +120,7 @@ fn follow(line: &mut Line, states: &[u8], bit: u8, change: Option<usize>) {
 /// Whether the count of a line comes to a limit within states. Looked at is each place at which it would, and back from
 /// there to a change.
 fn comes_to(line: Line, states: &[u8], bit: u8, limit: usize) -> bool {
-    let mut at = match u64::from(states[0] & bit != 0) == line.level {
+    let mut at = match u8::from(states[0] & bit != 0) == line.level {
         true => match limit.checked_sub(line.still as usize + 1) {
             Some(at) => at,
             None => return true,
@@ -158,7 +158,7 @@ fn stop(watch: &mut Watch) {
 /// The levels are those of a state.
 #[inline]
 fn stand(watch: &mut Watch, state: u8) {
-    (watch.din.level, watch.loadi.level) = (u64::from(state & 1), u64::from(state >> 1));
+    (watch.din.level, watch.loadi.level) = (state & 1, state >> 1);
 }
 
 /// Whether a count is at the limit or over it.

@@ -78,13 +78,13 @@ pub fn watch(random: &mut Random) -> Watch {
     let (bit, limit) = (random.pick(&BITS), limit(random));
     let mut line = || Line {
         still: still(random, limit),
-        level: random.below(2) as u64,
+        level: random.below(2) as u8,
     };
     Watch {
         din: line(),
         loadi: line(),
         limit,
-        bit: u32::from(bit),
+        bit,
     }
 }
 
@@ -207,10 +207,10 @@ fn past_end(random: &mut Random, length: u64) -> u64 {
 fn damage_watch(random: &mut Random, watch: &mut Watch) {
     let (byte, any) = (random.byte(), random.next());
     let most = MOST_STILL as u32;
-    let level = random.pick(&[0, 1, 2, 3, 255, 256, 257, u64::from(byte), any]);
+    let level = random.pick(&[0, 1, 2, 3, 255, byte]);
     let still = random.pick(&[MOST_STILL, MOST_STILL + 1, 1 << 32, u64::MAX, any]);
     match random.below(6) {
-        0 => watch.bit = random.pick(&[0, 1, 4, 5, 7, 8, 9, 255, 257, u32::from(byte), any as u32]),
+        0 => watch.bit = random.pick(&[0, 1, 4, 5, 7, 8, 9, 255, byte]),
         1 => watch.limit = random.pick(&[0, 1, most, most + 1, u32::MAX, any as u32]),
         2 => watch.din.level = level,
         3 => watch.loadi.level = level,
@@ -275,7 +275,7 @@ pub fn junk(random: &mut Random) -> Device {
                 din: junk_line(random),
                 loadi: junk_line(random),
                 limit: random.next() as u32,
-                bit: random.next() as u32,
+                bit: random.byte(),
             },
         },
         place: Place {
@@ -290,6 +290,6 @@ pub fn junk(random: &mut Random) -> Device {
 fn junk_line(random: &mut Random) -> Line {
     Line {
         still: random.next(),
-        level: random.next(),
+        level: random.byte(),
     }
 }

@@ -80,7 +80,7 @@ fn at_last_bit(mut device: Device, command: Command, counts: [u64; 2], levels: [
 fn lines(r: &mut Registers, counts: [u64; 2], levels: [u8; 2]) {
     let line = |k: usize| Line {
         still: counts[k],
-        level: u64::from(levels[k]),
+        level: levels[k],
     };
     (r.watch.din, r.watch.loadi) = (line(0), line(1));
 }

@@ -94,16 +94,15 @@ const NUMBERS: Events = Events {
     ],
 };
 
-/// Every byte and some wider numbers as bit and level, chosen limits and counts, in every call that takes a record or a
-/// chain.
+/// Every bit and level, chosen limits and counts, in every call that takes a record or a chain.
 pub fn judged() -> Tally {
     let mut tally = Tally::new("records by their watchdog", 0x13AB);
     tally.of_each_part(6, |case, random, part| {
-        for number in (0..=257).chain([1 << 16 | 1, u32::MAX]) {
-            let (is_bit, level) = ([1, 2, 3, 5, 6, 7].contains(&number), u64::from(number));
-            judge(case, random, part, 0, is_bit, |w| w.bit = number);
-            judge(case, random, part, 2, level < 2, |w| w.din.level = level);
-            judge(case, random, part, 3, level < 2, |w| w.loadi.level = level);
+        for byte in 0..=255 {
+            let is_bit = [1, 2, 3, 5, 6, 7].contains(&byte);
+            judge(case, random, part, 0, is_bit, |w| w.bit = byte);
+            judge(case, random, part, 2, byte < 2, |w| w.din.level = byte);
+            judge(case, random, part, 3, byte < 2, |w| w.loadi.level = byte);
         }
         for limit in LIMITS {
             let fits = (1..=2_000_000).contains(&limit);
@@ -287,7 +286,7 @@ fn about_store(random: &mut Random, sent: &Sent, number: usize, r: &Registers) -
         .filter(|bit| r.configuration >> bit & 1 == 1);
     let enabling: Vec<u8> = enabling.collect();
     if !enabling.is_empty() && !random.one_in(4) {
-        watch.bit = u32::from(random.pick(&enabling));
+        watch.bit = random.pick(&enabling);
     }
     let from_rise = match number {
         1 => sent.slice() + 16,
@@ -310,7 +309,7 @@ fn about_store(random: &mut Random, sent: &Sent, number: usize, r: &Registers) -
 fn ends_clock(case: &mut Case, state: u8, held: [&Registers; 2]) {
     let [before, after] = held;
     let is_enabled = after.configuration >> before.watch.bit & 1 == 1;
-    let line = |line: &Line, level: u64| Line {
+    let line = |line: &Line, level: u8| Line {
         still: match (is_enabled, line.level == level) {
             (true, true) => (line.still + 1).min(2_000_000),
             _ => 0,
@@ -318,8 +317,8 @@ fn ends_clock(case: &mut Case, state: u8, held: [&Registers; 2]) {
         level,
     };
     let expected = Watch {
-        din: line(&before.watch.din, u64::from(state & 1)),
-        loadi: line(&before.watch.loadi, u64::from(state >> 1)),
+        din: line(&before.watch.din, state & 1),
+        loadi: line(&before.watch.loadi, state >> 1),
         ..before.watch
     };
     case.same("the watchdog", after.watch, expected);
@@ -395,7 +394,7 @@ pub fn bursts() -> Tally {
         case.same("counts", [watch.din.still, watch.loadi.still], [0, 0]);
         case.same("load", watch.loadi.level, 1);
         let from = before.watch.din.level + 2 * before.watch.loadi.level;
-        case.event(BURSTS.names[(2 * from + watch.din.level) as usize]);
+        case.event(BURSTS.names[usize::from(2 * from + watch.din.level)]);
         // Nothing but an expiry clears values, and a burst is none.
         let is_boundary = before.position + 1 == frame_clocks(&before);
         case.same("waiting", after.waiting0, before.waiting0);

@@ -14,7 +14,7 @@ pub fn fresh(
 ) -> Result<(), Refusal> {
     Part::of(part)?;
     refuse(2, !(1..=1023).contains(&records.len()))?;
-    refuse(13, !is_bit(u32::from(bit)) || !is_limit(limit))?;
+    refuse(13, !is_bit(bit) || !is_limit(limit))?;
     records.fill(record::Device::watched(part, bit, limit));
     Ok(())
 }

@@ -18,7 +18,7 @@ pub struct Line {
 #[derive(Clone, Debug, PartialEq, Eq)]
 pub struct Watch {
     /// The number of the configuration bit that enables it.
-    pub bit: u32,
+    pub bit: u8,
     /// The limit of both counts.
     pub limit: u32,
     /// The data line.
@@ -28,7 +28,7 @@ pub struct Watch {
 }
 
 /// A configuration bit that means nothing else: not D0, multiplex, and not D4, GLB4.
-pub fn is_bit(bit: u32) -> bool {
+pub fn is_bit(bit: u8) -> bool {
     [1, 2, 3, 5, 6, 7].contains(&bit)
 }
 
@@ -83,7 +83,7 @@ impl Line {
     fn to_record(&self) -> record::Line {
         record::Line {
             still: self.count,
-            level: u64::from(self.level),
+            level: u8::from(self.level),
         }
     }
 

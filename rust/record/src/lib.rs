@@ -27,7 +27,7 @@ pub struct Line {
     /// Clocks without a change, up to [`MOST_STILL`].
     pub still: u64,
     /// Where the line stands, 0 or 1.
-    pub level: u64,
+    pub level: u8,
 }
 
 /// The watchdog of a device.
@@ -41,7 +41,7 @@ pub struct Watch {
     /// The limit of both counts, 1 to [`MOST_STILL`].
     pub limit: u32,
     /// The number of the configuration bit that enables it: 1, 2, 3, 5, 6 or 7.
-    pub bit: u32,
+    pub bit: u8,
 }
 
 /// What a device holds.
@@ -115,7 +115,7 @@ impl Watch {
             din: Line::FRESH,
             loadi: Line::FRESH,
             limit,
-            bit: bit as u32,
+            bit,
         }
     }
 }

@@ -27,7 +27,7 @@ use Rattle.cursor.specs.declared.entry.Entry.{Entry}
 use Rattle.cursor.specs.declared.entry.Ran.{Ran}
 use Rattle.judgement.specs.declared.judging.Judged.{Judged}
 use Rattle.phases.specs.declared.phase.Sent.{Sent}
-use Rattle.hearing.specs.declared.ear.Ear.{Ear}
+use Rattle.watch.specs.declared.ear.Ear.{Ear}
 use Rattle.turns.specs.declared.turning.Turn.{Turn}
 use Rattle.turns.specs.Front.{Running, now_at, turn_taken, cursor_after, turned, turned_out, turning, enough, on_to}
 use Rattle.refusals.specs.Rows.{run_rows}
@@ -44,8 +44,8 @@ use Rattle.judgement.specs.contracts.judging.Judged as J
 use Rattle.judgement.proofs.judging.Judged.TheLaws as J'
 use Rattle.turns.specs.contracts.turning.Turn as S
 use Rattle.turns.proofs.turning.Turn.TheLaws as S'
-use Rattle.hearing.specs.contracts.ear.Ear as G
-use Rattle.hearing.proofs.ear.Ear.TheLaws as G'
+use Rattle.watch.specs.contracts.ear.Ear as G
+use Rattle.watch.proofs.ear.Ear.TheLaws as G'
 use Rattle.phases.specs.contracts.phase.Sent as N
 use Rattle.phases.proofs.phase.Sent.TheLaws as N'
 use Rattle.refusals.proofs.Found.{run-refusal-found}

@@ -3,9 +3,6 @@ use native.Mathlib.Nat.{div-eq_of_lt, pow-le-pow_right}
 use Rattle.watch.proofs.watch.is_enabled.Statement.{statement}
 use Rattle.watch.proofs.watch.is_enabled.Tie as tie
 
-cast-result : tie.Need-overflow-cast-result
-cast-result c = search rules
-
 shr-result : tie.Need-overflow-shr-result
 shr-result c = search rules
 
@@ -18,4 +15,4 @@ returns-2 c = let l : 2 ^ 8 ≤ 2 ^ c.before.args.watch.bit = pow-le-pow_right (
     rw (div-eq_of_lt k)
 
 pub is-enabled-spec : {M : Type 1} → statement M
-is-enabled-spec = tie.close (tie.spec cast-result shr-result returns returns-2)
+is-enabled-spec = tie.close (tie.spec shr-result returns returns-2)

@@ -1,4 +1,0 @@
--- Laws of a watchdog over many states at once.
-pub mod Changes
-pub mod Ears
-pub mod ByBlock

@@ -1,0 +1,9 @@
+-- The four bytes of the high half, and then those of the low one. Assumes nothing.
+use Rattle.bits.proofs.Laws.{bits-add}
+use Rattle.packing.proofs.Writing as writing
+use borrow.Author.Rules.{rules}
+use Rattle.packing.proofs.writer.store_long.Goals as goal
+
+pub returns : goal.returns
+returns c = let x = c.args.x in
+    rw (bits-add 32 32 x) (writing.stored-then c.store_word.ensures c.store_word-2.ensures)

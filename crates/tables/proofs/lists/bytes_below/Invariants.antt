@@ -1,0 +1,14 @@
+-- The list passes where the flag is 0 and the rest of the list passes. Each turn takes one number off the rest. Assumes nothing.
+use Rattle.tables.specs.Lists.{all_below}
+use lib.ListN.{length, drop}
+use lib.Dec.{eqb}
+use mathlib.Core.Bool.{◌&&◌}
+use mathlib.Core.Path.{◌≡◌}
+use Prim.Native.Nat.{◌≤◌, ◌-◌}
+use Rattle.tables.proofs.lists.bytes_below.Given as goal
+
+abbrev pub invariant-loop-i : goal.invariant-loop-i
+invariant-loop-i l = (l.i ≤ length l.bytes) × (all_below l.bytes l.limit ≡ (eqb l.over 0 && all_below (drop l.i l.bytes) l.limit))
+
+abbrev pub decreases-loop-i : goal.decreases-loop-i
+decreases-loop-i l = length l.bytes - l.i

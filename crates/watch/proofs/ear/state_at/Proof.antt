@@ -1,0 +1,16 @@
+use lib.ListN.{get_or-eq_default}
+use Rattle.std.proofs.Common.{sym, rules}
+use Rattle.watch.proofs.ear.state_at.Statement.{statement}
+use Rattle.watch.proofs.ear.state_at.Tie as tie
+
+shared-slice-read-result : tie.Need-shared-slice-read-result
+shared-slice-read-result c = search rules
+
+returns : tie.Need-returns
+returns c = search rules
+
+returns-2 : tie.Need-returns-2
+returns-2 c = sym (get_or-eq_default c.before.args.states.now 0 c.if1.false)
+
+pub state-at-spec : {M : Type 1} → statement M
+state-at-spec = tie.close (tie.spec shared-slice-read-result returns returns-2)

@@ -1,0 +1,302 @@
+// The data line over a stretch of states at high load, by a few numbers, so that a watchdog whose device passes the stretch looks at none of its
+// states.
+ghost use Rattle.std.specs.Prelude.{◌≡◌, ◌+◌, ◌-◌, ◌≤◌, true, map, length, if◌then◌else◌, nat_lt, slice_index, slice_range};
+ghost use Rattle.watch.specs.Kept.{kept_from};
+ghost use Rattle.watch.specs.Watch.{data_bit};
+ghost use Rattle.watch.specs.Ear.{next_change, last_change, last_long, level_at, next_in, last_in, ear_from, ear_on, no_ear, comes_to, heard_by, followed, joined};
+
+use crate::kept::Listened;
+use crate::watch::{Line, Watch};
+
+#[derive(Drop)]
+pub struct Ear {
+    // For this limit, and up to this place.
+    pub limit: u32,
+    pub end: usize,
+    // The level at the end.
+    pub level: u8,
+    // The place of the next change, or the end.
+    pub next: usize,
+    // The clock of the last change, or 0.
+    pub changed: usize,
+    // The clock of the last change that is followed by a stillness as long as the limit, or 0.
+    pub long: usize,
+}
+
+// What a watchdog heard of a stretch, and the ear it went by.
+#[derive(Drop)]
+pub struct Followed {
+    pub heard: Listened,
+    pub ear: Ear,
+}
+
+// Nothing is told yet.
+pub fn no_ear() -> Ear
+    ensures { result ≡ no_ear }
+{
+    Ear {
+        limit: 0,
+        end: 0,
+        level: 0,
+        next: 0,
+        changed: 0,
+        long: 0,
+    }
+}
+
+// A watchdog that was not in step with the line hears the state at a place, and then follows.
+pub fn join(watch: Watch, on: bool, ear: Ear, states: &[u8], at: usize, end: usize) -> Followed
+    ensures { result ≡ joined on ear states.now at end watch }
+{
+    if end <= at {
+        return Followed {
+            heard: Listened {
+                watch,
+                expired: false,
+            },
+            ear,
+        };
+    }
+    let before = crate::kept::has_expired(watch, on, at);
+    let first = crate::kept::hear(watch, on, on, at + 1, state_at(states, at));
+    let then = follow(first, on, ear, states, at + 1, end);
+    Followed {
+        heard: Listened {
+            watch: then.heard.watch,
+            expired: before || then.heard.expired,
+        },
+        ear: then.ear,
+    }
+}
+
+// A watchdog in step with the line, so many clocks being over, hears the states up to the end of a stretch.
+pub fn follow(watch: Watch, on: bool, ear: Ear, states: &[u8], clock: usize, end: usize) -> Followed
+    ensures { result ≡ followed on ear states.now clock end watch }
+{
+    if on {
+        return follow_on(watch, ear, states, clock, end);
+    }
+    Followed {
+        heard: crate::kept::listen(watch, false, states, clock, end),
+        ear,
+    }
+}
+
+// While the bit is set it goes by the ear.
+fn follow_on(watch: Watch, ear: Ear, states: &[u8], clock: usize, end: usize) -> Followed
+    ensures { result ≡ followed true ear states.now clock end watch }
+{
+    let next = ear_on(ear, watch.limit, states, clock, end);
+    Followed {
+        heard: hear_by(watch, next, clock),
+        ear: next,
+    }
+}
+
+// Of a stretch that an ear was told of already, only the next change may have to be looked for.
+fn ear_on(ear: Ear, limit: u32, states: &[u8], at: usize, end: usize) -> Ear
+    ensures { result ≡ ear_on ear limit states.now at end }
+{
+    if ear.end == end && ear.limit == limit {
+        if at <= ear.next {
+            return ear;
+        }
+        return Ear {
+            limit: ear.limit,
+            end: ear.end,
+            level: ear.level,
+            next: next_change(states, at, end),
+            changed: ear.changed,
+            long: ear.long,
+        };
+    }
+    ear_from(limit, states, at, end)
+}
+
+// The states of a stretch are looked at.
+fn ear_from(limit: u32, states: &[u8], at: usize, end: usize) -> Ear
+    ensures { result ≡ ear_from limit states.now at end }
+{
+    Ear {
+        limit,
+        end,
+        level: level_before(states, end),
+        next: next_change(states, at, end),
+        changed: last_change(states, at, end),
+        long: last_long(limit as usize, states, at, one_less(end)),
+    }
+}
+
+// The watchdog goes by the ear.
+fn hear_by(watch: Watch, ear: Ear, clock: usize) -> Listened
+    ensures { result ≡ heard_by ear clock watch }
+{
+    if ear.end <= clock {
+        return Listened {
+            watch,
+            expired: false,
+        };
+    }
+    let limit = watch.limit as u64;
+    let last = ear.end - 1;
+    let load = comes_to(
+        limit,
+        crate::kept::run_on(watch.loadi.still, clock),
+        less(last, clock),
+    );
+    let data = comes_to(
+        limit,
+        crate::kept::run_on(watch.din.still, clock),
+        less(crate::kept::lesser(ear.next, last), clock),
+    );
+    Listened {
+        watch: Watch {
+            din: Line {
+                still: still_by(watch.din.still, ear.changed, clock),
+                level: ear.level,
+            },
+            loadi: watch.loadi,
+            limit: watch.limit,
+            bit: watch.bit,
+        },
+        expired: load || (data || clock < ear.long),
+    }
+}
+
+// The data line's count: from its last change on, if it changed.
+fn still_by(still: u64, changed: usize, clock: usize) -> u64
+    ensures { result ≡ (if nat_lt clock changed then kept_from changed 0 else still) }
+{
+    if clock < changed {
+        return crate::kept::keep_from(0, changed);
+    }
+    still
+}
+
+// A count that goes on for some clocks comes to the limit.
+pub fn comes_to(limit: u64, count: u64, clocks: usize) -> bool
+    ensures { result ≡ comes_to limit count clocks }
+{
+    if count >= limit {
+        return true;
+    }
+    (clocks as u64) >= limit - count
+}
+
+// The place of the next change, or the end.
+fn next_change(states: &[u8], from: usize, to: usize) -> usize
+    ensures { result ≡ next_change (level_at states.now from) (map data_bit (slice_range states.now from to)) from }
+{
+    let start = still_from(states, from, to);
+    let level = level_before(states, start);
+    let mut i = start;
+    while i < to && i < states.len() {
+        if states[i] % 2 != level {
+            return i;
+        }
+        i += 1;
+    }
+    i
+}
+
+// The place behind the blocks from a place on in which the data line does not change.
+fn still_from(states: &[u8], from: usize, to: usize) -> usize
+    ensures { next_in states.now from to ≡ next_in states.now result to }
+{
+    let end = crate::kept::lesser(to, states.len());
+    let mut i = from;
+    while i < end {
+        if end - i < 64 {
+            return i;
+        }
+        if !still_block(states, i) {
+            return i;
+        }
+        i += 64;
+    }
+    i
+}
+
+// The clock of the last change, or 0: from the end back.
+fn last_change(states: &[u8], from: usize, to: usize) -> usize
+    ensures { result ≡ last_change (level_at states.now from) (map data_bit (slice_range states.now from to)) from }
+{
+    let mut i = still_to(states, from, to);
+    while i > from {
+        if level_before(states, i) != level_before(states, i - 1) {
+            return i;
+        }
+        i -= 1;
+    }
+    0
+}
+
+// The place before the blocks at the end in which the data line does not change.
+fn still_to(states: &[u8], from: usize, to: usize) -> usize
+    ensures { (last_in states.now from to ≡ last_in states.now from result) × (result ≤ length states.now) }
+{
+    let mut i = crate::kept::lesser(to, states.len());
+    while i > from {
+        if i - from < 64 {
+            return i;
+        }
+        if !still_block(states, i - 64) {
+            return i;
+        }
+        i -= 64;
+    }
+    i
+}
+
+// Whether the data line stays at its level over a block.
+fn still_block(states: &[u8], from: usize) -> bool
+    requires { from + 64 ≤ length states.now }
+    ensures { result ≡ true → last_in states.now from (from + 64) ≡ 0 }
+{
+    crate::blocks::stays(level_before(states, from), true, states, from)
+}
+
+// The clock of the last change that is followed by a stillness as long as the limit, or 0. From the end back, a limit at a time: a change within the
+// last so many clocks makes all shorter that stands behind it.
+fn last_long(limit: usize, states: &[u8], from: usize, to: usize) -> usize
+    ensures { result ≡ last_long limit (level_at states.now from) (map data_bit (slice_range states.now from to)) from }
+{
+    let mut stop = crate::kept::lesser(to, states.len());
+    while stop > from {
+        if stop - from <= limit {
+            return 0;
+        }
+        let first = next_change(states, stop - limit, stop);
+        if first >= stop {
+            return last_change(states, from, stop - limit);
+        }
+        stop = first;
+    }
+    0
+}
+
+// The level of the data line before a place.
+fn level_before(states: &[u8], at: usize) -> u8
+    ensures { result ≡ level_at states.now at }
+{
+    state_at(states, one_less(at)) % 2
+}
+
+// The state at a place, or 0 where there is none.
+fn state_at(states: &[u8], at: usize) -> u8
+    ensures { result ≡ slice_index states.now at }
+{
+    if at < states.len() { states[at] } else { 0 }
+}
+
+fn one_less(n: usize) -> usize
+    ensures { result ≡ n - 1 }
+{
+    if n == 0 { 0 } else { n - 1 }
+}
+
+fn less(a: usize, b: usize) -> usize
+    ensures { result ≡ a - b }
+{
+    if a < b { 0 } else { a - b }
+}

@@ -4,7 +4,7 @@ ghost use Rattle.answers.specs.Answers.{accepted, refused};
 
 // A number, or a refusal. The number is 0 where refused, and the refusal 0 where accepted.
 #[repr(C)]
-#[derive(Drop)]
+#[derive(Clone, Copy)]
 pub struct Answer {
     pub value: u64,
     pub refusal: u8,

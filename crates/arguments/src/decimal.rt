@@ -3,7 +3,7 @@ ghost use Rattle.std.specs.Prelude.{◌≡◌, ◌+◌, ◌*◌, min};
 ghost use Rattle.arguments.specs.Arguments.{parsed};
 
 // What a text says.
-#[derive(Drop)]
+#[derive(Clone, Copy)]
 pub enum Parsed {
     // a decimal number; one over 65,535 counts as 65,535
     Value(u16),

@@ -5,7 +5,7 @@ ghost use Rattle.arguments.specs.Arguments.{asked};
 use crate::decimal::{Parsed, parse};
 
 // What the two arguments ask for.
-#[derive(Drop)]
+#[derive(Clone, Copy)]
 pub enum Asked {
     // a part and a number of devices
     Chain(u16, u16),

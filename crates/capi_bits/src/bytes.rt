@@ -7,7 +7,7 @@ ghost use Rattle.capi_bits.specs.PackingAnswers.{of_packed};
 
 // What packing gives: no number of the table of refusals. Where nothing was done both are 0.
 #[repr(C)]
-#[derive(Drop)]
+#[derive(Clone, Copy)]
 pub struct Packed {
     pub bytes: u64,
     pub done: u8,

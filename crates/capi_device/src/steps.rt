@@ -10,7 +10,7 @@ use phases::Sent;
 // The next device, and what it sends on: nothing, one state, or the 24 states of a header, of which the command and the count say all.
 // Numbers that are not sent are 0, and so is the refusal where accepted.
 #[repr(C)]
-#[derive(Drop)]
+#[derive(Clone, Copy)]
 pub struct Stepped {
     pub device: Device,
     pub count: u16,

@@ -11,7 +11,7 @@ use subframes::{Asked, Lead};
 
 // A signed number, or a refusal. The number is 0 where refused, and the refusal 0 where accepted.
 #[repr(C)]
-#[derive(Drop)]
+#[derive(Clone, Copy)]
 pub struct Signed {
     pub value: i32,
     pub refusal: u8,
@@ -19,7 +19,7 @@ pub struct Signed {
 
 // Clocks from the first on and before the end, or a refusal: 0 as above, and both 0 where there are none.
 #[repr(C)]
-#[derive(Drop)]
+#[derive(Clone, Copy)]
 pub struct Clocks {
     pub first: u32,
     pub end: u32,

@@ -9,7 +9,7 @@ use judgement::Judged;
 use refusals::{fault_refusal, fresh_refusal};
 
 // The records that a call changes: those from `from` on, before `to`. None where it is refused.
-#[derive(Drop)]
+#[derive(Clone, Copy)]
 pub struct Span {
     pub refusal: u8,
     pub from: usize,

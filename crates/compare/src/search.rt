@@ -10,7 +10,7 @@ use parts::Command;
 use sets::SetNumbers;
 
 // How far a search has come.
-#[derive(Drop)]
+#[derive(Clone, Copy)]
 pub struct Search {
     pub configuration: u8,
     pub global: u8,

@@ -9,7 +9,7 @@ use sets::SetNumbers;
 // The clocks over which a current is averaged.
 pub const PERIOD: u32 = 524288;
 
-#[derive(Drop)]
+#[derive(Clone, Copy)]
 pub struct Drive {
     pub banks: usize,
     // Values of a bank: eight outputs, in one phase or in two.

@@ -11,7 +11,7 @@ use sets::SetNumbers;
 // What the sign draws over 524,288 clocks, in eighths of a microamp: the total, its average rounded down and its remainder; or a refusal, beside
 // which all three are 0.
 #[repr(C)]
-#[derive(Drop)]
+#[derive(Clone, Copy)]
 pub struct Current {
     pub total: u64,
     pub average: u64,

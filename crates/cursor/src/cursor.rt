@@ -6,7 +6,7 @@ use watch::Ear;
 use phases::Sent;
 
 // Words come first, and what is smaller comes last: a gap in the middle slows each move.
-#[derive(Drop)]
+#[derive(Clone, Copy)]
 pub struct Cursor {
     // The number of devices.
     pub count: usize,

@@ -9,7 +9,7 @@ use crate::cursor::Cursor;
 use judgement::Judged;
 
 // The refusal's number, or 0, and where the run begins: a refused one is at its end.
-#[derive(Drop)]
+#[derive(Clone, Copy)]
 pub struct Entry {
     pub refusal: u8,
     pub cursor: Cursor,
@@ -17,7 +17,7 @@ pub struct Entry {
 
 // How many states were returned, and the refusal's number: one of them is 0.
 #[repr(C)]
-#[derive(Drop)]
+#[derive(Clone, Copy)]
 pub struct Ran {
     pub returned: usize,
     pub refusal: u8,

@@ -11,21 +11,21 @@ use phases::{Phase, Place, Sent};
 use registers::Registers;
 
 #[repr(C)]
-#[derive(Drop)]
+#[derive(Clone, Copy)]
 pub struct Device {
     pub registers: Registers,
     pub place: Place,
 }
 
 // The next device, and what it sends on.
-#[derive(Drop)]
+#[derive(Clone, Copy)]
 pub struct Stepped {
     pub device: Device,
     pub sent: Sent,
 }
 
 // The refusal number, 0 where the step was taken. A refused device comes back as it came in, and nothing is sent.
-#[derive(Drop)]
+#[derive(Clone, Copy)]
 pub struct Answer {
     pub refusal: u8,
     pub device: Device,

@@ -3,7 +3,7 @@
 // The number of the first device that differs (0 where none does), the place in that device's slice, the group (1 configuration,
 // 2 calibration, 3 active global, 4 active individual), and the refusal's number, or 0.
 #[repr(C)]
-#[derive(Drop)]
+#[derive(Clone, Copy)]
 pub struct Compared {
     pub device: usize,
     pub place: u16,

@@ -1,5 +1,5 @@
 // What the reader answers.
-#[derive(Drop)]
+#[derive(Clone, Copy)]
 pub enum Read {
     // the byte of a global or of a configuration frame
     Byte(u8),

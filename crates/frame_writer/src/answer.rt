@@ -1,5 +1,5 @@
 // What the writer answers.
-#[derive(Drop)]
+#[derive(Clone, Copy)]
 pub enum Written {
     // so many bytes are written
     Bytes(usize),

@@ -2,7 +2,7 @@
 use parts::Command;
 
 // What a writer and a reader are told of a frame, beside its tail.
-#[derive(Drop)]
+#[derive(Clone, Copy)]
 pub struct Told {
     pub part: u16,
     pub devices: usize,
@@ -12,7 +12,7 @@ pub struct Told {
 }
 
 // The bits behind the slices: the low `length` bits of `number`.
-#[derive(Drop)]
+#[derive(Clone, Copy)]
 pub struct Tail {
     pub number: u64,
     pub length: u32,

@@ -4,7 +4,7 @@ ghost use Rattle.intake.specs.Intake.{filled};
 ghost use Rattle.intake.specs.Words.{four_bits};
 
 // A field's value, and the place of the next state.
-#[derive(Drop)]
+#[derive(Clone, Copy)]
 pub struct Filled {
     pub value: u16,
     pub at: usize,

@@ -10,7 +10,7 @@ use phases::{Phase, Sent};
 use registers::Registers;
 
 // A phase, and the place of the next state.
-#[derive(Drop)]
+#[derive(Clone, Copy)]
 pub struct Headed {
     pub phase: Phase,
     pub at: usize,

@@ -7,7 +7,7 @@ use phases::{Phase, Place, Sent};
 use registers::Registers;
 
 // The device, the place of the next state, and what was sent.
-#[derive(Drop)]
+#[derive(Clone, Copy)]
 pub struct Taken {
     pub device: Device,
     pub at: usize,
@@ -16,7 +16,7 @@ pub struct Taken {
 
 // How far a device got: its slice and its place in a frame, which are all that changes before it sends a header, the place of the next
 // state, and what was sent. So no record is moved while states are taken.
-#[derive(Drop)]
+#[derive(Clone, Copy)]
 pub struct Progress {
     pub slice: [u16; 48],
     pub place: Place,

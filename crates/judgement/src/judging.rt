@@ -7,7 +7,7 @@ ghost use Rattle.judgement.specs.Judging.{unjudged, judged_with, judged_from};
 use device::Device;
 
 // What one pass over the records finds.
-#[derive(Drop)]
+#[derive(Clone, Copy)]
 pub struct Judged {
     // A record was seen.
     pub some: bool,

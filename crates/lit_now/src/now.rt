@@ -8,7 +8,7 @@ use subframes::Asked;
 
 // Lit or not, 1 or 0, and the phase, 0 MUX0 and 1 MUX1; or the refusal's number, and both are 0.
 #[repr(C)]
-#[derive(Drop)]
+#[derive(Clone, Copy)]
 pub struct LitNow {
     pub lit: u8,
     pub phase: u8,

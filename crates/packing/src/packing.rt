@@ -6,7 +6,7 @@ ghost use Rattle.packing.specs.Packing.{packed, packed_out};
 use super::{blocks, groups, writer};
 
 // What packing answers.
-#[derive(Drop)]
+#[derive(Clone, Copy)]
 pub enum Packed {
     // so many bytes are written
     Bytes(usize),

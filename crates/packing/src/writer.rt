@@ -7,7 +7,7 @@ use bits::low_bits;
 
 // Where a writer is: the bytes before `at` are stored, and the `have` low bits of `acc` wait.
 // The bits of `acc` above them are stored already and do not matter.
-#[derive(Drop)]
+#[derive(Clone, Copy)]
 pub struct Writer {
     pub at: usize,
     pub acc: u64,

@@ -3,7 +3,7 @@ use Prim.Native.Nat.{ℕ, ◌*◌, ◌^◌, ◌<◌, ◌≤◌}
 use native.Mathlib.Nat.{mul-pos, mul-le-mul}
 use native.Mathlib.Omega.{arith}
 use lib.Pow.{pow_mono}
-use Rattle.parts.specs.Parts.{Part, subframes, phase_count, frame_clocks, limit, Usable}
+use Rattle.parts.specs.Parts.{Part, phase_count, frame_clocks, limit, Usable}
 use Rattle.parts.proofs.Rows.{limit-pos}
 
 module _ (p : Part) (u : Usable p) (configuration : ℕ) where

@@ -2,7 +2,7 @@
 ghost use Rattle.std.specs.Prelude.{◌≡◌, ◌*◌};
 ghost use Rattle.parts.specs.Parts.{code, command_at};
 
-#[derive(Drop)]
+#[derive(Clone, Copy)]
 pub enum Command {
     Individual,
     Calibration,

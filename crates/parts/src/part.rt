@@ -2,7 +2,7 @@
 ghost use Rattle.std.specs.Prelude.{◌≡◌};
 ghost use Rattle.parts.specs.Parts.{known, part_of, row_index, outputs, limit, subframes, frame_clocks, constants_of};
 
-#[derive(Drop)]
+#[derive(Clone, Copy)]
 pub struct Max6972;
 
 impl Max6972 {
@@ -30,7 +30,7 @@ impl Max6972 {
     pub const CURRENT_STEP: u32 = 1375;
 }
 
-#[derive(Drop)]
+#[derive(Clone, Copy)]
 pub struct Max6973;
 
 impl Max6973 {
@@ -51,7 +51,7 @@ impl Max6973 {
     pub const CURRENT_STEP: u32 = Max6972::CURRENT_STEP;
 }
 
-#[derive(Drop)]
+#[derive(Clone, Copy)]
 pub struct Max6974;
 
 impl Max6974 {
@@ -72,7 +72,7 @@ impl Max6974 {
     pub const CURRENT_STEP: u32 = 750;
 }
 
-#[derive(Drop)]
+#[derive(Clone, Copy)]
 pub struct Max6975;
 
 impl Max6975 {
@@ -94,7 +94,7 @@ impl Max6975 {
 }
 
 // A part's constants, as numbers.
-#[derive(Drop)]
+#[derive(Clone, Copy)]
 pub struct Constants {
     pub number: u16,
     pub banks: u16,

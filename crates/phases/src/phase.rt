@@ -8,7 +8,7 @@ use parts::Command;
 // A phase as numbers, as it stands in the record: 0 hunting, 1 opening, 2 counting, 3 slice, 4 passing, 5 lost. Numbers that a phase does
 // not use are 0.
 #[repr(C)]
-#[derive(Drop)]
+#[derive(Clone, Copy)]
 pub struct Place {
     pub phase: u8,
     // C1 C0, while counting and in a slice.
@@ -19,7 +19,7 @@ pub struct Place {
     pub read: u16,
 }
 
-#[derive(Drop)]
+#[derive(Clone, Copy)]
 pub enum Phase {
     // The last nine bits of the low clocks since the last high one, as a number.
     Hunting {
@@ -45,7 +45,7 @@ pub enum Phase {
 }
 
 // What one clock sends on.
-#[derive(Drop)]
+#[derive(Clone, Copy)]
 pub enum Sent {
     Nothing,
     One(u8),

@@ -8,7 +8,7 @@ use parts::Command;
 use watch::Watch;
 
 #[repr(C)]
-#[derive(Drop)]
+#[derive(Clone, Copy)]
 pub struct Registers {
     pub part: u16,
     pub overtemperature: u8,

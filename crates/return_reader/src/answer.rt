@@ -1,5 +1,5 @@
 // What the return reader answers.
-#[derive(Drop)]
+#[derive(Clone, Copy)]
 pub enum ReturnRead {
     Count(u16),
     // the refusal's number

@@ -2,7 +2,7 @@
 
 // The clocks of a subframe at which an output is lit, from the first number on and before the second, or the refusal's number. Where it
 // is lit at none, both are 0.
-#[derive(Drop)]
+#[derive(Clone, Copy)]
 pub enum Clocks {
     Run(u32, u32),
     Refused(u8),

@@ -6,7 +6,7 @@ ghost use Rattle.schedule.specs.Moments.{moment_at};
 use parts::{constants_of, frame_clocks};
 
 // A clock of a subframe, in a phase: 0 MUX0, 1 MUX1.
-#[derive(Drop)]
+#[derive(Clone, Copy)]
 pub struct Moment {
     pub subframe: u32,
     pub clock: u32,

@@ -14,7 +14,7 @@ pub const EXACT: u8 = 1;
 pub const LATE: u8 = 2;
 
 // How many states or bytes were written, or the refusal's number.
-#[derive(Drop)]
+#[derive(Clone, Copy)]
 pub enum Converted {
     Written(usize),
     Refused(u8),

@@ -1,5 +1,5 @@
 // The set, but for its lists.
-#[derive(Drop)]
+#[derive(Clone, Copy)]
 pub struct SetNumbers {
     pub part: u16,
     pub devices: usize,

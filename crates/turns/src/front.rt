@@ -10,14 +10,14 @@ use intake::Progress;
 use phases::{Phase, Sent};
 
 // A phase, and the place of the next state.
-#[derive(Drop)]
+#[derive(Clone, Copy)]
 pub struct PhaseRun {
     pub phase: Phase,
     pub at: usize,
 }
 
 // A window, and the place of the next state.
-#[derive(Drop)]
+#[derive(Clone, Copy)]
 pub struct Heard {
     pub window: u16,
     pub at: usize,

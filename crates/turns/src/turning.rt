@@ -13,7 +13,7 @@ use registers::Registers;
 
 // What a turn makes of its device, the place of the next state, the ear that the next turns go by, and what was sent. What is smallest
 // comes last, as in a cursor.
-#[derive(Drop)]
+#[derive(Clone, Copy)]
 pub struct Turn {
     pub device: Device,
     pub at: usize,

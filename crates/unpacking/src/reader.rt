@@ -5,7 +5,7 @@ ghost use Rattle.unpacking.specs.Reading.{Pulled, Filled, Loaded};
 use bits::low_bits;
 
 // Where a reader is: the bytes before `at` are taken in, and the `have` low bits of `acc` are not read yet.
-#[derive(Drop)]
+#[derive(Clone, Copy)]
 pub struct Reader {
     pub at: usize,
     pub acc: u64,
@@ -13,7 +13,7 @@ pub struct Reader {
 }
 
 // A number, and where the reader is after it.
-#[derive(Drop)]
+#[derive(Clone, Copy)]
 pub struct Next {
     pub value: u64,
     pub reader: Reader,

@@ -6,7 +6,7 @@ ghost use Rattle.unpacking.specs.Unpacking.{unpacked, unpacked_out, number_at};
 use super::{blocks, groups, reader};
 
 // What reading one number answers.
-#[derive(Drop)]
+#[derive(Clone, Copy)]
 pub enum Number {
     Value(u64),
     // the width is too large or the bits are too few

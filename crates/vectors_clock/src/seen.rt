@@ -2,7 +2,7 @@
 use device::Device;
 
 // The positions of the three devices; of the first also its waiting global byte, its active one, and the active values of output 0.
-#[derive(Drop)]
+#[derive(Clone, Copy)]
 pub struct Seen {
     pub first: u64,
     pub second: u64,

@@ -2,7 +2,7 @@
 use current::Current;
 
 // A total, its average and its remainder.
-#[derive(Drop)]
+#[derive(Clone, Copy)]
 pub struct Figure {
     pub total: u64,
     pub average: u64,

@@ -6,7 +6,7 @@ use device::Device;
 use phases::Sent;
 
 // A device that was given states, with what it sent on.
-#[derive(Drop)]
+#[derive(Clone, Copy)]
 pub struct Fed {
     pub device: Device,
     pub refusal: u8,

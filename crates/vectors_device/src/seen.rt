@@ -3,7 +3,7 @@ use crate::feeding::Fed;
 
 // What a device is seen to do: the refusal of a step, or 0; its phase; its configuration; its waiting global byte; how many states it
 // sent on, and the count of the last header among them.
-#[derive(Drop)]
+#[derive(Clone, Copy)]
 pub struct Seen {
     pub refusal: u8,
     pub phase: u8,

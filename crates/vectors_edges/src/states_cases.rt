@@ -6,7 +6,7 @@ use cases::least;
 use serial::Converted;
 
 // What the operation answers, 0 where it writes, and whether the lent list is as it came in.
-#[derive(Drop)]
+#[derive(Clone, Copy)]
 struct Outcome {
     refusal: u8,
     kept: bool,

@@ -11,7 +11,7 @@ const R0: u32 = 23;
 const Y0: u32 = 15;
 
 // The clocks at which an output is lit in one subframe: how many, the first and the last.
-#[derive(Drop)]
+#[derive(Clone, Copy)]
 struct Lit {
     count: u32,
     first: u32,

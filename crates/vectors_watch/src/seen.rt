@@ -3,7 +3,7 @@ use device::Device;
 
 // The counts of the data line and of the load line, and their levels; at output 0 the values that wait and those that are active, MUX0 before
 // MUX1.
-#[derive(Drop)]
+#[derive(Clone, Copy)]
 pub struct Seen {
     pub data: u64,
     pub load: u64,

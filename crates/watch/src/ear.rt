@@ -8,7 +8,7 @@ ghost use Rattle.watch.specs.Ear.{next_change, last_change, last_long, level_at,
 use crate::kept::Listened;
 use crate::watch::{Line, Watch};
 
-#[derive(Drop)]
+#[derive(Clone, Copy)]
 pub struct Ear {
     // For this limit, and up to this place.
     pub limit: u32,
@@ -24,7 +24,7 @@ pub struct Ear {
 }
 
 // What a watchdog heard of a stretch, and the ear it went by.
-#[derive(Drop)]
+#[derive(Clone, Copy)]
 pub struct Followed {
     pub heard: Listened,
     pub ear: Ear,

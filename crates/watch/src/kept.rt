@@ -8,7 +8,7 @@ use crate::watch::{Line, Watch};
 use std::num::{wrapping_add_u64, wrapping_sub_u64};
 
 // A watchdog after states one to a clock, and whether it expired before the last of them.
-#[derive(Drop)]
+#[derive(Clone, Copy)]
 pub struct Listened {
     pub watch: Watch,
     pub expired: bool,

@@ -1,4 +1,6 @@
 // A device's watchdog: what it watches, and how a run keeps it.
+#![tactic(auto)]
+
 mod blocks;
 mod ear;
 mod kept;

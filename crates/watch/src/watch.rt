@@ -4,7 +4,7 @@ ghost use Rattle.watch.specs.Watch.{is_bit, is_limit, line_fits, watch_fits, ena
 
 // A line that is watched.
 #[repr(C)]
-#[derive(Drop)]
+#[derive(Clone, Copy)]
 pub struct Line {
     // The clocks for which it has stood still.
     pub still: u64,
@@ -13,7 +13,7 @@ pub struct Line {
 }
 
 #[repr(C)]
-#[derive(Drop)]
+#[derive(Clone, Copy)]
 pub struct Watch {
     pub din: Line,
     pub loadi: Line,

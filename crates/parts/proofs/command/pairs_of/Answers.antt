@@ -1,4 +1,3 @@
-use borrow.Author.Rules.{rules}
 use Rattle.parts.proofs.command.pairs_of.Goals as goal
 
 pub returns-in-Individual : goal.returns-in-Individual

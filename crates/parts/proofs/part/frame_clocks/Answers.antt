@@ -3,7 +3,6 @@ use native.Mathlib.Omega.{arith}
 use Rattle.parts.specs.Parts.{part_of}
 use Rattle.parts.proofs.Laws.{usable}
 use Rattle.parts.proofs.Frames.{subframe-clocks, frame-clocks}
-use borrow.Author.Rules.{rules}
 use Rattle.parts.proofs.part.frame_clocks.Goals as goal
 
 pub overflow_mul-result : goal.overflow_mul-result

@@ -2,7 +2,6 @@ use mathlib.Core.Path.{ap, sym, ◌∙◌}
 use lib.Dec.{eqb}
 use Rattle.parts.specs.declared.part.Constants.{Constants}
 use Rattle.parts.proofs.Laws.{known-name}
-use borrow.Author.Rules.{rules}
 use Rattle.parts.proofs.part.is_known.Goals as goal
 
 pub returns : goal.returns

@@ -1,5 +1,4 @@
 use borrow.Author.Tests.{eq-eqb, ne_eqb}
-use borrow.Author.Rules.{rules}
 use Rattle.parts.proofs.part.subframes_of.Goals as goal
 
 pub returns-then-part-eq-NUMBER : goal.returns-then-part-eq-NUMBER

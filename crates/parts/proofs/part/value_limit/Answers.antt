@@ -1,7 +1,6 @@
 use mathlib.Core.Path.{ap, sym, ◌∙◌}
 use Rattle.parts.specs.declared.part.Constants.{Constants}
 use Rattle.parts.proofs.Laws.{usable}
-use borrow.Author.Rules.{rules}
 use Rattle.parts.proofs.part.value_limit.Goals as goal
 
 pub returns : goal.returns

@@ -1,0 +1,10 @@
+use Rattle.watch.proofs.Changes.{Changes, next-change-is, long_in, long-end, long-none, long-skip, long-last}
+use Rattle.watch.specs.Ear.{next_in}
+use Rattle.std.proofs.Common.{◌≡◌, ◌-◌, ◌<◌, ◌≤◌, length, sym, ◌∙◌, arith, rules}
+use Rattle.watch.proofs.ear.last_long.Given as goal
+
+abbrev pub invariant-loop-stop : goal.invariant-loop-stop
+invariant-loop-stop l = (long_in l.limit l.states l.from l.to ≡ long_in l.limit l.states l.from l.stop) × (l.stop ≤ length l.states)
+
+abbrev pub decreases-loop-stop : goal.decreases-loop-stop
+decreases-loop-stop l = l.stop

@@ -310,7 +310,7 @@ module _ {p bit limit : ℕ} {records : List Device} {earlier during : List Call
     after-seen : (last : List Bool) (i j : ℕ) → device_after last i j ≡ (get_or (run_watched dogs (take j (model_states ++ lows last))).0 i (watched_of blank)).clocked
     after-seen last i j =
         ap (λ (w : Watched). w.clocked)
-        (sym (ListN.get_d_map watched_of (run_devices now (take j (restore_then s edge gap tail last))) i blank)
+        (sym (ListN.get_or-map watched_of (run_devices now (take j (restore_then s edge gap tail last))) i blank)
         ∙ ap (λ (ss : List ℕ). get_or (map watched_of (run_devices now ss)) i (watched_of blank)) (then-taken last j)
         ∙ ap (λ (ws : List Watched). get_or ws i (watched_of blank)) (seen-run (take j (model_states ++ lows last))))
 
@@ -327,11 +327,11 @@ module _ {p bit limit : ℕ} {records : List Device} {earlier during : List Call
         let m : ℕ → Clocked = λ j. (get_or (run_watched dogs (take j ls)).0 i z).clocked in
         let t : k ≤ length ls = rw (then-states last, length-map) at l in
         let old : clock.registers_of (get_or dogs i z).clocked ≡ registers_of (get_or now i blank).registers =
-        ap (λ (w : Watched). clock.registers_of w.clocked) (ListN.get_d_map watched_of now i blank) ∙ registers-seen (get_or now i blank) in
+        ap (λ (w : Watched). clock.registers_of w.clocked) (ListN.get_or-map watched_of now i blank) ∙ registers-seen (get_or now i blank) in
         let f : states_given now during ≡ map state_code (take k ls) = e ∙ then-taken last k in
         let new : clock.registers_of (m k) ≡ registers_of (get_or (after_calls now during) i blank).registers =
         ap (λ (ws : List Watched). clock.registers_of (get_or ws i z).clocked) (sym (seen (take k ls) f))
-        ∙ ap (λ (w : Watched). clock.registers_of w.clocked) (ListN.get_d_map watched_of (after_calls now during) i blank) ∙ registers-seen (get_or (after_calls now during) i blank) in
+        ∙ ap (λ (w : Watched). clock.registers_of w.clocked) (ListN.get_or-map watched_of (after_calls now during) i blank) ∙ registers-seen (get_or (after_calls now during) i blank) in
         let c : watchdog.CalmFrom own_clock dogs (take k ls) = calm-model own_clock own-after (take k ls) (rw f at (calm-ran own_clock now during b.runs calm)) in
         let q : (clock : ℕ) → own_clock (suc i) ≤ clock → clock ≤ k → watchdog.expires dogs ls clock (suc i) ≡ false =
         λ clock x y. rw (take-take clock k ls y) at (c (suc i) clock (omega arith) (omega arith) x (omega (arith, taken k ls t))) in
@@ -407,7 +407,7 @@ module _ {p bit limit : ℕ} {records : List Device} {earlier during : List Call
         by (suc i) zero h l m n x = absurd (omega arith)
         by (suc i) (suc k) h l m n x =
             let d : Device = get_or now i blank in
-            let g : get_or dogs i z ≡ watched_of d = ListN.get_d_map watched_of now i blank in
+            let g : get_or dogs i z ≡ watched_of d = ListN.get_or-map watched_of now i blank in
             let t : suc k ≤ length (model_states ++ lows last) = rw (then-states last, length-map) at n in
             let c : Clear (cond (leb (arrival s gap tail Configuration (suc i)) (suc k)) (get_or (owned s) i o).configuration (device_of d).registers.configuration) d =
             rw (own-configuration i o (omega arith), configuration-same d) (f i (suc k) (omega arith) x) in
@@ -428,7 +428,7 @@ module _ {p bit limit : ℕ} {records : List Device} {earlier during : List Call
             let d : Device = get_or now i blank in
             let e : suc i - 1 ≡ i = omega arith in
             let a : length dogs ≡ length now = length-map now watched_of in
-            let g : get_or dogs i z ≡ watched_of d = ListN.get_d_map watched_of now i blank in
+            let g : get_or dogs i z ≡ watched_of d = ListN.get_or-map watched_of now i blank in
             let q = all-place (Short (length (restore_then s edge gap tail last))) now i blank (omega arith) f in
             sym (expires-model last clock i (omega arith))
             ∙ expires-early dogs (model_states ++ lows last) clock (suc i) z h (omega arith) (rw (e, g) (omega (arith, q.0))) (rw (e, g) (omega (arith, q.1)))

@@ -71,7 +71,7 @@ module _ (cs : List Clocked) (ls : List State) (i : ℕ) (z : Clocked) (h : i < 
       let e : (run_clocked cs (take (suc k) ls)).0 ≡ us =
       rw (take-suc ls k (low false) l, run-append (clock step_clocked tick) cs (take k ls) (x ∷ []), run-one (clock step_clocked tick) ts x) in
       let n : i < length ts = rw (length-clocks step_clocked tick cs (take k ls)) h in
-      ap (λ (t : List Clocked). active_of (get_or t i z)) e ∙ sym (ListN.get_d_map active_of us i z)
+      ap (λ (t : List Clocked). active_of (get_or t i z)) e ∙ sym (ListN.get_or-map active_of us i z)
       ∙ ap (λ (vs : List Values). get_or vs i (active_of z)) (clock-active ts x)
       ∙ get_d_map (λ (c : Clocked). active_of (tick c)) ts i z (active_of z) n ∙ tick-active (after k)
 
@@ -99,10 +99,10 @@ erased-at v cs ls i z k =
     let ds : List Device = (run_chain (devices_in cs) (take k ls)).0 in
     let d : Device = z.device in
     let a : get_or (map (bare v) (devices_in ts)) i (bare v d) ≡ bare v (get_or ts i z).device =
-    ListN.get_d_map (bare v) (devices_in ts) i d ∙ ap (bare v) (ListN.get_d_map (λ (c : Clocked). c.device) ts i z) in
-    let b : get_or (map (bare v) ds) i (bare v d) ≡ bare v (get_or ds i d) = ListN.get_d_map (bare v) ds i d in
+    ListN.get_or-map (bare v) (devices_in ts) i d ∙ ap (bare v) (ListN.get_or-map (λ (c : Clocked). c.device) ts i z) in
+    let b : get_or (map (bare v) ds) i (bare v d) ≡ bare v (get_or ds i d) = ListN.get_or-map (bare v) ds i d in
     ap (λ (x : Device). x.registers) (sym a ∙ ap (λ (es : List Device). get_or es i (bare v d)) (erased v cs (take k ls)) ∙ b)
-    ∙ ap (with_active v) (sym (ListN.get_d_map (λ (x : Device). x.registers) ds i d))
+    ∙ ap (with_active v) (sym (ListN.get_or-map (λ (x : Device). x.registers) ds i d))
 
 -- ---- the cut
 
@@ -133,8 +133,8 @@ module _ (w : Part) (os : List Own) (edge : Command → Edge) (gap tail : Comman
 
   first-at : get_or (registers_in (devices_in cs)) i (registers_of z) ≡ registers_of (get_or cs i z)
   first-at =
-      ListN.get_d_map (λ (d : Device). d.registers) (devices_in cs) i z.device
-      ∙ ap (λ (d : Device). d.registers) (ListN.get_d_map (λ (c : Clocked). c.device) cs i z)
+      ListN.get_or-map (λ (d : Device). d.registers) (devices_in cs) i z.device
+      ∙ ap (λ (d : Device). d.registers) (ListN.get_or-map (λ (c : Clocked). c.device) cs i z)
 
   cut-model : (k : ℕ) → CutFields (λ c. arrived c k) (get_or os i o) (registers_of (get_or cs i z)) (model k)
   cut-model k = rw first-at at (cut-sent w os edge gap tail (devices_in cs) ready last k i o (registers_of z) h)

@@ -9,7 +9,7 @@ use lib.Dec.{eqb}
 use Rattle.parts.specs.Wire.{State, low, high}
 use Rattle.parts.specs.declared.command.Command.{Command}
 use Rattle.parts.specs.declared.command.Command.TheVariants.{Individual, Calibration, Global, Configuration}
-use Rattle.machine.specs.Machine.{All, clocks}
+use Rattle.machine.specs.Machine.{All}
 use Rattle.machine.proofs.Machine.{chain-view, clocks-view, clocks-still}
 use Rattle.model.specs.Device.{Values, Registers, Device, Phase, hunting, lost, taking, passing, command, count, slice, at, slice_length, load, fault, activated, step_device, run_chain}
 use Rattle.clocked.specs.Clock.{Clocked, registers_of, next, tick, step_clocked, run_clocked, devices_in}

@@ -9,7 +9,7 @@ use native.Mathlib.Omega.{arith}
 use lib.ListN.{length, take, drop, get_or}
 use Rattle.bits.specs.Bits.{digit, bits, number}
 use Rattle.bits.proofs.Laws.{length-bits, number-bits}
-use Rattle.parts.specs.Wire.{State, low, high, lows, highs, Edge, early, exact, late, clocked_at, sync}
+use Rattle.parts.specs.Wire.{State, high, lows, highs, Edge, early, exact, late, clocked_at, sync}
 use Rattle.parts.specs.declared.command.Command.{Command}
 use Rattle.parts.specs.declared.command.Command.TheVariants.{Individual, Calibration, Global, Configuration}
 use Rattle.model.specs.Lists.{Pairwise, how_many}

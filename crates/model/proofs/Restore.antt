@@ -14,7 +14,7 @@ use Rattle.parts.specs.declared.command.Command.{Command}
 use Rattle.parts.specs.declared.command.Command.TheVariants.{Individual, Calibration, Global, Configuration}
 use Rattle.model.specs.Lists.{Pairwise, how_many}
 use Rattle.machine.specs.Machine.{and_then}
-use Rattle.model.specs.Device.{Values, Registers, Device, at, slice_length, multiplexed, with_individual, load, fault, faults, activated}
+use Rattle.model.specs.Device.{Values, Registers, Device, slice_length, multiplexed, with_individual, load, fault, faults, activated}
 use Rattle.model.specs.Device.{frame_states, step_device, run_chain, registers_in}
 use Rattle.model.specs.Set.{Own, OwnProper, slice_of}
 use Rattle.model.specs.Restore.{Piece, piece_states, piece_of, pieces_of, returns_of, InUse, RegistersHold}

@@ -50,7 +50,7 @@ faint-map f e (c ∷ cs) = rw (e c, faint-map f e cs)
 
 -- chains that are alike but for individual values stay so, device by device
 pub faint-at : (cs ts : List Clocked) → map faint cs ≡ map faint ts → (i : ℕ) (c : Clocked) → faint (get_or cs i c) ≡ faint (get_or ts i c)
-faint-at cs ts e i c = sym (ListN.get_d_map faint cs i c) ∙ ap (λ (us : List Clocked). get_or us i (faint c)) e ∙ ListN.get_d_map faint ts i c
+faint-at cs ts e i c = sym (ListN.get_or-map faint cs i c) ∙ ap (λ (us : List Clocked). get_or us i (faint c)) e ∙ ListN.get_or-map faint ts i c
 
 pub run-alike : (cs ts : List Clocked) → map faint cs ≡ map faint ts → (ls : List State) → map faint (run_clocked cs ls).0 ≡ map faint (run_clocked ts ls).0
 run-alike cs ts e ls =
@@ -191,7 +191,7 @@ module _ (w : Part) (os : List Own) (edge : Command → Edge) (gap tail : Comman
 
   watched-four : (k : ℕ) → k < clock_of → k ≤ length given → (watched k).clocked ≡ cleared_if (has k) (four cs k)
   unfolding run expired_within
-  watched-four zero l m = sym (ListN.get_d_map (λ (u : Watched). u.clocked) ws i z)
+  watched-four zero l m = sym (ListN.get_or-map (λ (u : Watched). u.clocked) ws i z)
   watched-four (suc k) l m =
       watched-clear k (omega arith)
       ∙ ap (λ (b : Bool). cleared_if b (clock_device (watched k).clocked (sent k)).0) (sym (expires-at (suc k)))
@@ -249,7 +249,7 @@ module _ (w : Part) (os : List Own) (edge : Command → Edge) (gap tail : Comman
   pub watched-faintly : (b : Bool) (k : ℕ) → faint (watched k).clocked ≡ faint (four (cleared_all b) k)
   watched-faintly b k =
       let us : List Watched = (run_watched ws (take k given)).0 in
-      ap faint (sym (ListN.get_d_map (λ (u : Watched). u.clocked) us i z))
+      ap faint (sym (ListN.get_or-map (λ (u : Watched). u.clocked) us i z))
       ∙ faint-at (clocks_in us) (run_clocked (cleared_all b) (take k given)).0 (erased ws (take k given) ∙ sym (run-alike (cleared_all b) cs (cleared-alike b) (take k given))) i c0
 
   -- ---- a watchdog whose enabling bit is clear
@@ -257,7 +257,7 @@ module _ (w : Part) (os : List Own) (edge : Command → Edge) (gap tail : Comman
   watched-faint-four : (k : ℕ) → faint (watched k).clocked ≡ faint (four cs k)
   watched-faint-four k =
       let us : List Watched = (run_watched ws (take k given)).0 in
-      ap faint (sym (ListN.get_d_map (λ (u : Watched). u.clocked) us i z)) ∙ faint-at (clocks_in us) (run_clocked cs (take k given)).0 (erased ws (take k given)) i c0
+      ap faint (sym (ListN.get_or-map (λ (u : Watched). u.clocked) us i z)) ∙ faint-at (clocks_in us) (run_clocked cs (take k given)).0 (erased ws (take k given)) i c0
 
   -- the configuration is its own once that slice has arrived, else the old one
   watched-configuration : (o : Own) (k : ℕ) → k ≤ length given
@@ -266,7 +266,7 @@ module _ (w : Part) (os : List Own) (edge : Command → Edge) (gap tail : Comman
   watched-configuration o k l =
       let a : Bool = leb (states_until w os gap tail Configuration (suc i)) k in
       ap (λ (c : Clocked). (registers_of c).configuration) (watched-faint-four k) ∙ (cut w os edge gap tail last cs ready i o c0 h k l).configuration
-      ∙ ap (λ (c : Clocked). cond a (get_or os i o).configuration (registers_of c).configuration) (ListN.get_d_map (λ (u : Watched). u.clocked) ws i z)
+      ∙ ap (λ (c : Clocked). cond a (get_or os i o).configuration (registers_of c).configuration) (ListN.get_or-map (λ (u : Watched). u.clocked) ws i z)
 
   -- no clock changes the bit and the limit
   watched-told : (k : ℕ) → k ≤ length given → ((watched k).watch.limit ≡ (get_or ws i z).watch.limit) × ((watched k).watch.bit ≡ (get_or ws i z).watch.bit)

@@ -1,4 +1,4 @@
-use Rattle.std.proofs.Common.{sym, rules}
+use Rattle.std.proofs.Common.{sym}
 use Rattle.watch.proofs.blocks.change_in.Goals as goal
 
 pub returns-then-stays : goal.returns-then-stays

@@ -1,4 +1,4 @@
-use Rattle.std.proofs.Common.{rules, ne_eqb}
+use Rattle.std.proofs.Common.{ne_eqb}
 use Rattle.watch.proofs.blocks.count_by.Goals as goal
 
 pub returns-then-changed-eq0 : goal.returns-then-changed-eq0

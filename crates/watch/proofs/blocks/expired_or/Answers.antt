@@ -1,4 +1,3 @@
-use Rattle.std.proofs.Common.{rules}
 use Rattle.watch.proofs.blocks.expired_or.Goals as goal
 
 pub returns : goal.returns

@@ -1,4 +1,4 @@
-use Rattle.std.proofs.Common.{◌≡◌, ◌+◌, ◌-◌, ◌≤◌, sym, refl, ap, ◌∙◌, rules, eq-eqb, ne_eqb}
+use Rattle.std.proofs.Common.{◌≡◌, ◌+◌, ◌-◌, sym, refl, ap, ◌∙◌, rules, eq-eqb, ne_eqb}
 use Rattle.watch.proofs.ByBlock.{change_of, change-back, change-here, change-first}
 use Rattle.watch.proofs.blocks.last_change.Goals as goal
 

@@ -1,5 +1,5 @@
-use Rattle.std.proofs.Common.{◌≡◌, ◌+◌, ◌-◌, ◌≤◌, sym, refl, ap, ◌∙◌, rules, eq-eqb, ne_eqb}
-use Rattle.watch.proofs.ByBlock.{change_of, change-back, change-here, change-first}
+use Rattle.std.proofs.Common.{◌≡◌, ◌+◌, ◌≤◌}
+use Rattle.watch.proofs.ByBlock.{change_of}
 use Rattle.watch.proofs.blocks.last_change.Given as goal
 
 abbrev pub invariant-loop-j : goal.invariant-loop-j

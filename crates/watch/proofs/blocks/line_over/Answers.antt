@@ -1,4 +1,3 @@
-use Rattle.std.proofs.Common.{rules}
 use Rattle.watch.proofs.blocks.line_over.Goals as goal
 
 pub returns : goal.returns

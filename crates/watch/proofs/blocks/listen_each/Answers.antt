@@ -1,6 +1,5 @@
-use Rattle.std.proofs.Common.{◌≡◌, ◌-◌, true, take, drop, sym, refl, ◌∙◌, rules, ltb-false, ltb-true}
-use Rattle.watch.proofs.Clocks.{since, part-more, part_none, part_end, part-over}
-use Rattle.watch.specs.Kept.{listened}
+use Rattle.std.proofs.Common.{true, sym, refl, ◌∙◌}
+use Rattle.watch.proofs.Clocks.{part-more, part_none, part_end, part-over}
 use Rattle.watch.proofs.blocks.listen_each.Goals as goal
 
 pub loop-i-init : goal.loop-i-init

@@ -1,5 +1,5 @@
-use Rattle.std.proofs.Common.{◌≡◌, ◌-◌, true, take, drop, sym, refl, ◌∙◌, rules, ltb-false, ltb-true}
-use Rattle.watch.proofs.Clocks.{since, part-more, part_none, part_end, part-over}
+use Rattle.std.proofs.Common.{◌≡◌, ◌-◌, true, take, drop}
+use Rattle.watch.proofs.Clocks.{since}
 use Rattle.watch.specs.Kept.{listened}
 use Rattle.watch.proofs.blocks.listen_each.Given as goal
 

@@ -1,8 +1,6 @@
 use Rattle.watch.specs.Kept.{listened}
 use Rattle.watch.specs.Blocks.{heard_on}
-use Rattle.watch.proofs.Clocks.{part-nothing}
-use Rattle.watch.proofs.ByBlock.{heard-none, heard-block}
-use Rattle.std.proofs.Common.{◌≡◌, ◌-◌, true, take, drop, sym, refl, ◌∙◌, arith, rules}
+use Rattle.std.proofs.Common.{◌≡◌, ◌-◌, true, take, drop}
 use Rattle.watch.proofs.blocks.listen_on.Given as goal
 
 abbrev pub invariant-loop-i : goal.invariant-loop-i

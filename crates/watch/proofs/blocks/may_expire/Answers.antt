@@ -1,4 +1,3 @@
-use Rattle.std.proofs.Common.{rules}
 use Rattle.watch.proofs.blocks.may_expire.Goals as goal
 
 pub returns-then-data : goal.returns-then-data

@@ -1,6 +1,7 @@
-use Rattle.std.proofs.Common.{◌≡◌, ℕ, ◌-◌, ◌≤◌, sym, ap, ◌∙◌, ⊎_elim, arith, rules, eqb-true}
-use Rattle.watch.proofs.ByBlock.{change_of, Stood, stood-none, stood-next}
+use Rattle.std.proofs.Common.{◌≡◌, ℕ, sym, ap, ◌∙◌, arith, rules, eqb-true}
+use Rattle.watch.proofs.ByBlock.{change_of, stood-none, stood-next}
 use Rattle.watch.proofs.blocks.stays.Goals as goal
+use Rattle.watch.proofs.blocks.stays.Goals.{then-level_of-level, else-level_of-level}
 
 one_not_zero : (n : ℕ) → n ≡ 1 → n ≡ 0 → ⊥
 one_not_zero n a b = omega arith
@@ -9,15 +10,14 @@ pub loop-j-init : goal.loop-j-init
 loop-j-init c = let a = c.args in (search rules, λ e. stood-none a.level a.din a.states.now a.from)
 
 pub loop-j-preserved : goal.loop-j-preserved
-loop-j-preserved c = let p = c in
-    let t = p in
+loop-j-preserved c = let t = c in
     let a = t.args in (
       search rules,
-      ⊎_elim
-          (λ w e. absurd (one_not_zero _ w.1 e))
-          (λ w e. stood-next a.level a.din a.states.now a.from t.loop-j.j (search rules) (sym p.level_of.ensures ∙ w.0.left)
-          (t.loop-j.invariant.1 (sym w.1 ∙ e)))
-          c.if-level_of-level.branch,
+      elim c.if-level_of-level.branch [
+        | then-level_of-level w ↦ λ e. absurd (one_not_zero _ w.other-is e)
+        | else-level_of-level w ↦ λ e. stood-next a.level a.din a.states.now a.from t.loop-j.j (search rules) (sym c.level_of.ensures ∙ w.if-level_of-level.false)
+            (t.loop-j.invariant.1 (sym w.other-is ∙ e))
+      ],
     )
 
 pub returns : goal.returns

@@ -1,5 +1,5 @@
-use Rattle.std.proofs.Common.{◌≡◌, ℕ, ◌-◌, ◌≤◌, sym, ap, ◌∙◌, ⊎_elim, arith, rules, eqb-true}
-use Rattle.watch.proofs.ByBlock.{change_of, Stood, stood-none, stood-next}
+use Rattle.std.proofs.Common.{◌≡◌, ◌-◌, ◌≤◌}
+use Rattle.watch.proofs.ByBlock.{Stood}
 use Rattle.watch.proofs.blocks.stays.Given as goal
 
 abbrev pub invariant-loop-j : goal.invariant-loop-j

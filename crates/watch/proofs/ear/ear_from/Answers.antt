@@ -1,5 +1,4 @@
 use Rattle.watch.specs.Ear.{ear_from}
-use Rattle.std.proofs.Common.{rules}
 use Rattle.watch.proofs.ear.ear_from.Goals as goal
 
 pub returns : goal.returns

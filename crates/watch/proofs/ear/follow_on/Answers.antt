@@ -1,5 +1,4 @@
 use Rattle.watch.specs.Ear.{followed}
-use Rattle.std.proofs.Common.{rules}
 use Rattle.watch.proofs.ear.follow_on.Goals as goal
 
 pub returns : goal.returns

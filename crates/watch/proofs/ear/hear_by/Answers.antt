@@ -1,4 +1,4 @@
-use Rattle.std.proofs.Common.{rules, le-leb}
+use Rattle.std.proofs.Common.{le-leb}
 use borrow.Author.Tests.{lt-leb}
 use Rattle.watch.specs.Ear.{heard_by}
 use Rattle.watch.proofs.ear.hear_by.Goals as goal

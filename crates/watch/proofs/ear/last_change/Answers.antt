@@ -1,6 +1,5 @@
-use Rattle.watch.specs.Ear.{last_in}
 use Rattle.watch.proofs.Changes.{last-change-none, last-change-back, last-change-here}
-use Rattle.std.proofs.Common.{◌≡◌, ◌≤◌, length, sym, ◌∙◌, arith, rules}
+use Rattle.std.proofs.Common.{sym, ◌∙◌, arith}
 use Rattle.watch.proofs.ear.last_change.Goals as goal
 
 pub loop-i-init : goal.loop-i-init

@@ -1,6 +1,5 @@
 use Rattle.watch.specs.Ear.{last_in}
-use Rattle.watch.proofs.Changes.{last-change-none, last-change-back, last-change-here}
-use Rattle.std.proofs.Common.{◌≡◌, ◌≤◌, length, sym, ◌∙◌, arith, rules}
+use Rattle.std.proofs.Common.{◌≡◌, ◌≤◌, length}
 use Rattle.watch.proofs.ear.last_change.Given as goal
 
 abbrev pub invariant-loop-i : goal.invariant-loop-i

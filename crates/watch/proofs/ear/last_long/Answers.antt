@@ -1,6 +1,6 @@
-use Rattle.watch.proofs.Changes.{Changes, next-change-is, long_in, long-end, long-none, long-skip, long-last}
+use Rattle.watch.proofs.Changes.{Changes, next-change-is, long-end, long-none, long-skip, long-last}
 use Rattle.watch.specs.Ear.{next_in}
-use Rattle.std.proofs.Common.{◌≡◌, ◌-◌, ◌<◌, ◌≤◌, length, sym, ◌∙◌, arith, rules}
+use Rattle.std.proofs.Common.{◌-◌, ◌<◌, ◌≤◌, sym, ◌∙◌, arith}
 use Rattle.watch.proofs.ear.last_long.Goals as goal
 
 pub loop-stop-init : goal.loop-stop-init

@@ -1,6 +1,5 @@
-use Rattle.watch.proofs.Changes.{Changes, next-change-is, long_in, long-end, long-none, long-skip, long-last}
-use Rattle.watch.specs.Ear.{next_in}
-use Rattle.std.proofs.Common.{◌≡◌, ◌-◌, ◌<◌, ◌≤◌, length, sym, ◌∙◌, arith, rules}
+use Rattle.watch.proofs.Changes.{long_in}
+use Rattle.std.proofs.Common.{◌≡◌, ◌≤◌, length}
 use Rattle.watch.proofs.ear.last_long.Given as goal
 
 abbrev pub invariant-loop-stop : goal.invariant-loop-stop

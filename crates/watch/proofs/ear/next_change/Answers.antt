@@ -1,6 +1,5 @@
-use Rattle.std.proofs.Common.{◌≡◌, ◌-◌, ◌≤◌, length, sym, ◌∙◌, arith, rules, ltb-false, ltb-true}
+use Rattle.std.proofs.Common.{◌≤◌, length, sym, ◌∙◌, arith}
 use Rattle.watch.proofs.Changes.{next-change-on, next-change-here, next-change-none}
-use Rattle.watch.specs.Ear.{next_change, levels_in, next_in}
 use Rattle.watch.proofs.ear.next_change.Goals as goal
 
 pub loop-i-init : goal.loop-i-init

@@ -1,5 +1,4 @@
-use Rattle.std.proofs.Common.{◌≡◌, ◌-◌, ◌≤◌, length, sym, ◌∙◌, arith, rules, ltb-false, ltb-true}
-use Rattle.watch.proofs.Changes.{next-change-on, next-change-here, next-change-none}
+use Rattle.std.proofs.Common.{◌≡◌, ◌-◌}
 use Rattle.watch.specs.Ear.{next_change, levels_in, next_in}
 use Rattle.watch.proofs.ear.next_change.Given as goal
 

@@ -1,5 +1,5 @@
 use lib.ListN.{get_or-eq_default}
-use Rattle.std.proofs.Common.{sym, rules}
+use Rattle.std.proofs.Common.{sym}
 use Rattle.watch.proofs.ear.state_at.Goals as goal
 
 pub returns-else-at-states : goal.returns-else-at-states

@@ -1,4 +1,4 @@
-use Rattle.std.proofs.Common.{◌≡◌, ℕ, ◌+◌, ◌-◌, map, take, drop, ap, ◌∙◌, arith, rules}
+use Rattle.std.proofs.Common.{◌≡◌, ℕ, ◌+◌, ◌-◌, map, take, drop, ap, ◌∙◌, arith}
 use Rattle.watch.specs.Watch.{data_bit}
 use Rattle.watch.specs.Ear.{last_change, level_at}
 use Rattle.watch.proofs.ear.still_block.Goals as goal

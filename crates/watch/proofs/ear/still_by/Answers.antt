@@ -1,4 +1,4 @@
-use Rattle.std.proofs.Common.{rules, le-ltb, lt-ltb}
+use Rattle.std.proofs.Common.{le-ltb, lt-ltb}
 use Rattle.watch.proofs.ear.still_by.Goals as goal
 
 pub returns-then-clock-changed : goal.returns-then-clock-changed

@@ -1,7 +1,5 @@
-use borrow.Author.Tests.{not-false}
-use Rattle.watch.specs.Ear.{next_in}
 use Rattle.watch.proofs.Changes.{next-change-pass}
-use Rattle.std.proofs.Common.{◌≡◌, ◌+◌, ◌-◌, refl, ◌∙◌, arith, rules}
+use Rattle.std.proofs.Common.{◌+◌, refl, ◌∙◌, arith}
 use Rattle.watch.proofs.ear.still_from.Goals as goal
 
 pub loop-i-init : goal.loop-i-init

@@ -1,7 +1,5 @@
-use borrow.Author.Tests.{not-false}
 use Rattle.watch.specs.Ear.{next_in}
-use Rattle.watch.proofs.Changes.{next-change-pass}
-use Rattle.std.proofs.Common.{◌≡◌, ◌+◌, ◌-◌, refl, ◌∙◌, arith, rules}
+use Rattle.std.proofs.Common.{◌≡◌, ◌-◌}
 use Rattle.watch.proofs.ear.still_from.Given as goal
 
 abbrev pub invariant-loop-i : goal.invariant-loop-i

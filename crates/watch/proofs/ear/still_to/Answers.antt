@@ -1,7 +1,5 @@
-use borrow.Author.Tests.{not-false}
-use Rattle.watch.specs.Ear.{last_in}
 use Rattle.watch.proofs.Changes.{last-change-end, last-change-pass}
-use Rattle.std.proofs.Common.{◌≡◌, ◌+◌, ◌-◌, ◌≤◌, length, ◌∙◌, arith, rules}
+use Rattle.std.proofs.Common.{◌≡◌, ◌+◌, ◌-◌, ◌∙◌, arith}
 use Rattle.watch.proofs.ear.still_to.Goals as goal
 
 pub loop-i-init : goal.loop-i-init

@@ -1,7 +1,5 @@
-use borrow.Author.Tests.{not-false}
 use Rattle.watch.specs.Ear.{last_in}
-use Rattle.watch.proofs.Changes.{last-change-end, last-change-pass}
-use Rattle.std.proofs.Common.{◌≡◌, ◌+◌, ◌-◌, ◌≤◌, length, ◌∙◌, arith, rules}
+use Rattle.std.proofs.Common.{◌≡◌, ◌≤◌, length}
 use Rattle.watch.proofs.ear.still_to.Given as goal
 
 abbrev pub invariant-loop-i : goal.invariant-loop-i

@@ -1,4 +1,3 @@
-use Rattle.std.proofs.Common.{rules}
 use Rattle.watch.proofs.kept.bring.Goals as goal
 
 pub returns : goal.returns

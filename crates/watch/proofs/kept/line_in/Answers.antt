@@ -1,5 +1,4 @@
 use Rattle.watch.specs.Watch.{last_of}
-use Rattle.std.proofs.Common.{rules}
 use Rattle.watch.proofs.kept.line_in.Goals as goal
 
 pub returns-then-on : goal.returns-then-on

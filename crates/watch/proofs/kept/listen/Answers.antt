@@ -1,4 +1,3 @@
-use Rattle.std.proofs.Common.{rules}
 use Rattle.watch.proofs.kept.listen.Goals as goal
 
 pub returns-then-on : goal.returns-then-on

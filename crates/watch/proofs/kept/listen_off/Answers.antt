@@ -1,5 +1,5 @@
 use Rattle.watch.proofs.Clocks.{part_none, part-nothing, part_off}
-use Rattle.std.proofs.Common.{false, sym, rules}
+use Rattle.std.proofs.Common.{false, sym}
 use Rattle.watch.proofs.kept.listen_off.Goals as goal
 
 pub returns-then-end-from : goal.returns-then-end-from

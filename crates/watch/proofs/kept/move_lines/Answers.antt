@@ -1,4 +1,3 @@
-use Rattle.std.proofs.Common.{rules}
 use Rattle.watch.proofs.kept.move_lines.Goals as goal
 
 pub returns : goal.returns

@@ -1,4 +1,4 @@
-use Rattle.std.proofs.Common.{rules, ne_eqb}
+use Rattle.std.proofs.Common.{ne_eqb}
 use Rattle.watch.proofs.kept.still_by.Goals as goal
 
 pub returns-then-clock-eq0 : goal.returns-then-clock-eq0

@@ -1,5 +1,5 @@
 use Rattle.tables.proofs.Booleans.{and-false}
-use Rattle.std.proofs.Common.{rules, eq-eqb, ne_eqb, le-leb}
+use Rattle.std.proofs.Common.{eq-eqb, ne_eqb, le-leb}
 use borrow.Author.Tests.{lt-leb}
 use Rattle.watch.specs.Watch.{moved}
 use Rattle.watch.proofs.kept.still_in.Goals as goal

@@ -1,4 +1,4 @@
-use Rattle.std.proofs.Common.{◌^◌, ◌<◌, ◌≤◌, arith, rules}
+use Rattle.std.proofs.Common.{◌^◌, ◌<◌, ◌≤◌, arith}
 use native.Mathlib.Nat.{div-eq_of_lt, pow-le-pow_right}
 use Rattle.watch.proofs.watch.is_enabled.Goals as goal
 

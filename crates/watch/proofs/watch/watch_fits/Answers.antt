@@ -1,4 +1,4 @@
-use Rattle.std.proofs.Common.{sym, ◌∙◌, rules}
+use Rattle.std.proofs.Common.{sym, ◌∙◌}
 use Rattle.watch.proofs.watch.watch_fits.Goals as goal
 
 pub returns-then-line_fits : goal.returns-then-line_fits

@@ -4,7 +4,6 @@ use Prim.Native.Nat.{ℕ, ◌+◌, ◌*◌, ◌%◌, ◌<◌}
 use native.Mathlib.Omega.{arith}
 use lib.ListN.{get_or}
 use Rattle.parts.proofs.Laws.{code_lt, row-index-lt, table, slice-table}
-use borrow.Author.Rules.{rules}
 use Rattle.slices.proofs.slices.slice_bits.Goals as goal
 
 -- the number of the command and the column of the part
@@ -23,7 +22,7 @@ pub overflow_add-at-2 : goal.overflow_add-at-2
 overflow_add-at-2 c = omega (arith, (within c).0, (within c).1)
 
 pub offset_bounds-at : goal.offset_bounds-at
-offset_bounds-at c = omega (arith, (within c).0, (within c).1)
+offset_bounds-at c = omega (arith, c.number_of.ensures, code_lt c.args.command, c.row_of.ensures, row-index-lt c.args.part)
 
 pub returns : goal.returns
 returns c = let a = c.args in

@@ -1,13 +1,10 @@
 -- By the command; a part has three banks at most, so that no product is too large. Assumes nothing.
-use mathlib.Core.Path.{◌≡◌, refl, sym, ap, ◌∙◌, subst}
+use mathlib.Core.Path.{sym, subst}
 use Prim.Native.Nat.{◌+◌, ◌%◌, ◌≤◌}
 use native.Mathlib.Nat.{mul-le-mul_left, mul-le-mul_right}
-use Rattle.parts.specs.Parts.{part_of, multiplex, slice_fields}
 use Rattle.parts.specs.declared.part.Constants.{Constants}
 use native.Mathlib.Omega.{arith}
 use Rattle.parts.proofs.Laws.{usable}
-use Rattle.parts.proofs.Cases.{byte-command}
-use borrow.Author.Rules.{rules}
 use Rattle.slices.proofs.slices.slice_fields.Goals as goal
 
 few : (c : goal.In-Individual) → c.constants_of-banks.result.banks ≤ 3

@@ -1,5 +1,3 @@
-use Rattle.phases.proofs.Cases.{headed-later}
-use borrow.Author.Rules.{rules}
 use Rattle.phases.proofs.phase.header_bit.Goals as goal
 
 pub returns-in-Hunting : goal.returns-in-Hunting

@@ -1,5 +1,4 @@
 use borrow.Author.Tests.{lt-ltb, le-ltb}
-use borrow.Author.Rules.{rules}
 use Rattle.phases.proofs.phase.more_count.Goals as goal
 
 pub returns-then-next-lt1024 : goal.returns-then-next-lt1024

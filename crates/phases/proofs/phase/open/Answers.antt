@@ -1,5 +1,3 @@
-use borrow.Author.Tests.{ne_eqb}
-use borrow.Author.Rules.{rules}
 use Rattle.phases.proofs.phase.open.Goals as goal
 
 pub returns-in-0 : goal.returns-in-0

@@ -1,4 +1,3 @@
-use borrow.Author.Rules.{rules}
 use Rattle.phases.proofs.phase.place_of.Goals as goal
 
 pub returns-in-Hunting : goal.returns-in-Hunting

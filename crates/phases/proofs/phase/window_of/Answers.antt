@@ -1,5 +1,3 @@
-use Rattle.phases.proofs.Cases.{window_of-other}
-use borrow.Author.Rules.{rules}
 use Rattle.phases.proofs.phase.window_of.Goals as goal
 
 pub returns-in-Hunting : goal.returns-in-Hunting

@@ -1,9 +1,8 @@
 use mathlib.Core.Path.{sym, ◌∙◌}
 use Prim.Native.Nat.{◌<◌, ◌≤◌}
 use native.Mathlib.Omega.{arith}
-use borrow.Author.Tests.{not-true, not-false, le-leb, lt-leb}
+use borrow.Author.Tests.{le-leb, lt-leb}
 use Rattle.parts.specs.Parts.{part_of, subframes}
-use borrow.Author.Rules.{rules}
 use Rattle.subframes.proofs.judge.judge_subframe.Goals as goal
 
 pub returns-then-not-is_known : goal.returns-then-not-is_known

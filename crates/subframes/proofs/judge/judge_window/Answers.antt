@@ -1,9 +1,8 @@
 use mathlib.Core.Path.{sym, ◌∙◌}
 use Prim.Native.Nat.{◌+◌, ◌<◌, ◌≤◌}
 use native.Mathlib.Omega.{arith}
-use borrow.Author.Tests.{not-true, not-false, lt-ltb, le-ltb}
+use borrow.Author.Tests.{lt-ltb, le-ltb}
 use Rattle.parts.specs.Parts.{part_of, subframes}
-use borrow.Author.Rules.{rules}
 use Rattle.subframes.proofs.judge.judge_window.Goals as goal
 
 pub returns-then-not-is_known : goal.returns-then-not-is_known

@@ -4,7 +4,6 @@ use Rattle.tables.proofs.Rows.{refused, accepted}
 use Rattle.subframes.specs.declared.answer.Asked.TheVariants.{Is, Refused}
 use Rattle.subframes.specs.Subframes.{is_on}
 use Rattle.subframes.specs.Answers.{on_answer}
-use borrow.Author.Rules.{rules}
 use Rattle.subframes.proofs.questions.is_on.Goals as goal
 
 pub returns-then-refusal-ne0 : goal.returns-then-refusal-ne0

@@ -7,7 +7,6 @@ use Rattle.tables.proofs.Rows.{clear, refused, accepted}
 use Rattle.subframes.specs.declared.answer.Lead.TheVariants.{By, Refused}
 use Rattle.subframes.specs.Subframes.{lead_of}
 use Rattle.subframes.specs.Answers.{lead_rows, lead_answer}
-use borrow.Author.Rules.{rules}
 use Rattle.subframes.proofs.questions.lead_of.Goals as goal
 
 pub returns-then-refusal-ne0 : goal.returns-then-refusal-ne0

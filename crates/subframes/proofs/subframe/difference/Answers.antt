@@ -5,7 +5,6 @@ use mir.Syntax.{w32}
 use mir.Val.{SFits, to_z}
 use mir.ValLaws.{to_z-of_z, to_z_pos}
 use Rattle.subframes.proofs.Signed.{mag-sub}
-use borrow.Author.Rules.{rules}
 use Rattle.subframes.proofs.subframe.difference.Goals as goal
 
 -- what the machine reads back from the bits are the numbers

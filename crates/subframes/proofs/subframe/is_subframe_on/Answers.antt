@@ -5,7 +5,6 @@ use lib.Dec.{ltb}
 use Rattle.subframes.specs.Subframes.{on}
 use Rattle.parts.proofs.Laws.{usable}
 use Rattle.subframes.proofs.Subframes.{level-lt}
-use borrow.Author.Rules.{rules}
 use Rattle.subframes.proofs.subframe.is_subframe_on.Goals as goal
 
 pub on_first-requires : goal.on_first-requires

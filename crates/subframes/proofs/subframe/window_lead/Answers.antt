@@ -7,7 +7,6 @@ use mir.Facts.{to_z-of_z}
 use Rattle.subframes.specs.Subframes.{on_count, lead}
 use Rattle.parts.proofs.Laws.{usable}
 use Rattle.subframes.proofs.Subframes.{level-lt, first-window, count-quotients, product_lt}
-use borrow.Author.Rules.{rules}
 use Rattle.subframes.proofs.subframe.window_lead.Goals as goal
 
 -- what the two quotients are good for
@@ -71,6 +70,10 @@ pub returns : goal.returns
 returns c = let a = c.args in
     let s = c.subframes_of-subframes in
     let g = c.level_of-level in
+    let q = c.on_first.ensures in
+    let r = c.on_first-2.ensures in
+    let l : g.result < s.result = omega (arith, level-lt a.part a.configuration a.global, s.ensures, g.ensures) in
+    let n : c.on_first.result - c.on_first-2.result ≡ on_count s.result g.result a.from a.w = omega (arith, count-quotients s.result g.result l a.from a.w) in
     to_z-of_z {w = w32} {z = c.difference.result} (record { sfits = c.difference.type_inv }) ∙ c.difference.ensures
-    ∙ ap (λ (n : ℕ). pos (s.result * n) -ℤ pos (a.w * (g.result + 1))) (within c).counted
+    ∙ ap (λ (n : ℕ). pos (s.result * n) -ℤ pos (a.w * (g.result + 1))) n
     ∙ ap₂ (λ (n l : ℕ). lead n l a.from a.w) s.ensures g.ensures

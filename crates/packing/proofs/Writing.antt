@@ -10,8 +10,7 @@ use lib.ListN.{length, get_or, take, drop, set, length-drop}
 use lib.Seq.{length-take-le, take_all, take-suc-set, drop-drop, drop-set-lt}
 use lib.Pow.{pow_pos, shr-shr}
 use lib.Bits.{bit_or, bit_and, and_mask}
-use Rattle.bits.specs.Bits.{bits, number, fields, over}
-use Rattle.packing.specs.declared.packing.Packed.TheVariants as P
+use Rattle.bits.specs.Bits.{bits, number, fields}
 use Rattle.packing.specs.Writing.{written_bits, Pushed, Stored}
 use Rattle.packing.specs.declared.writer.Writer.{Writer}
 use Rattle.bits.proofs.Groups.{group-bits}

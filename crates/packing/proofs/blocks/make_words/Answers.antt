@@ -4,7 +4,6 @@ use native.Mathlib.Omega.{arith}
 use lib.ListN.{length, drop}
 use Prim.Native.Nat.{ℕ}
 use Rattle.packing.specs.Blocks.{four_masks, group_words}
-use borrow.Author.Rules.{rules}
 use Rattle.packing.proofs.blocks.make_words.Goals as goal
 
 pub make_words_of-requires : goal.make_words_of-requires

@@ -1,12 +1,11 @@
 use mathlib.Core.Path.{◌≡◌, refl, sym, ap, ◌∙◌}
-use Prim.Native.Nat.{◌+◌, ◌*◌, ◌-◌, ◌%◌, ◌^◌, ◌≤◌}
+use Prim.Native.Nat.{◌+◌, ◌*◌, ◌-◌, ◌%◌, ◌^◌}
 use native.Mathlib.Omega.{arith}
 use lib.ListN.{length, take, drop, length-drop, length-set}
-use lib.Seq.{paste, paste-zero, length-take-le}
+use lib.Seq.{paste-zero, length-take-le}
 use Rattle.bits.proofs.Laws as bit
 use Rattle.packing.specs.Blocks.{group_words}
 use Rattle.packing.proofs.Laid as laid
-use borrow.Author.Rules.{rules}
 use Rattle.packing.proofs.blocks.make_words_of.Goals as goal
 
 pub loop-j-init : goal.loop-j-init

@@ -1,13 +1,9 @@
 -- The words before `j` are made. Assumes nothing.
-use mathlib.Core.Path.{◌≡◌, refl, sym, ap, ◌∙◌}
-use Prim.Native.Nat.{◌+◌, ◌*◌, ◌-◌, ◌%◌, ◌^◌, ◌≤◌}
-use native.Mathlib.Omega.{arith}
-use lib.ListN.{length, take, drop, length-drop, length-set}
-use lib.Seq.{paste, paste-zero, length-take-le}
-use Rattle.bits.proofs.Laws as bit
+use mathlib.Core.Path.{◌≡◌}
+use Prim.Native.Nat.{◌-◌, ◌≤◌}
+use lib.ListN.{length, drop}
+use lib.Seq.{paste}
 use Rattle.packing.specs.Blocks.{group_words}
-use Rattle.packing.proofs.Laid as laid
-use borrow.Author.Rules.{rules}
 use Rattle.packing.proofs.blocks.make_words_of.Given as goal
 
 abbrev pub invariant-loop-j : goal.invariant-loop-j

@@ -1,16 +1,14 @@
 use mathlib.Core.Path.{◌≡◌, refl, ap, ◌∙◌}
-use Prim.Native.Nat.{ℕ, ◌+◌, ◌*◌, ◌-◌, ◌/◌, ◌%◌, ◌≤◌}
+use Prim.Native.Nat.{ℕ, ◌+◌, ◌*◌, ◌/◌, ◌%◌, ◌≤◌}
 use native.Mathlib.Nat.{zero-mul, add-mul}
 use native.Mathlib.Omega.{arith}
-use borrow.Author.Tests.{eqb-true, not-false}
-use lib.ListN.{length, take, drop}
-use Rattle.bits.specs.Bits.{fields, bytes_for}
-use Rattle.packing.specs.Blocks.{four_masks, group_words, Laid}
-use Rattle.tables.proofs.Tests.{by_way}
+use lib.ListN.{length, drop}
+use Rattle.bits.specs.Bits.{bytes_for}
+use Rattle.packing.specs.Blocks.{group_words}
 use Rattle.bits.proofs.Fits.{room-more}
 use Rattle.packing.proofs.Laid as laid
-use borrow.Author.Rules.{rules}
 use Rattle.packing.proofs.blocks.put_blocks.Goals as goal
+use Rattle.packing.proofs.blocks.put_blocks.Goals.{else-width-ne12-via-then-width-ne12+else-width-ne14, else-width-ne12-via-else-width-ne12}
 
 -- the bytes behind i values, a block and one value
 room-left : (w i n : ℕ) → i % 8 ≡ 0 → i + 129 ≤ n → 12 ≤ w → i / 8 * w + 16 * w + 2 ≤ bytes_for (n * w)
@@ -23,7 +21,7 @@ returns-then-width-ne14 c = let a = c.args in
 pub loop-i-init : goal.loop-i-init
 loop-i-init c = let a = c.args in
     let known : (12 ≤ a.width) × (a.width ≤ 14) × (a.width % 2 ≡ 0)
-    = by_way c.if-width-ne12.branch (λ w. omega (arith, eqb-true a.width 14 (not-false _ w.1.left))) (λ w. omega arith) in (
+    = elim c.else-width-ne12.branch [ else-width-ne12-via-then-width-ne12+else-width-ne14 w ↦ omega arith | else-width-ne12-via-else-width-ne12 w ↦ omega arith ] in (
       laid.blocks-none a.width a.values.now a.out.now a.at (a.at + bytes_for (length a.values.now * a.width)),
       omega (arith, zero-mul a.width),
       refl,

@@ -1,16 +1,9 @@
 -- The values before `i`, in blocks, are laid; at least one value is behind each block. Assumes nothing.
-use mathlib.Core.Path.{◌≡◌, refl, ap, ◌∙◌}
-use Prim.Native.Nat.{ℕ, ◌+◌, ◌*◌, ◌-◌, ◌/◌, ◌%◌, ◌≤◌}
-use native.Mathlib.Nat.{zero-mul, add-mul}
-use native.Mathlib.Omega.{arith}
-use borrow.Author.Tests.{eqb-true, not-false}
-use lib.ListN.{length, take, drop}
+use mathlib.Core.Path.{◌≡◌}
+use Prim.Native.Nat.{◌+◌, ◌*◌, ◌-◌, ◌/◌, ◌%◌, ◌≤◌}
+use lib.ListN.{length, take}
 use Rattle.bits.specs.Bits.{fields, bytes_for}
-use Rattle.packing.specs.Blocks.{four_masks, group_words, Laid}
-use Rattle.tables.proofs.Tests.{by_way}
-use Rattle.bits.proofs.Fits.{room-more}
-use Rattle.packing.proofs.Laid as laid
-use borrow.Author.Rules.{rules}
+use Rattle.packing.specs.Blocks.{four_masks, Laid}
 use Rattle.packing.proofs.blocks.put_blocks.Given as goal
 
 abbrev pub invariant-loop-i : goal.invariant-loop-i

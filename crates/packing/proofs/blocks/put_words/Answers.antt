@@ -1,14 +1,10 @@
-use mathlib.Core.Path.{◌≡◌, refl}
-use Prim.Native.Nat.{◌+◌, ◌*◌, ◌-◌, ◌/◌, ◌%◌, ◌≤◌}
+use mathlib.Core.Path.{refl}
+use Prim.Native.Nat.{◌+◌, ◌*◌, ◌-◌, ◌/◌}
 use native.Mathlib.Nat.{zero-mul, add-mul}
 use native.Mathlib.Omega.{arith}
-use lib.ListN.{length, take}
-use Rattle.bits.specs.Bits.{fields}
-use Rattle.bits.specs.Words.{high_bits}
-use Rattle.packing.specs.Blocks.{Laid}
+use lib.ListN.{length}
 use Rattle.bits.proofs.Fits.{room-more}
 use Rattle.packing.proofs.Laid as laid
-use borrow.Author.Rules.{rules}
 use Rattle.packing.proofs.blocks.put_words.Goals as goal
 
 pub loop-j-init : goal.loop-j-init

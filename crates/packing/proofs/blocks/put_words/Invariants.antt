@@ -1,15 +1,10 @@
 -- The words before `j` are stored; what the last of them has too many stands behind. Assumes nothing.
-use mathlib.Core.Path.{◌≡◌, refl}
-use Prim.Native.Nat.{◌+◌, ◌*◌, ◌-◌, ◌/◌, ◌%◌, ◌≤◌}
-use native.Mathlib.Nat.{zero-mul, add-mul}
-use native.Mathlib.Omega.{arith}
+use mathlib.Core.Path.{◌≡◌}
+use Prim.Native.Nat.{◌+◌, ◌*◌, ◌-◌, ◌%◌, ◌≤◌}
 use lib.ListN.{length, take}
 use Rattle.bits.specs.Bits.{fields}
 use Rattle.bits.specs.Words.{high_bits}
 use Rattle.packing.specs.Blocks.{Laid}
-use Rattle.bits.proofs.Fits.{room-more}
-use Rattle.packing.proofs.Laid as laid
-use borrow.Author.Rules.{rules}
 use Rattle.packing.proofs.blocks.put_words.Given as goal
 
 abbrev pub invariant-loop-j : goal.invariant-loop-j

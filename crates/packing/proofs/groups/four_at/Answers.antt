@@ -1,8 +1,6 @@
 -- Four values are moved together. Assumes nothing.
 use native.Mathlib.Omega.{arith}
-use Prim.Native.Nat.{◌+◌}
 use Rattle.packing.proofs.Four as four
-use borrow.Author.Rules.{rules}
 use Rattle.packing.proofs.groups.four_at.Goals as goal
 
 pub returns : goal.returns

@@ -3,7 +3,6 @@ use Prim.Native.Nat.{◌^◌}
 use native.Mathlib.Nat.{mod-le}
 use native.Mathlib.Omega.{arith}
 use Rattle.packing.proofs.Four as four
-use borrow.Author.Rules.{rules}
 use Rattle.packing.proofs.groups.four_masks.Goals as goal
 
 pub overflow_mul-result : goal.overflow_mul-result

@@ -3,7 +3,6 @@ use Prim.Native.Nat.{◌*◌, ◌/◌}
 use native.Mathlib.Omega.{arith}
 use lib.ListN.{length}
 use Rattle.packing.proofs.Writing as writing
-use borrow.Author.Rules.{rules}
 use Rattle.packing.proofs.groups.push_all.Goals as goal
 
 pub push_each-requires-2 : goal.push_each-requires-2

@@ -1,13 +1,9 @@
 use mathlib.Core.Path.{◌≡◌, refl}
-use Prim.Native.Nat.{◌*◌, ◌-◌, ◌/◌, ◌%◌, ◌≤◌}
+use Prim.Native.Nat.{◌*◌, ◌/◌}
 use native.Mathlib.Omega.{arith}
-use lib.ListN.{length, take}
-use Rattle.bits.specs.Bits.{fields}
-use Rattle.packing.specs.Writing.{Pushed}
-use Rattle.packing.specs.Blocks.{four_masks}
+use lib.ListN.{length}
 use Rattle.bits.proofs.Fits.{room-more}
 use Rattle.packing.proofs.Writing as writing
-use borrow.Author.Rules.{rules}
 use Rattle.packing.proofs.groups.push_fours.Goals as goal
 
 pub loop-i-init : goal.loop-i-init

@@ -1,14 +1,10 @@
 -- The values below `i`, in fours, are written. Assumes nothing.
-use mathlib.Core.Path.{◌≡◌, refl}
-use Prim.Native.Nat.{◌*◌, ◌-◌, ◌/◌, ◌%◌, ◌≤◌}
-use native.Mathlib.Omega.{arith}
+use mathlib.Core.Path.{◌≡◌}
+use Prim.Native.Nat.{◌*◌, ◌-◌, ◌%◌, ◌≤◌}
 use lib.ListN.{length, take}
 use Rattle.bits.specs.Bits.{fields}
 use Rattle.packing.specs.Writing.{Pushed}
 use Rattle.packing.specs.Blocks.{four_masks}
-use Rattle.bits.proofs.Fits.{room-more}
-use Rattle.packing.proofs.Writing as writing
-use borrow.Author.Rules.{rules}
 use Rattle.packing.proofs.groups.push_fours.Given as goal
 
 abbrev pub invariant-loop-i : goal.invariant-loop-i

@@ -1,7 +1,6 @@
 -- Zeros are pushed, and then whole bytes wait. Assumes nothing.
 use native.Mathlib.Omega.{arith}
 use Rattle.packing.proofs.Writing as writing
-use borrow.Author.Rules.{rules}
 use Rattle.packing.proofs.writer.finish.Goals as goal
 
 pub returns : goal.returns

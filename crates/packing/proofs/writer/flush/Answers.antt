@@ -1,13 +1,13 @@
 use mathlib.Core.Path.{◌≡◌, refl, sym, ap, ◌∙◌}
 use mathlib.Core.List.{List, append-nil}
-use Prim.Native.Nat.{ℕ, ◌+◌, ◌*◌, ◌-◌, ◌/◌, ◌^◌, ◌≤◌, ◌<◌}
+use Prim.Native.Nat.{ℕ, ◌+◌, ◌-◌, ◌/◌, ◌^◌, ◌≤◌, ◌<◌}
 use native.Mathlib.Omega.{arith}
 use lib.ListN.{length, drop, set, length-set}
 use lib.Seq.{drop-set-lt, drop-drop}
 use lib.Bits.{bit_and, mask_lt}
 use Rattle.packing.specs.Writing.{written_bits}
 use Rattle.packing.proofs.Writing as writing
-use borrow.Author.Rules.{rules}
+use Rattle.packing.proofs.writer.flush.Invariants.{Flushing}
 use Rattle.packing.proofs.writer.flush.Goals as goal
 
 turn : {out₀ out : List ℕ} {acc have₀ at₀ have at : ℕ} → Flushing out₀ acc have₀ at₀ out have at → 8 ≤ have → at < length out
@@ -43,12 +43,12 @@ loop-have-preserved c = turn c.loop-have.invariant (omega arith) (omega arith)
 
 pub returns : goal.returns
 returns c = let i = c.loop-have.invariant in (
-      record {
-        said = i.said ∙ sym (append-nil _);
-        rest = i.rest;
-        small = omega arith;
-        forward = i.forward;
-        count = omega arith;
-      },
-      omega arith,
-    )
+  record {
+    said = i.said ∙ sym (append-nil _);
+    rest = i.rest;
+    small = omega arith;
+    forward = i.forward;
+    count = omega arith;
+  },
+  omega arith,
+)

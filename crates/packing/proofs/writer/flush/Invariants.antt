@@ -1,15 +1,18 @@
 -- Each turn takes eight waiting bits to the next byte, which leaves what is written as it was. Assumes nothing.
-use mathlib.Core.Path.{◌≡◌, refl, sym, ap, ◌∙◌}
-use mathlib.Core.List.{List, append-nil}
-use Prim.Native.Nat.{ℕ, ◌+◌, ◌*◌, ◌-◌, ◌/◌, ◌^◌, ◌≤◌, ◌<◌}
-use native.Mathlib.Omega.{arith}
-use lib.ListN.{length, drop, set, length-set}
-use lib.Seq.{drop-set-lt, drop-drop}
-use lib.Bits.{bit_and, mask_lt}
+use mathlib.Core.Path.{◌≡◌}
+use mathlib.Core.List.{List}
+use Prim.Native.Nat.{ℕ, ◌+◌, ◌*◌, ◌≤◌}
+use lib.ListN.{length, drop}
 use Rattle.packing.specs.Writing.{written_bits}
-use Rattle.packing.proofs.Writing as writing
-use borrow.Author.Rules.{rules}
 use Rattle.packing.proofs.writer.flush.Given as goal
+
+pub record Flushing (out₀ : List ℕ) (acc have₀ at₀ : ℕ) (out : List ℕ) (have at : ℕ) : Type 0 where
+  pub said : written_bits out at have acc ≡ written_bits out₀ at₀ have₀ acc
+  pub rest : drop at out ≡ drop at out₀
+  pub long : length out ≡ length out₀
+  pub count : 8 * at + have ≡ 8 * at₀ + have₀
+  pub most : have ≤ have₀
+  pub forward : at₀ ≤ at
 
 abbrev pub invariant-loop-have : goal.invariant-loop-have
 invariant-loop-have l = Flushing l.initial.out l.acc l.initial.have l.initial.at l.out l.have l.at

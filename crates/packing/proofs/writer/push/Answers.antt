@@ -1,7 +1,6 @@
 -- The bits stand behind those that wait; 32 of them go to memory together. Assumes nothing.
 use native.Mathlib.Omega.{arith}
 use Rattle.packing.proofs.Writing as writing
-use borrow.Author.Rules.{rules}
 use native.Mathlib.Omega.{arith}
 use Rattle.packing.proofs.Writing as writing
 use Rattle.packing.proofs.writer.push.Goals as goal

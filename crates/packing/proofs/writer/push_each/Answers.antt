@@ -1,12 +1,7 @@
-use mathlib.Core.Path.{◌≡◌, refl}
-use Prim.Native.Nat.{◌*◌, ◌-◌, ◌≤◌}
+use mathlib.Core.Path.{refl}
 use native.Mathlib.Omega.{arith}
-use lib.ListN.{length, take}
-use Rattle.bits.specs.Bits.{fields}
-use Rattle.packing.specs.Writing.{Pushed}
 use Rattle.bits.proofs.Fits.{room}
 use Rattle.packing.proofs.Writing as writing
-use borrow.Author.Rules.{rules}
 use Rattle.packing.proofs.writer.push_each.Goals as goal
 
 pub loop-i-init : goal.loop-i-init

@@ -1,13 +1,9 @@
 -- The values below `i` are written. Assumes nothing.
-use mathlib.Core.Path.{◌≡◌, refl}
+use mathlib.Core.Path.{◌≡◌}
 use Prim.Native.Nat.{◌*◌, ◌-◌, ◌≤◌}
-use native.Mathlib.Omega.{arith}
 use lib.ListN.{length, take}
 use Rattle.bits.specs.Bits.{fields}
 use Rattle.packing.specs.Writing.{Pushed}
-use Rattle.bits.proofs.Fits.{room}
-use Rattle.packing.proofs.Writing as writing
-use borrow.Author.Rules.{rules}
 use Rattle.packing.proofs.writer.push_each.Given as goal
 
 abbrev pub invariant-loop-i : goal.invariant-loop-i

@@ -1,7 +1,6 @@
 -- The high part, and then the low 32 bits. Assumes nothing.
 use native.Mathlib.Omega.{arith}
 use Rattle.packing.proofs.Writing as writing
-use borrow.Author.Rules.{rules}
 use Rattle.packing.proofs.writer.push_wide.Goals as goal
 
 pub returns : goal.returns

@@ -1,7 +1,6 @@
 -- The four bytes of the high half, and then those of the low one. Assumes nothing.
 use Rattle.bits.proofs.Laws.{bits-add}
 use Rattle.packing.proofs.Writing as writing
-use borrow.Author.Rules.{rules}
 use Rattle.packing.proofs.writer.store_long.Goals as goal
 
 pub returns : goal.returns

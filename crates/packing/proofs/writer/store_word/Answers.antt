@@ -6,7 +6,6 @@ use native.Mathlib.Omega.{arith}
 use lib.ListN.{length-set}
 use lib.Bits.{bit_and, mask_lt}
 use Rattle.packing.proofs.Writing as writing
-use borrow.Author.Rules.{rules}
 use Rattle.packing.proofs.writer.store_word.Goals as goal
 
 -- the `u32` of which the bytes are taken

@@ -18,8 +18,8 @@ mod-suc q m =
     let e : m * (q / m) + suc (q % m) ≡ suc q = omega (arith, mod-add-div q m) in
     sym (mul-add-mod_self_left m (q / m) (suc (q % m))) ∙ ap (λ (n : ℕ). n % m) e
 
-run_on : (t : ℕ) (r : Registers) → t < 2 ^ 63 → Early t r → run_on (t + 1) r ≡ suc (run_on t r)
-run_on t r h e = omega (arith, h, e)
+run_on-next : (t : ℕ) (r : Registers) → t < 2 ^ 63 → Early t r → run_on (t + 1) r ≡ suc (run_on t r)
+run_on-next t r h e = omega (arith, h, e)
 
 -- what is active one clock later: what waits where a frame ends, or has ended
 later : {A : Type 0} (q m : ℕ) (waits active : A) → 0 < m
@@ -58,11 +58,11 @@ by_next t r h e = go (eqb (next b) 0) refl
 
     shown : {A : Type 0} (waits active : A) → cond (has_ended (t + 1) r) waits active ≡ cond (eqb (next b) 0) waits (cond (has_ended t r) waits active)
     shown waits active =
-        ap (λ (n : ℕ). cond (not (ltb n m)) waits active) (run_on t r h e) ∙ later q m waits active (length-pos r)
+        ap (λ (n : ℕ). cond (not (ltb n m)) waits active) (run_on-next t r h e) ∙ later q m waits active (length-pos r)
         ∙ ap (λ (n : ℕ). cond (eqb n 0) waits (cond (has_ended t r) waits active)) (sym on)
 
     place : run_on (t + 1) r % m ≡ next b
-    place = ap (λ (n : ℕ). n % m) (run_on t r h e) ∙ sym on
+    place = ap (λ (n : ℕ). n % m) (run_on-next t r h e) ∙ sym on
 
     go : (z : Bool) → eqb (next b) 0 ≡ z
         → placed_at (shown_by (t + 1) r r) (run_on (t + 1) r % m) ≡ placed_at (cond z (activated b) b) (next b)
@@ -70,7 +70,7 @@ by_next t r h e = go (eqb (next b) 0) refl
     go false f = rw (shown r.waiting r.active, shown r.waiting0 r.active0, shown r.waiting1 r.active1, place, f)
 
 pub early-next : (t : ℕ) (r : Registers) → t < 2 ^ 63 → Early t r → Early (t + 1) r
-early-next t r h e = omega (arith, run_on t r h e, e)
+early-next t r h e = omega (arith, run_on-next t r h e, e)
 
 -- at the first clock
 pub early-first : (r : Registers) → position_fits r ≡ true → Early 0 r

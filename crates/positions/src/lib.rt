@@ -1,4 +1,6 @@
 // A device's position in the frame: whether it is one, what a configuration that shortens the frame makes of it, and how a run keeps it.
+#![tactic(auto)]
+
 mod positions;
 mod running;
 

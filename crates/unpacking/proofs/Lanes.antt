@@ -7,7 +7,7 @@ use Prim.Native.Nat.{ℕ, suc, ◌+◌, ◌-◌, ◌*◌, ◌/◌, ◌%◌, ◌^
 use native.Mathlib.Nat.{lt_of_lt_of_le, mod-lt, add_comm}
 use native.Mathlib.Omega.{arith}
 use lib.Bits.{bit_and, bit_or, and_block, or_block, and_mask, mask_lt, or_shifted_r}
-use lib.ListN.{length, get_or, set, take}
+use lib.ListN.{length, get_or, set}
 use lib.Pow as pow
 use lib.Pow.{pow_pos, pow_mono, ones_lt, shl_exact, shr_lt, shr-shr, high, low, field, mod-mod-pow}
 use lib.Seq.{take_all}

@@ -1,12 +1,8 @@
 -- The words below `j` are loaded. Assumes nothing.
-use mathlib.Core.Path.{◌≡◌, refl}
-use Prim.Native.Nat.{ℕ, ◌+◌, ◌*◌, ◌-◌, ◌/◌, ◌%◌, ◌≤◌, ◌<◌}
-use native.Mathlib.Nat.{mul-le-mul_right}
-use native.Mathlib.Omega.{arith}
-use lib.ListN.{length, length-set}
-use lib.Seq.{take_all}
+use mathlib.Core.Path.{◌≡◌}
+use Prim.Native.Nat.{◌+◌, ◌*◌, ◌-◌, ◌%◌, ◌≤◌}
+use lib.ListN.{length}
 use Rattle.unpacking.proofs.Words as law
-use borrow.Author.Rules.{rules}
 use Rattle.unpacking.proofs.blocks.load_words.Given as goal
 
 abbrev pub invariant-loop-j : goal.invariant-loop-j

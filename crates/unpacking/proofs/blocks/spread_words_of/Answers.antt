@@ -1,12 +1,8 @@
-use mathlib.Core.Path.{◌≡◌, refl}
-use Prim.Native.Nat.{◌*◌, ◌-◌, ◌≤◌}
+use mathlib.Core.Path.{refl}
+use Prim.Native.Nat.{◌*◌}
 use native.Mathlib.Omega.{arith}
-use lib.ListN.{length, take}
 use lib.Seq.{take_all}
-use Rattle.bits.specs.Bits.{over_at}
-use Rattle.unpacking.specs.Blocks.{group_values}
 use Rattle.unpacking.proofs.Words as law
-use borrow.Author.Rules.{rules}
 use Rattle.unpacking.proofs.blocks.spread_words_of.Goals as goal
 
 pub loop-j-init : goal.loop-j-init
@@ -15,7 +11,7 @@ loop-j-init c = (law.spread_none _ _ _, omega arith, refl)
 pub four_of-requires : goal.four_of-requires
 four_of-requires c = let l = c.loop-j in
     let a = c in
-    (omega arith, law.high_lt (4 * a.args.width) (omega arith) (c.shared_slice_known-in-loop-j-1.given l.j).fits, a.requires.0.2)
+    (omega arith, law.high_lt (4 * a.args.width) (omega arith) (c.type_inv.words l.j).fits, a.requires.width_nonzero.2)
 
 pub loop-j-preserved : goal.loop-j-preserved
 loop-j-preserved c = let s = c in

@@ -1,13 +1,9 @@
 -- The values of the words below `j` are stored. Assumes nothing.
-use mathlib.Core.Path.{◌≡◌, refl}
-use Prim.Native.Nat.{◌*◌, ◌-◌, ◌≤◌}
-use native.Mathlib.Omega.{arith}
+use mathlib.Core.Path.{◌≡◌}
+use Prim.Native.Nat.{◌-◌, ◌≤◌}
 use lib.ListN.{length, take}
-use lib.Seq.{take_all}
 use Rattle.bits.specs.Bits.{over_at}
 use Rattle.unpacking.specs.Blocks.{group_values}
-use Rattle.unpacking.proofs.Words as law
-use borrow.Author.Rules.{rules}
 use Rattle.unpacking.proofs.blocks.spread_words_of.Given as goal
 
 abbrev pub invariant-loop-j : goal.invariant-loop-j

@@ -3,16 +3,14 @@ use mathlib.Core.List.{List}
 use Prim.Native.Nat.{ℕ, ◌+◌, ◌*◌, ◌-◌, ◌/◌, ◌%◌, ◌≤◌, ◌<◌}
 use native.Mathlib.Nat.{add-zero, zero-mul, mul-le-mul_right}
 use native.Mathlib.Omega.{arith}
-use borrow.Author.Tests.{eqb-true, not-false}
-use lib.ListN.{length, take}
+use lib.ListN.{length}
 use lib.Seq.{length-take-le}
-use Rattle.tables.proofs.Tests.{by_way}
 use Rattle.bits.specs.Bits.{bytes_for}
-use Rattle.unpacking.specs.Reading.{from, Pulled}
 use Rattle.unpacking.proofs.Reading as reading
 use Rattle.unpacking.proofs.Words as law
-use borrow.Author.Rules.{rules}
+use Rattle.unpacking.proofs.blocks.take_blocks.Invariants.{Taking}
 use Rattle.unpacking.proofs.blocks.take_blocks.Goals as goal
+use Rattle.unpacking.proofs.blocks.take_blocks.Goals.{else-width-ne12-via-then-width-ne12+else-width-ne14, else-width-ne12-via-else-width-ne12}
 
 -- the bits before `here` are those of the values read
 counted : {src : List ℕ} {at width : ℕ} {values₀ values words : List ℕ} {here i : ℕ} → Taking src at width values₀ values words here i
@@ -33,7 +31,7 @@ returns-then-width-ne14 c = let s = c in
 pub loop-values-init : goal.loop-values-init
 loop-values-init c = let s = c in
     let w : (12 ≤ s.args.width) × (s.args.width ≤ 14) × (s.args.width % 2 ≡ 0)
-    = by_way c.if-width-ne12.branch (λ t. omega (arith, eqb-true s.args.width 14 (not-false _ t.1.left))) (λ t. omega arith) in
+    = elim c.else-width-ne12.branch [ else-width-ne12-via-then-width-ne12+else-width-ne14 w ↦ omega arith | else-width-ne12-via-else-width-ne12 w ↦ omega arith ] in
     record {
       read = reading.pulled-none s.args.width (omega arith) (omega arith);
       wide = w.0;
@@ -48,17 +46,17 @@ loop-values-init c = let s = c in
 pub load_words-requires : goal.load_words-requires
 load_words-requires c = let s = c in
     let i = c.loop-values.invariant in
-    ((omega arith, i.even, omega arith), omega (arith, room i (omega arith) s.requires.1, ap (λ (n : ℕ). n * (s.args.width / 2)) i.staged))
+    record { width_bound = (omega arith, i.even, omega arith); width_in_bounds = omega (arith, room i (omega arith) s.requires.1, ap (λ (n : ℕ). n * (s.args.width / 2)) i.staged) }
 
 pub loop-values-preserved : goal.loop-values-preserved
 loop-values-preserved c = let s = c in
     let l = c.loop-values in
     let i = l.invariant in
     let f = c.load_words in
-    let e : l.here + length l.words-1 * (s.args.width / 2) ≡ l.here + 16 * s.args.width
+    let e : l.here + length l.words * (s.args.width / 2) ≡ l.here + 16 * s.args.width
     = omega (arith, i.even, ap (λ (n : ℕ). n * (s.args.width / 2)) i.staged) in
-    let n : 4 * length f.new.1.1.1.0 ≡ 128 = omega (arith, i.staged) in
-    let r = law.words-read s.args.width l.i f.new.1.1.1.0 l.values-1 i.short i.read f.ensures c.spread_words.ensures in
+    let n : 4 * length f.new.words ≡ 128 = omega (arith, i.staged) in
+    let r = law.words-read s.args.width l.i f.new.words l.values i.short i.read f.ensures c.spread_words.ensures in
     record {
       read = rw (e, n) at r;
       wide = i.wide;

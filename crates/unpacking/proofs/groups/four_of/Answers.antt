@@ -1,7 +1,6 @@
 -- A number is parted into two and two values, and then each two into one and one. Assumes nothing.
 use mathlib.Core.Path.{refl}
 use Rattle.unpacking.proofs.Lanes as lanes
-use borrow.Author.Rules.{rules}
 use Rattle.unpacking.proofs.groups.four_of.Goals as goal
 
 pub returns : goal.returns

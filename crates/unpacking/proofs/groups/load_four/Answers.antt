@@ -2,7 +2,6 @@
 use Prim.Native.Nat.{◌*◌, ◌/◌}
 use native.Mathlib.Omega.{arith}
 use Rattle.unpacking.proofs.Words as law
-use borrow.Author.Rules.{rules}
 use Rattle.unpacking.proofs.groups.load_four.Goals as goal
 
 pub returns : goal.returns

@@ -1,14 +1,11 @@
 use mathlib.Core.Path.{◌≡◌, refl}
-use Prim.Native.Nat.{◌+◌, ◌*◌, ◌-◌, ◌/◌, ◌%◌, ◌≤◌}
+use Prim.Native.Nat.{◌*◌, ◌/◌}
 use native.Mathlib.Nat.{zero-mul, add-mul}
 use native.Mathlib.Omega.{arith}
-use lib.ListN.{length, take}
-use Rattle.unpacking.specs.Reading.{from, Pulled}
-use Rattle.unpacking.specs.Blocks.{two_masks}
+use lib.ListN.{length}
 use Rattle.bits.proofs.Fits.{room-more}
 use Rattle.unpacking.proofs.Reading as reading
 use Rattle.unpacking.proofs.Words as law
-use borrow.Author.Rules.{rules}
 use Rattle.unpacking.proofs.groups.pull_fours.Goals as goal
 
 pub loop-values-init : goal.loop-values-init
@@ -18,7 +15,7 @@ loop-values-init c = let a = c.args in
 pub load_four-requires : goal.load_four-requires
 load_four-requires c = let l = c.loop-values in
     let a = c.args in
-    (omega arith, omega arith, omega arith, omega (arith, room-more a.width 4 l.i (length a.values-1.now) (omega arith)))
+    (omega arith, omega arith, omega arith, omega (arith, room-more a.width 4 l.i (length a.values.now) (omega arith)))
 
 pub four_of-requires : goal.four_of-requires
 four_of-requires c = (omega arith, c.load_four.ensures.below 0, c.two_masks-mask.ensures)
@@ -26,12 +23,12 @@ four_of-requires c = (omega arith, c.load_four.ensures.below 0, c.two_masks-mask
 pub overflow_add-here : goal.overflow_add-here
 overflow_add-here c = let l = c.loop-values in
     let a = c.args in
-    omega (arith, room-more a.width 4 l.i (length a.values-1.now) (omega arith))
+    omega (arith, room-more a.width 4 l.i (length a.values.now) (omega arith))
 
 pub loop-values-preserved : goal.loop-values-preserved
 loop-values-preserved c = let l = c.loop-values in
     let a = c.args in (
-      law.four-read a.width l.i c.load_four.result l.values-1 (omega arith) l.invariant.2 l.invariant.0
+      law.four-read a.width l.i c.load_four.result l.values (omega arith) l.invariant.2 l.invariant.0
           c.load_four.ensures c.four_of.ensures c.set_four.ensures,
       omega (arith, add-mul l.i 4 a.width),
       omega arith,

@@ -1,15 +1,9 @@
 -- The values below `i` are read, in whole fours. Assumes nothing.
-use mathlib.Core.Path.{◌≡◌, refl}
-use Prim.Native.Nat.{◌+◌, ◌*◌, ◌-◌, ◌/◌, ◌%◌, ◌≤◌}
-use native.Mathlib.Nat.{zero-mul, add-mul}
-use native.Mathlib.Omega.{arith}
+use mathlib.Core.Path.{◌≡◌}
+use Prim.Native.Nat.{◌+◌, ◌*◌, ◌-◌, ◌%◌, ◌≤◌}
 use lib.ListN.{length, take}
 use Rattle.unpacking.specs.Reading.{from, Pulled}
 use Rattle.unpacking.specs.Blocks.{two_masks}
-use Rattle.bits.proofs.Fits.{room-more}
-use Rattle.unpacking.proofs.Reading as reading
-use Rattle.unpacking.proofs.Words as law
-use borrow.Author.Rules.{rules}
 use Rattle.unpacking.proofs.groups.pull_fours.Given as goal
 
 abbrev pub invariant-loop-values : goal.invariant-loop-values

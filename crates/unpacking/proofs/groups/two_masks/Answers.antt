@@ -4,7 +4,6 @@ use Prim.Native.Nat.{ℕ, ◌+◌, ◌*◌, ◌^◌}
 use native.Mathlib.Nat.{mod-le}
 use native.Mathlib.Omega.{arith}
 use Rattle.bits.proofs.Laws.{ones_low}
-use borrow.Author.Rules.{rules}
 use Rattle.unpacking.proofs.groups.two_masks.Goals as goal
 
 pub overflow_mul-result : goal.overflow_mul-result

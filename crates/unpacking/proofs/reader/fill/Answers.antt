@@ -1,7 +1,6 @@
 -- Four bytes are taken in at once, or one after the other. Assumes nothing.
 use native.Mathlib.Omega.{arith}
 use Rattle.unpacking.proofs.Reading as reading
-use borrow.Author.Rules.{rules}
 use Rattle.unpacking.proofs.reader.fill.Goals as goal
 
 pub returns : goal.returns

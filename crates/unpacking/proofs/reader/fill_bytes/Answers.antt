@@ -1,11 +1,11 @@
-use mathlib.Core.Path.{◌≡◌, refl, ◌∙◌}
+use mathlib.Core.Path.{refl, ◌∙◌}
 use mathlib.Core.List.{List}
-use Prim.Native.Nat.{ℕ, ◌+◌, ◌*◌, ◌-◌, ◌%◌, ◌^◌, ◌≤◌, ◌<◌}
+use Prim.Native.Nat.{ℕ, ◌+◌, ◌*◌, ◌%◌, ◌^◌, ◌≤◌, ◌<◌}
 use native.Mathlib.Omega.{arith}
 use lib.ListN.{length, get_or}
 use lib.Bits.{bit_or}
-use Rattle.unpacking.specs.Reading.{ahead}
 use Rattle.unpacking.proofs.Reading as reading
+use Rattle.unpacking.proofs.reader.fill_bytes.Invariants.{Filling}
 use Rattle.unpacking.proofs.reader.fill_bytes.Goals as goal
 
 turn : {src : List ℕ} {width acc₀ have₀ at₀ acc have at : ℕ} → Filling src width acc₀ have₀ at₀ acc have at
@@ -25,9 +25,6 @@ loop-have-init c = record { said = refl; count = refl; small = omega arith; with
 pub bounds-src-at : goal.bounds-src-at
 bounds-src-at c = omega arith
 
-pub UNKNOWN-overflow-cast-acc : goal.UNKNOWN-overflow-cast-acc
-UNKNOWN-overflow-cast-acc c = omega (arith, c.shared_slice_known-1.given c.loop-have.at)
-
 pub overflow_add-have : goal.overflow_add-have
 overflow_add-have c = omega arith
 
@@ -38,7 +35,7 @@ pub loop-have-smaller : goal.loop-have-smaller
 loop-have-smaller c = omega arith
 
 pub loop-have-preserved : goal.loop-have-preserved
-loop-have-preserved c = turn c.loop-have.invariant (omega arith) (omega arith) (omega arith) (c.shared_slice_known-1.given c.loop-have.at).fits
+loop-have-preserved c = turn c.loop-have.invariant (omega arith) (omega arith) (omega arith) (c.type_inv.src c.loop-have.at).fits
 
 pub returns : goal.returns
 returns c = let i = c.loop-have.invariant in

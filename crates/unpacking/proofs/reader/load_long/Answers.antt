@@ -1,7 +1,6 @@
 -- Four bytes stand behind four bytes. Assumes nothing.
 use native.Mathlib.Omega.{arith}
 use Rattle.unpacking.proofs.Reading as reading
-use borrow.Author.Rules.{rules}
 use Rattle.unpacking.proofs.reader.load_long.Goals as goal
 
 pub returns : goal.returns

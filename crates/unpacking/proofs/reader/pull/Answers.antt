@@ -2,7 +2,6 @@
 use Prim.Native.Nat.{◌-◌}
 use native.Mathlib.Omega.{arith}
 use Rattle.unpacking.proofs.Reading as reading
-use borrow.Author.Rules.{rules}
 use Rattle.unpacking.proofs.reader.pull.Goals as goal
 
 pub returns : goal.returns

@@ -1,7 +1,6 @@
 -- The high part, and then the low 32 bits. Assumes nothing.
 use native.Mathlib.Omega.{arith}
 use Rattle.unpacking.proofs.Reading as reading
-use borrow.Author.Rules.{rules}
 use Rattle.unpacking.proofs.reader.pull_wide.Goals as goal
 
 pub returns : goal.returns

@@ -7,7 +7,6 @@ use Rattle.bits.specs.Bits.{number, fields}
 use Rattle.unpacking.specs.declared.unpacking.Number.TheVariants as N
 use Rattle.unpacking.proofs.Answers as answers
 use Rattle.unpacking.proofs.Reading as reading
-use borrow.Author.Rules.{rules}
 use Rattle.unpacking.proofs.unpacking.number_at.Goals as goal
 
 pub returns-then-width-gt64 : goal.returns-then-width-gt64

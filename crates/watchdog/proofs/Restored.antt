@@ -16,7 +16,7 @@ use Rattle.parts.specs.declared.command.Command.TheVariants.{Individual}
 use Rattle.machine.specs.Machine.{All}
 use Rattle.machine.proofs.Machine.{length-relays}
 use Rattle.model.specs.Lists.{Pairwise}
-use Rattle.model.specs.Device.{Registers, Device, at, registers_in}
+use Rattle.model.specs.Device.{Registers, Device, registers_in}
 use Rattle.model.specs.Set.{Own}
 use Rattle.model.specs.Restore.{pieces_states, states_until, RegistersHold}
 use Rattle.model.proofs.Lists.{pairwise-length, pairwise-at}

@@ -1,4 +1,6 @@
 // From a packed frame to line states and back: the states of a frame's bits, and the data bits of returned states, packed as a return is.
+#![tactic(auto)]
+
 mod packing;
 mod states;
 

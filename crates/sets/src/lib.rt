@@ -1,4 +1,6 @@
 // A set as a caller gives it, and what is judged of it: by the comparison and by the current.
+#![tactic(auto)]
+
 mod judge;
 mod numbers;
 

@@ -6,9 +6,7 @@ use native.Mathlib.Nat.{div-add-mod, mul_comm, mul-div_cancel_left}
 use native.Mathlib.Omega.{arith}
 use lib.Dec.{eqb}
 use borrow.Author.Tests.{eqb-true, eqb-false, eq-eqb, ne_eqb}
-use borrow.Author.Rules.{rules}
-use Rattle.sets.proofs.judge.is_product.Statement.{statement}
-use Rattle.sets.proofs.judge.is_product.Tie as tie
+use Rattle.sets.proofs.judge.is_product.Goals as goal
 
 -- where the quotient is that, the remainder decides
 left_over : (length devices each : ℕ) → length / each ≡ devices → eqb (length % each) 0 ≡ eqb length (devices * each)
@@ -30,17 +28,8 @@ other-quotient length devices each h n =
     (ne_eqb length (devices * each)
     (λ e. n (ap (λ (l : ℕ). l / each) (e ∙ mul_comm devices each) ∙ mul-div_cancel_left devices {n = each} h)))
 
-div-if1 : tie.Need-nonzero-div-if1
-div-if1 c = search rules
+pub returns-then-length-each : goal.returns-then-length-each
+returns-then-length-each c = left_over _ _ _ c.if-length-each.true
 
-rem-result : tie.Need-nonzero-rem-result
-rem-result c = search rules
-
-returns : tie.Need-returns
-returns c = left_over _ _ _ c.if1.true
-
-returns-2 : tie.Need-returns-2
-returns-2 c = ne_eqb _ _ c.if1.false ∙ other-quotient _ _ _ c.before.requires c.if1.false
-
-pub is-product-spec : {M : Type 1} → statement M
-is-product-spec = tie.close (tie.spec div-if1 rem-result returns returns-2)
+pub returns-else-length-each : goal.returns-else-length-each
+returns-else-length-each c = ne_eqb _ _ c.if-length-each.false ∙ other-quotient _ _ _ c.requires c.if-length-each.false

@@ -1,4 +1,6 @@
 // The frame writer: a frame from its settings. What it answers, and what it leaves in the lent output, is in specs/Writing.
+#![tactic(auto)]
+
 mod answer; // what is answered
 mod put; // pieces of a frame put into lent bytes
 mod writer;

@@ -1,27 +1,67 @@
 // The bench program: bench PART N reads four frames from standard input and writes a line for each. What its arguments ask is
 // worked out by the crate `arguments`, all that it writes by `report`.
-use arguments::Asked;
-use libc::{STDIN_FILENO, STDOUT_FILENO};
+#![tactic(auto)]
 
-fn main() {
+ghost use Rattle.std.specs.Prelude.{◌≤◌, length};
+
+use arguments::Asked;
+use std::env::Env;
+use std::io;
+use std::io::Read;
+
+fn main(rt: HostRuntime) -> io::Result<()> {
     // Linux hands over no argument that is longer.
     let mut part = [0u8; 131072];
     let mut devices = [0u8; 131072];
-    let first = os::arg(1, &mut part);
-    let second = os::arg(2, &mut devices);
+    let first = argument(&rt, 1, &mut part);
+    let second = argument(&rt, 2, &mut devices);
     let asked = arguments::ask(&part[..first], &devices[..second]);
     let Asked::Chain(_, _) = asked else {
-        print(asked, b"");
-        return;
+        return print(&rt, asked, b"");
     };
     // The frames of 512 multiplexed devices of the part with the longest slices, and one byte by which left-over input is seen.
     let mut input = [0u8; 47629];
-    let got = io::read_full(STDIN_FILENO, &mut input);
-    print(asked, &input[..got]);
+    let got = read_full(&mut rt.stdin(), &mut input);
+    print(&rt, asked, &input[..got])
 }
 
-fn print(asked: Asked, input: &[u8]) {
+// Puts an argument at the start of `text`, and answers how long it is: 0 where it is missing.
+fn argument(rt: &impl Env, place: usize, text: &mut [u8]) -> usize
+    ensures { result ≤ length text.new }
+{
+    match rt.arg(place, text) {
+        Ok(long) => long,
+        Err(_) => 0,
+    }
+}
+
+// Reads until `input` is full, the input ends or a read fails, and answers how many bytes it put at the start of `input`.
+fn read_full(from: &mut impl Read, input: &mut [u8]) -> usize
+    ensures { result ≤ length input.new }
+{
+    let mut got: usize = 0;
+    while got < input.len() {
+        let more = read_some(from, &mut input[got..]);
+        if more == 0 {
+            return got;
+        }
+        got += more;
+    }
+    got
+}
+
+// What one read put at the start of `input`: 0 at the end of the input, and where the read fails.
+fn read_some(from: &mut impl Read, input: &mut [u8]) -> usize
+    ensures { result ≤ length input.new }
+{
+    match from.read(input) {
+        Ok(more) => more,
+        Err(_) => 0,
+    }
+}
+
+fn print(rt: &impl Print, asked: Asked, input: &[u8]) -> io::Result<()> {
     let mut lines = [0u8; 640];
     let length = report::report(asked, input, &mut lines);
-    io::write_all(STDOUT_FILENO, &lines[..length]);
+    rt.write_all(&lines[..length])
 }

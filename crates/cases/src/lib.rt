@@ -1,5 +1,7 @@
 // What the programs that run the numbers of docs/RULES.md share: words on standard output, lists compared, the values of a device's outputs, and
 // what a frame is told by. What is printed is not proved: it is held to a stored text.
+#![tactic(auto)]
+
 mod digits; // numbers as their digits
 mod lists; // lists compared
 mod outputs; // values of outputs in both phases

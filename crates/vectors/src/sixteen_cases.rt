@@ -2,15 +2,17 @@
 use crate::frame_cases::frame_case;
 use cases::{frame_of, no_tail};
 use parts::Command;
+use std::io;
 
-pub fn run() {
-    byte_cases();
-    individual_cases();
+pub fn run(rt: &impl Print) -> io::Result<()> {
+    byte_cases(rt)?;
+    individual_cases(rt)
 }
 
 // l to n.
-fn byte_cases() {
+fn byte_cases(rt: &impl Print) -> io::Result<()> {
     frame_case(
+        rt,
         b"l  6972, configuration 0x00",
         frame_of(6972, 1, Command::Configuration, 0),
         no_tail(),
@@ -18,8 +20,9 @@ fn byte_cases() {
         b"",
         &[0u16; 1],
         b"\xE8\xFC\x00\x00\x00",
-    );
+    )?;
     frame_case(
+        rt,
         b"m  6972, calibration Z A9, Y 10",
         frame_of(6972, 1, Command::Calibration, 0),
         no_tail(),
@@ -27,8 +30,9 @@ fn byte_cases() {
         b"\xA9\x10",
         &[0u16; 1],
         b"\xE8\x54\x00\xA9\x10",
-    );
+    )?;
     frame_case(
+        rt,
         b"n  6972, global 96",
         frame_of(6972, 1, Command::Global, 0),
         no_tail(),
@@ -36,12 +40,13 @@ fn byte_cases() {
         b"",
         &[0u16; 1],
         b"\xE8\xA8\x00\x60\x60",
-    );
+    )
 }
 
 // o and p.
-fn individual_cases() {
+fn individual_cases(rt: &impl Print) -> io::Result<()> {
     frame_case(
+        rt,
         b"o  6972, all values 2560",
         frame_of(6972, 1, Command::Individual, 0),
         no_tail(),
@@ -49,8 +54,9 @@ fn individual_cases() {
         b"",
         &[2560u16; 16],
         b"\xE8\x00\x00\xA0\x0A\x00\xA0\x0A\x00\xA0\x0A\x00\xA0\x0A\x00\xA0\x0A\x00\xA0\x0A\x00\xA0\x0A\x00\xA0\x0A\x00",
-    );
+    )?;
     frame_case(
+        rt,
         b"p  6973, all values 1",
         frame_of(6973, 1, Command::Individual, 0),
         no_tail(),
@@ -58,5 +64,5 @@ fn individual_cases() {
         b"",
         &[1u16; 16],
         b"\xE8\x00\x00\x00\x04\x00\x10\x00\x40\x01\x00\x04\x00\x10\x00\x40\x01\x00\x04\x00\x10\x00\x40\x01\x00\x04\x00\x10\x00\x40\x01",
-    );
+    )
 }

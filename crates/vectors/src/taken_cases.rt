@@ -5,139 +5,164 @@ use frame_writer::Written;
 use frames::{Tail, Told};
 use parts::Command;
 use return_reader::ReturnRead;
+use std::io;
 
-pub fn run() {
-    part_cases();
-    count_cases();
+pub fn run(rt: &impl Print) -> io::Result<()> {
+    part_cases(rt)?;
+    count_cases(rt)?;
     every_way(
+        rt,
         b"-  tail 65",
         3,
         frame_of(6974, 1, Command::Configuration, 0),
         tail_of(0, 65),
-    );
-    length_cases();
-    value_cases(b"-  6974", 6974, &[4095u16; 24], &[4096u16; 24]);
-    value_cases(b"-  6972", 6972, &[4095u16; 16], &[4096u16; 16]);
+    )?;
+    length_cases(rt)?;
+    value_cases(rt, b"-  6974", 6974, &[4095u16; 24], &[4096u16; 24])?;
+    value_cases(rt, b"-  6972", 6972, &[4095u16; 16], &[4096u16; 16])?;
     global_cases(
+        rt,
         b"-  6975 multiplexed with GLB4",
         6975,
         b"\xE8\xA8\x00\x03\x03\x03",
         b"\xE8\xA8\x00\x04\x04\x04",
-    );
+    )?;
     global_cases(
+        rt,
         b"-  6973 multiplexed with GLB4",
         6973,
         b"\xE8\xA8\x00\x03\x03",
         b"\xE8\xA8\x00\x04\x04",
-    );
+    )
 }
 
 // h with an unused bit of the last byte.
-pub fn run_unused_bit() {
+pub fn run_unused_bit(rt: &impl Print) -> io::Result<()> {
     let told = frame_of(6974, 1, Command::Configuration, 0);
     let came = read_refusal(told, tail_of(5, 3), b"\xE8\xFC\x00\x00\x00\x00\xA1");
-    case(b"h  its last byte A1", b", read", 11, came);
+    case(rt, b"h  its last byte A1", b", read", 11, came)
 }
 
 // A number that is no part's.
-fn part_cases() {
+fn part_cases(rt: &impl Print) -> io::Result<()> {
     every_way(
+        rt,
         b"-  part 6971",
         1,
         frame_of(6971, 1, Command::Configuration, 0),
         no_tail(),
-    );
+    )?;
     every_way(
+        rt,
         b"-  part 6976",
         1,
         frame_of(6976, 1, Command::Configuration, 0),
         no_tail(),
-    );
+    )
 }
 
-fn count_cases() {
+fn count_cases(rt: &impl Print) -> io::Result<()> {
     every_way(
+        rt,
         b"-  N = 0",
         2,
         frame_of(6974, 0, Command::Configuration, 0),
         no_tail(),
-    );
+    )?;
     every_way(
+        rt,
         b"-  N = 1024",
         2,
         frame_of(6974, 1024, Command::Configuration, 0),
         no_tail(),
-    );
+    )
 }
 
 // What has the length of another part's: three copies, and 24 values.
-fn length_cases() {
+fn length_cases(rt: &impl Print) -> io::Result<()> {
     let copies = frame_of(6972, 1, Command::Configuration, 0);
     let frame = b"\xE8\xFC\x00\x00\x00\x00";
     case(
+        rt,
         b"-  6972, frame a of a 6974",
         b", read",
         4,
         read_refusal(copies, no_tail(), frame),
-    );
+    )?;
     let values = frame_of(6972, 1, Command::Individual, 0);
     case(
+        rt,
         b"-  6972, 24 values",
         b", written",
         4,
         write_refusal(values, no_tail(), 0, &[0u16; 24]),
-    );
+    )
 }
 
 // A part with values of 12 bits.
-fn value_cases(name: &[u8], part: u16, highest: &[u16], over: &[u16]) {
+fn value_cases(
+    rt: &impl Print,
+    name: &[u8],
+    part: u16,
+    highest: &[u16],
+    over: &[u16],
+) -> io::Result<()> {
     let told = frame_of(part, 1, Command::Individual, 0);
     case(
+        rt,
         name,
         b", value 4095, written",
         0,
         write_refusal(told, no_tail(), 0, highest),
-    );
+    )?;
     case(
+        rt,
         name,
         b", value 4096, written",
         6,
         write_refusal(told, no_tail(), 0, over),
-    );
+    )
 }
 
 // Configuration 0x11 is multiplexed with GLB4. The two frames have the global bytes 3 and 4.
-fn global_cases(name: &[u8], part: u16, three: &[u8], four: &[u8]) {
+fn global_cases(
+    rt: &impl Print,
+    name: &[u8],
+    part: u16,
+    three: &[u8],
+    four: &[u8],
+) -> io::Result<()> {
     let told = frame_of(part, 1, Command::Global, 0x11);
     let written_three = write_refusal(told, no_tail(), 3, &[0u16; 1]);
     let written_four = write_refusal(told, no_tail(), 4, &[0u16; 1]);
     let read_three = read_refusal(told, no_tail(), three);
     let read_four = read_refusal(told, no_tail(), four);
-    case(name, b", global 3, written", 0, written_three);
-    case(name, b", global 3, read", 0, read_three);
-    case(name, b", global 4, written", 6, written_four);
-    case(name, b", global 4, read", 6, read_four);
+    case(rt, name, b", global 3, written", 0, written_three)?;
+    case(rt, name, b", global 3, read", 0, read_three)?;
+    case(rt, name, b", global 4, written", 6, written_four)?;
+    case(rt, name, b", global 4, read", 6, read_four)
 }
 
 // What is told is refused by writer, reader and return reader, before anything else is looked at.
-fn every_way(name: &[u8], should: u8, told: Told, tail: Tail) {
+fn every_way(rt: &impl Print, name: &[u8], should: u8, told: Told, tail: Tail) -> io::Result<()> {
     let frame = b"\xE8\xFC\x00\x00\x00\x00";
     let back = b"\xE8\xFC\x00";
     let written = write_refusal(told, tail, 0, &[0u16; 1]);
-    case(name, b", written", should, written);
-    case(name, b", read", should, read_refusal(told, tail, frame));
+    case(rt, name, b", written", should, written)?;
+    case(rt, name, b", read", should, read_refusal(told, tail, frame))?;
     case(
+        rt,
         name,
         b", return read",
         should,
         return_refusal(told, tail, back),
-    );
+    )
 }
 
 // The line of a case: 0 is taken, any other number the refusal.
-fn case(name: &[u8], way: &[u8], should: u8, came: u8) {
-    cases::text(name);
-    cases::refusal_case(way, should, came);
+fn case(rt: &impl Print, name: &[u8], way: &[u8], should: u8, came: u8) -> io::Result<()> {
+    cases::text(rt, name)?;
+    cases::refusal_case(rt, way, should, came)
 }
 
 fn write_refusal(told: Told, tail: Tail, byte: u8, values: &[u16]) -> u8 {

@@ -9,46 +9,52 @@ use frames::{Tail, Told};
 use parts::Command;
 use return_reader::ReturnRead;
 use serial::Converted;
+use std::io;
 use three::{fault_three, run_three};
 
 // The fault kind of an open LED.
 const OPEN_LED: u8 = 1;
 
 // g and q.
-pub fn run() {
+pub fn run(rt: &impl Print) -> io::Result<()> {
     fault_case(
+        rt,
         b"g  6974, N = 3, two open LEDs, calibration, tail A5",
         6974,
         b"\xA9\x10\x01\xA9\x10\x01\xA9\x10\x01",
-    );
+    )?;
     fault_case(
+        rt,
         b"q  6972, N = 3, two open LEDs, calibration, tail A5",
         6972,
         b"\xA9\x10\xA9\x10\xA9\x10",
-    );
+    )?;
     fault_case(
+        rt,
         b"-  6973, N = 3, two open LEDs, calibration, tail A5",
         6973,
         b"\xA9\x10\xA9\x10\xA9\x10",
-    );
+    )
 }
 
 // 1023 devices, as 341 chains of three joined end to end.
-pub fn run_joined() {
+pub fn run_joined(rt: &impl Print) -> io::Result<()> {
     joined_case(
+        rt,
         b"-  6974, N = 1023 as 341 chains of 3, all with open LEDs, configuration",
         6974,
         3072,
-    );
+    )?;
     joined_case(
+        rt,
         b"-  6972, N = 1023 as 341 chains of 3, all with open LEDs, configuration",
         6972,
         2049,
-    );
+    )
 }
 
 // Three devices, calibrated. A call that is refused leaves zeros, and the return is another.
-fn fault_case(name: &[u8], part: u16, bytes: &[u8]) {
+fn fault_case(rt: &impl Print, name: &[u8], part: u16, bytes: &[u8]) -> io::Result<()> {
     let told = frame_of(part, 3, Command::Calibration, 0);
     let tail = tail_of(0xA5, 8);
     let long = least(bytes.len(), 9) + 4;
@@ -60,11 +66,19 @@ fn fault_case(name: &[u8], part: u16, bytes: &[u8]) {
     let mut returned = [0u8; 127];
     let ran = run_three(open_leds(part, 1, 0, 1), &states[..bits], &mut returned);
     let end = least(ran.returned, 127);
-    return_case(name, told, tail, &returned[..end], b"\xE8\x54\x02\xA5", 2);
+    return_case(
+        rt,
+        name,
+        told,
+        tail,
+        &returned[..end],
+        b"\xE8\x54\x02\xA5",
+        2,
+    )
 }
 
 // A configuration frame of so many bytes for 1023 devices.
-fn joined_case(name: &[u8], part: u16, long: usize)
+fn joined_case(rt: &impl Print, name: &[u8], part: u16, long: usize) -> io::Result<()>
     requires { long ≤ 3072 }
 {
     let told = frame_of(part, 1023, Command::Configuration, 0);
@@ -74,7 +88,15 @@ fn joined_case(name: &[u8], part: u16, long: usize)
     let mut states = [0u8; 24576];
     serial::frame_states(&frame[..long], bits, serial::EXACT, &mut states);
     let end = least(join(part, &mut states, bits, 341), 24576);
-    return_case(name, told, no_tail(), &states[..end], b"\xE8\xFF\xFF", 1023);
+    return_case(
+        rt,
+        name,
+        told,
+        no_tail(),
+        &states[..end],
+        b"\xE8\xFF\xFF",
+        1023,
+    )
 }
 
 // The first `count` states go through so many chains. The answer is how many states the last chain returns: they stand in front.
@@ -105,41 +127,55 @@ fn open_leds(part: u16, first: u8, second: u8, third: u8) -> [Device; 3] {
 }
 
 // The line of a case: what came back is `should`, and its count `count`.
-fn return_case(name: &[u8], told: Told, tail: Tail, states: &[u8], should: &[u8], count: u16) {
-    cases::text(name);
-    cases::text(b": should be");
-    cases::bytes(should);
-    cases::text(b", count");
-    cases::count(count as u64);
-    cases::text(b", came out");
+fn return_case(
+    rt: &impl Print,
+    name: &[u8],
+    told: Told,
+    tail: Tail,
+    states: &[u8],
+    should: &[u8],
+    count: u16,
+) -> io::Result<()> {
+    cases::text(rt, name)?;
+    cases::text(rt, b": should be")?;
+    cases::bytes(rt, should)?;
+    cases::text(rt, b", count")?;
+    cases::count(rt, count as u64)?;
+    cases::text(rt, b", came out")?;
     let mut back = [0u8; 8];
     match serial::pack_states(states, &mut back) {
         Converted::Refused(number) => {
-            cases::refusal(number);
-            cases::verdict(false);
+            cases::refusal(rt, number)?;
+            cases::verdict(rt, false)
         }
         Converted::Written(n) => {
             let end = least(n, 8);
             let frame = &back[..end];
-            cases::bytes(frame);
-            let counted = is_counted(told, tail, frame, count);
-            cases::verdict(check::same(frame, should) && counted);
+            cases::bytes(rt, frame)?;
+            let counted = is_counted(rt, told, tail, frame, count)?;
+            cases::verdict(rt, frame == should && counted)
         }
     }
 }
 
 // The return is read, and gives the count.
-fn is_counted(told: Told, tail: Tail, frame: &[u8], count: u16) -> bool {
+fn is_counted(
+    rt: &impl Print,
+    told: Told,
+    tail: Tail,
+    frame: &[u8],
+    count: u16,
+) -> io::Result<bool> {
     let command = told.command;
-    cases::text(b", count");
+    cases::text(rt, b", count")?;
     match return_reader::read_return(told.part, told.devices, command, tail, frame) {
         ReturnRead::Count(n) => {
-            cases::count(n as u64);
-            n == count
+            cases::count(rt, n as u64)?;
+            Ok(n == count)
         }
         ReturnRead::Refused(number) => {
-            cases::refusal(number);
-            false
+            cases::refusal(rt, number)?;
+            Ok(false)
         }
     }
 }

@@ -1,5 +1,6 @@
 // What a chain of three is seen to hold, and the line of a case that says it.
 use device::Device;
+use std::io;
 
 // The positions of the three devices; of the first also its waiting global byte, its active one, and the active values of output 0.
 #[derive(Clone, Copy)]
@@ -40,12 +41,12 @@ pub fn shown(first: u64, others: u64, waiting: u8) -> Seen {
 }
 
 // The end of a case's line.
-pub fn verdict(came: Seen, should: Seen) {
-    cases::text(b": should be at");
-    words(should);
-    cases::text(b", came out at");
-    words(came);
-    cases::verdict(is_same(came, should));
+pub fn verdict(rt: &impl Print, came: Seen, should: Seen) -> io::Result<()> {
+    cases::text(rt, b": should be at")?;
+    words(rt, should)?;
+    cases::text(rt, b", came out at")?;
+    words(rt, came)?;
+    cases::verdict(rt, is_same(came, should))
 }
 
 pub fn seen_of(first: Device, second: Device, third: Device) -> Seen {
@@ -61,16 +62,16 @@ pub fn seen_of(first: Device, second: Device, third: Device) -> Seen {
     }
 }
 
-fn words(seen: Seen) {
-    cases::count(seen.first);
-    cases::count(seen.second);
-    cases::count(seen.third);
-    cases::text(b", waiting");
-    cases::count(seen.waiting as u64);
-    cases::text(b", active");
-    cases::count(seen.active as u64);
-    cases::count(seen.mux0 as u64);
-    cases::count(seen.mux1 as u64);
+fn words(rt: &impl Print, seen: Seen) -> io::Result<()> {
+    cases::count(rt, seen.first)?;
+    cases::count(rt, seen.second)?;
+    cases::count(rt, seen.third)?;
+    cases::text(rt, b", waiting")?;
+    cases::count(rt, seen.waiting as u64)?;
+    cases::text(rt, b", active")?;
+    cases::count(rt, seen.active as u64)?;
+    cases::count(rt, seen.mux0 as u64)?;
+    cases::count(rt, seen.mux1 as u64)
 }
 
 fn is_same(a: Seen, b: Seen) -> bool {

@@ -1,5 +1,6 @@
 // One device: total, average and remainder. The sign's three are the device's.
 use current::Current;
+use std::io;
 
 // A total, its average and its remainder.
 #[derive(Clone, Copy)]
@@ -9,15 +10,16 @@ pub struct Figure {
     pub remainder: u64,
 }
 
-pub fn run() {
-    plain_cases();
-    multiplexed_cases();
-    largest_cases();
+pub fn run(rt: &impl Print) -> io::Result<()> {
+    plain_cases(rt)?;
+    multiplexed_cases(rt)?;
+    largest_cases(rt)
 }
 
 // Nonmultiplexed.
-fn plain_cases() {
+fn plain_cases(rt: &impl Print) -> io::Result<()> {
     case(
+        rt,
         b"t  6974, calibration A9 10 01, g = 96, all 2560",
         6974,
         0x00,
@@ -25,10 +27,11 @@ fn plain_cases() {
         96,
         &[2560u16; 24],
         figure_of(559669824000, 1067485, 248320),
-    );
+    )?;
     let mut only_last = [0u16; 24];
     only_last[23] = 17;
     case(
+        rt,
         b"u  6974, only R0 = 17, calibration 0, g = 0",
         6974,
         0x00,
@@ -36,10 +39,11 @@ fn plain_cases() {
         0,
         &only_last,
         figure_of(48000, 0, 48000),
-    );
+    )?;
     let mut only_first = [0u16; 24];
     only_first[0] = 33;
     case(
+        rt,
         b"x  6975, only B7 = 33, B byte A9, g = 31",
         6975,
         0x00,
@@ -47,8 +51,9 @@ fn plain_cases() {
         31,
         &only_first,
         figure_of(5592000, 10, 349120),
-    );
+    )?;
     case(
+        rt,
         b"y  6972, Z A9, Y 0, g = 96, all 2560",
         6972,
         0x00,
@@ -56,8 +61,9 @@ fn plain_cases() {
         96,
         &[2560u16; 16],
         figure_of(806191056000, 1537687, 214144),
-    );
+    )?;
     case(
+        rt,
         b"z  6974, configuration 08, calibration 1 2 3, g = 5, all 1000",
         6974,
         0x08,
@@ -65,12 +71,13 @@ fn plain_cases() {
         5,
         &[1000u16; 24],
         figure_of(7013952000, 13378, 27136),
-    );
+    )
 }
 
 // Multiplexed: a value for MUX0 and then one for MUX1, output by output.
-fn multiplexed_cases() {
+fn multiplexed_cases(rt: &impl Print) -> io::Result<()> {
     case(
+        rt,
         b"w  6974 multiplexed, MUX0 2560 and MUX1 16, calibration A9, g = 63",
         6974,
         0x01,
@@ -78,10 +85,11 @@ fn multiplexed_cases() {
         63,
         &in_turns(2560, 16),
         figure_of(682850304000, 1302433, 311296),
-    );
+    )?;
     let mut only_mux1 = [0u16; 48];
     only_mux1[1] = 16383;
     case(
+        rt,
         b"x  6975, configuration 11, only B7's MUX1 = 16383, calibration 0, g = 3",
         6975,
         0x11,
@@ -89,12 +97,13 @@ fn multiplexed_cases() {
         3,
         &only_mux1,
         figure_of(12533760000, 23906, 131072),
-    );
+    )
 }
 
 // Nothing is lit, and the most that a device draws.
-fn largest_cases() {
+fn largest_cases(rt: &impl Print) -> io::Result<()> {
     case(
+        rt,
         b"v  6974, all 16, calibration FF, g = 127",
         6974,
         0x00,
@@ -102,8 +111,9 @@ fn largest_cases() {
         127,
         &[16u16; 24],
         figure_of(0, 0, 0),
-    );
+    )?;
     case(
+        rt,
         b"-  6974, all largest",
         6974,
         0x00,
@@ -111,8 +121,9 @@ fn largest_cases() {
         127,
         &[4095u16; 24],
         figure_of(2986942464000, 5697140, 327680),
-    );
+    )?;
     case(
+        rt,
         b"-  6975, all largest",
         6975,
         0x00,
@@ -120,8 +131,9 @@ fn largest_cases() {
         31,
         &[16383u16; 24],
         figure_of(2998702080000, 5719570, 163840),
-    );
+    )?;
     case(
+        rt,
         b"-  6973, all largest",
         6973,
         0x00,
@@ -129,7 +141,7 @@ fn largest_cases() {
         31,
         &[16383u16; 16],
         figure_of(3665080320000, 6990585, 491520),
-    );
+    )
 }
 
 pub fn figure_of(total: u64, average: u64, remainder: u64) -> Figure {
@@ -152,6 +164,7 @@ fn in_turns(mux0: u16, mux1: u16) -> [u16; 48] {
 }
 
 fn case(
+    rt: &impl Print,
     name: &[u8],
     part: u16,
     configuration: u8,
@@ -159,7 +172,7 @@ fn case(
     global: u8,
     individual: &[u16],
     should: Figure,
-) {
+) -> io::Result<()> {
     let mut figures = [0u64; 3];
     let sign = current::bb_current(
         part,
@@ -171,20 +184,20 @@ fn case(
         &mut figures,
     );
     let device = figure_of(figures[0], figures[1], figures[2]);
-    cases::text(name);
-    cases::text(b": should be");
-    words(should);
-    cases::text(b", came out");
-    words(device);
-    cases::verdict(is_same(device, should) && is_answer(sign, should));
+    cases::text(rt, name)?;
+    cases::text(rt, b": should be")?;
+    words(rt, should)?;
+    cases::text(rt, b", came out")?;
+    words(rt, device)?;
+    cases::verdict(rt, is_same(device, should) && is_answer(sign, should))
 }
 
-pub fn words(figure: Figure) {
-    cases::count(figure.total);
-    cases::text(b",");
-    cases::count(figure.average);
-    cases::text(b" and");
-    cases::count(figure.remainder);
+pub fn words(rt: &impl Print, figure: Figure) -> io::Result<()> {
+    cases::count(rt, figure.total)?;
+    cases::text(rt, b",")?;
+    cases::count(rt, figure.average)?;
+    cases::text(rt, b" and")?;
+    cases::count(rt, figure.remainder)
 }
 
 pub fn is_same(a: Figure, b: Figure) -> bool {

@@ -1,11 +1,23 @@
 // Sets that are refused, each with the lowest number that applies; the lent list is as it came in, and the sign's figures are 0.
 use crate::device_cases::{figure_of, is_same};
+use std::io;
 
-pub fn run() {
-    case(b"-  6971, and no list to write to", 6971, 1, 3, 0, 24, 0, 1);
-    case(b"-  6974, N = 0", 6974, 0, 0, 0, 0, 3, 2);
-    case(b"-  6974, N = 1024", 6974, 1024, 3, 0, 24, 3, 2);
+pub fn run(rt: &impl Print) -> io::Result<()> {
     case(
+        rt,
+        b"-  6971, and no list to write to",
+        6971,
+        1,
+        3,
+        0,
+        24,
+        0,
+        1,
+    )?;
+    case(rt, b"-  6974, N = 0", 6974, 0, 0, 0, 0, 3, 2)?;
+    case(rt, b"-  6974, N = 1024", 6974, 1024, 3, 0, 24, 3, 2)?;
+    case(
+        rt,
         b"-  6974, two calibration bytes, and no list to write to",
         6974,
         1,
@@ -14,9 +26,10 @@ pub fn run() {
         24,
         0,
         4,
-    );
-    case(b"-  6974, 23 values", 6974, 1, 3, 0, 23, 3, 4);
+    )?;
+    case(rt, b"-  6974, 23 values", 6974, 1, 3, 0, 23, 3, 4)?;
     case(
+        rt,
         b"-  6974, 2 numbers to write to, and g = 128",
         6974,
         1,
@@ -25,13 +38,14 @@ pub fn run() {
         24,
         2,
         5,
-    );
-    case(b"-  6974, g = 128", 6974, 1, 3, 128, 24, 3, 6);
-    case(b"-  6974, g = 127", 6974, 1, 3, 127, 24, 3, 0);
+    )?;
+    case(rt, b"-  6974, g = 128", 6974, 1, 3, 128, 24, 3, 6)?;
+    case(rt, b"-  6974, g = 127", 6974, 1, 3, 127, 24, 3, 0)
 }
 
 // So many bytes, values and numbers to write to, of a set whose values are all 16: an accepted one draws nothing.
 fn case(
+    rt: &impl Print,
     name: &[u8],
     part: u16,
     devices: usize,
@@ -40,7 +54,7 @@ fn case(
     values: usize,
     room: usize,
     should: u8,
-) {
+) -> io::Result<()> {
     let calibration = [0u8; 3];
     let individual = [16u16; 24];
     let mut figures = [9u64; 3];
@@ -56,7 +70,7 @@ fn case(
         &individual[0..values_end],
         &mut figures[0..room_end],
     );
-    cases::refusal_case(name, should, sign.refusal);
+    cases::refusal_case(rt, name, should, sign.refusal)?;
     let left = if should == 0 { 0 } else { 9 };
     let kept = is_same(
         figure_of(figures[0], figures[1], figures[2]),
@@ -66,7 +80,7 @@ fn case(
         figure_of(sign.total, sign.average, sign.remainder),
         figure_of(0, 0, 0),
     );
-    cases::text(name);
-    cases::text(b", the list and the sign's figures as they should be");
-    cases::verdict(kept && none);
+    cases::text(rt, name)?;
+    cases::text(rt, b", the list and the sign's figures as they should be")?;
+    cases::verdict(rt, kept && none)
 }

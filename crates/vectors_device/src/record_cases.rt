@@ -2,64 +2,65 @@
 use crate::feeding::fresh_of;
 use device::Device;
 use registers::Registers;
+use std::io;
 
-pub fn run() {
-    part_cases();
-    byte_cases();
-    waiting_cases();
-    active_cases();
-    slice_cases();
+pub fn run(rt: &impl Print) -> io::Result<()> {
+    part_cases(rt)?;
+    byte_cases(rt)?;
+    waiting_cases(rt)?;
+    active_cases(rt)?;
+    slice_cases(rt)
 }
 
-fn part_cases() {
-    case(b"-  record of a part 6971", 1, fresh_of(6971).registers);
-    case(b"-  record of a part 6976", 1, fresh_of(6976).registers);
+fn part_cases(rt: &impl Print) -> io::Result<()> {
+    case(rt, b"-  record of a part 6971", 1, fresh_of(6971).registers)?;
+    case(rt, b"-  record of a part 6976", 1, fresh_of(6976).registers)
 }
 
 // A third calibration byte.
-fn byte_cases() {
+fn byte_cases(rt: &impl Print) -> io::Result<()> {
     let mut two = fresh_of(6972).registers;
     two.calibration[2] = 1;
-    case(b"-  6972, calibration byte 2 is 1", 13, two);
+    case(rt, b"-  6972, calibration byte 2 is 1", 13, two)?;
     let mut three = fresh_of(6974).registers;
     three.calibration[2] = 1;
-    case(b"-  6974, calibration byte 2 is 1", 0, three);
+    case(rt, b"-  6974, calibration byte 2 is 1", 0, three)
 }
 
-fn waiting_cases() {
+fn waiting_cases(rt: &impl Print) -> io::Result<()> {
     let fresh = fresh_of(6972).registers;
     let mut last = fresh;
     last.waiting0[15] = 1;
-    case(b"-  6972, waiting MUX0 value 15 is 1", 0, last);
+    case(rt, b"-  6972, waiting MUX0 value 15 is 1", 0, last)?;
     let mut over = fresh;
     over.waiting0[16] = 1;
-    case(b"-  6972, waiting MUX0 value 16 is 1", 13, over);
+    case(rt, b"-  6972, waiting MUX0 value 16 is 1", 13, over)?;
     let mut other = fresh_of(6974).registers;
     other.waiting0[16] = 1;
-    case(b"-  6974, waiting MUX0 value 16 is 1", 0, other);
+    case(rt, b"-  6974, waiting MUX0 value 16 is 1", 0, other)
 }
 
-fn active_cases() {
+fn active_cases(rt: &impl Print) -> io::Result<()> {
     let mut over = fresh_of(6973).registers;
     over.active1[23] = 1;
-    case(b"-  6973, active MUX1 value 23 is 1", 13, over);
+    case(rt, b"-  6973, active MUX1 value 23 is 1", 13, over)
 }
 
 // The fields of the slice that is coming in: 32 at most.
-fn slice_cases() {
+fn slice_cases(rt: &impl Print) -> io::Result<()> {
     let fresh = fresh_of(6972).registers;
     let mut last = fresh;
     last.slice[31] = 1;
-    case(b"-  6972, field 31 of the slice is 1", 0, last);
+    case(rt, b"-  6972, field 31 of the slice is 1", 0, last)?;
     let mut over = fresh;
     over.slice[32] = 1;
-    case(b"-  6972, field 32 of the slice is 1", 13, over);
+    case(rt, b"-  6972, field 32 of the slice is 1", 13, over)
 }
 
 // The line of a case: a record of a device that hunts is stepped.
-fn case(name: &[u8], should: u8, registers: Registers) {
+fn case(rt: &impl Print, name: &[u8], should: u8, registers: Registers) -> io::Result<()> {
     let place = fresh_of(6972).place;
     let device = Device { registers, place };
     let came = device.step(0).refusal;
-    cases::refusal_case(name, should, came);
+    cases::refusal_case(rt, name, should, came)
 }

@@ -1,5 +1,6 @@
 // What a device is seen to do, and the line of a case that says it.
 use crate::feeding::Fed;
+use std::io;
 
 // What a device is seen to do: the refusal of a step, or 0; its phase; its configuration; its waiting global byte; how many states it
 // sent on, and the count of the last header among them.
@@ -46,34 +47,34 @@ fn seen_of(fed: Fed) -> Seen {
 }
 
 // The line of a case.
-pub fn case(name: &[u8], fed: Fed, should: Seen) {
+pub fn case(rt: &impl Print, name: &[u8], fed: Fed, should: Seen) -> io::Result<()> {
     let came = seen_of(fed);
-    cases::text(name);
-    cases::text(b": should be");
-    words(should);
-    cases::text(b", came out");
-    words(came);
-    cases::verdict(is_same(came, should));
+    cases::text(rt, name)?;
+    cases::text(rt, b": should be")?;
+    words(rt, should)?;
+    cases::text(rt, b", came out")?;
+    words(rt, came)?;
+    cases::verdict(rt, is_same(came, should))
 }
 
-fn words(seen: Seen) {
-    cases::refusal(seen.refusal);
-    phase_word(seen.phase);
-    cases::text(b", configuration");
-    cases::bytes(&[seen.configuration]);
-    cases::text(b", waiting global");
-    cases::bytes(&[seen.waiting]);
-    cases::text(b",");
-    cases::count(seen.sent as u64);
-    cases::text(b" states sent, count");
-    cases::count(seen.count as u64);
+fn words(rt: &impl Print, seen: Seen) -> io::Result<()> {
+    cases::refusal(rt, seen.refusal)?;
+    phase_word(rt, seen.phase)?;
+    cases::text(rt, b", configuration")?;
+    cases::bytes(rt, &[seen.configuration])?;
+    cases::text(rt, b", waiting global")?;
+    cases::bytes(rt, &[seen.waiting])?;
+    cases::text(rt, b",")?;
+    cases::count(rt, seen.sent as u64)?;
+    cases::text(rt, b" states sent, count")?;
+    cases::count(rt, seen.count as u64)
 }
 
-fn phase_word(phase: u8) {
+fn phase_word(rt: &impl Print, phase: u8) -> io::Result<()> {
     match phase {
-        PASSING => cases::text(b", passing"),
-        LOST => cases::text(b", lost"),
-        _ => cases::text(b", in a frame"),
+        PASSING => cases::text(rt, b", passing"),
+        LOST => cases::text(rt, b", lost"),
+        _ => cases::text(rt, b", in a frame"),
     }
 }
 

@@ -5,17 +5,19 @@ ghost use Rattle.std.specs.Prelude.{◌<◌};
 use crate::edges::{edge_words, front, states_of};
 use crate::fresh::fresh_chain;
 use device::Device;
+use std::io;
 use three::load_three;
 
-pub fn run() {
-    edge_cases(serial::EARLY);
-    edge_cases(serial::EXACT);
-    edge_cases(serial::LATE);
+pub fn run(rt: &impl Print) -> io::Result<()> {
+    edge_cases(rt, serial::EARLY)?;
+    edge_cases(rt, serial::EXACT)?;
+    edge_cases(rt, serial::LATE)
 }
 
 // Slices of 24 bits, and of 16 bits. Each device has three places, of which a part with 16 outputs uses two.
-fn edge_cases(edge: u8) {
+fn edge_cases(rt: &impl Print, edge: u8) -> io::Result<()> {
     frame_cases(
+        rt,
         6974,
         edge,
         b"\xE8\x54\x00\x01\x02\x03\x04\x05\x06",
@@ -23,8 +25,9 @@ fn edge_cases(edge: u8) {
         72,
         b"\x01\x02\x03\x00\x00\x00\x00\x00\x00",
         b"\x01\x02\x03\x04\x05\x06\x00\x00\x00",
-    );
+    )?;
     frame_cases(
+        rt,
         6973,
         edge,
         b"\xE8\x54\x00\x01\x02\x04\x05",
@@ -32,11 +35,12 @@ fn edge_cases(edge: u8) {
         56,
         b"\x01\x02\x00\x00\x00\x00\x00\x00\x00",
         b"\x01\x02\x00\x04\x05\x00\x00\x00\x00",
-    );
+    )
 }
 
 // The slices end with bits `first` and `second`. After each the three devices hold `one` and `both`.
 fn frame_cases(
+    rt: &impl Print,
     part: u16,
     edge: u8,
     frame: &[u8],
@@ -44,30 +48,37 @@ fn frame_cases(
     second: usize,
     one: &[u8],
     both: &[u8],
-)
+) -> io::Result<()>
     requires { (0 < first) × (0 < second) }
 {
-    case(part, edge, frame, first - 1, &[0u8; 9]);
-    case(part, edge, frame, first, one);
-    case(part, edge, frame, second - 1, one);
-    case(part, edge, frame, second, both);
+    case(rt, part, edge, frame, first - 1, &[0u8; 9])?;
+    case(rt, part, edge, frame, first, one)?;
+    case(rt, part, edge, frame, second - 1, one)?;
+    case(rt, part, edge, frame, second, both)
 }
 
 // The line of a case: what the three devices hold after so many states of the frame.
-fn case(part: u16, edge: u8, frame: &[u8], count: usize, should: &[u8]) {
-    cases::text(b"2g");
-    cases::count(part as u64);
-    cases::text(b", frame");
-    cases::bytes(frame);
-    edge_words(edge);
-    cases::text(b", 3 devices after");
-    cases::count(count as u64);
-    cases::text(b" states: should be");
-    cases::bytes(should);
-    cases::text(b", came out");
+fn case(
+    rt: &impl Print,
+    part: u16,
+    edge: u8,
+    frame: &[u8],
+    count: usize,
+    should: &[u8],
+) -> io::Result<()> {
+    cases::text(rt, b"2g")?;
+    cases::count(rt, part as u64)?;
+    cases::text(rt, b", frame")?;
+    cases::bytes(rt, frame)?;
+    edge_words(rt, edge)?;
+    cases::text(rt, b", 3 devices after")?;
+    cases::count(rt, count as u64)?;
+    cases::text(rt, b" states: should be")?;
+    cases::bytes(rt, should)?;
+    cases::text(rt, b", came out")?;
     let came = calibrations(chain_after(part, edge, frame, count));
-    cases::bytes(&came);
-    cases::verdict(check::same(&came, should));
+    cases::bytes(rt, &came)?;
+    cases::verdict(rt, came.as_slice() == should)
 }
 
 // Three fresh devices after the first states of a frame.

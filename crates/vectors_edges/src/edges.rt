@@ -1,5 +1,6 @@
 // A frame on the wire, and the words for its edge.
 use cases::least;
+use std::io;
 
 // The states of a frame of 13 bytes at most, and zeros behind them. A frame that is refused has only zeros.
 pub fn states_of(frame: &[u8], edge: u8) -> [u8; 104] {
@@ -18,10 +19,10 @@ pub fn front(list: &[u8], count: usize) -> &[u8] {
     &list[0..end]
 }
 
-pub fn edge_words(edge: u8) {
+pub fn edge_words(rt: &impl Print, edge: u8) -> io::Result<()> {
     match edge {
-        serial::EARLY => cases::text(b", early edge"),
-        serial::EXACT => cases::text(b", exact edge"),
-        _ => cases::text(b", late edge"),
+        serial::EARLY => cases::text(rt, b", early edge"),
+        serial::EXACT => cases::text(rt, b", exact edge"),
+        _ => cases::text(rt, b", late edge"),
     }
 }

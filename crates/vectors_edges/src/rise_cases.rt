@@ -4,6 +4,7 @@ use crate::fresh::{fresh_chain, fresh_of};
 use crate::stepping::step_all;
 use device::Device;
 use phases::Place;
+use std::io;
 use three::load_three;
 
 // Phases, as the record has them.
@@ -11,86 +12,100 @@ const OPENING: u8 = 1;
 
 const LOST: u8 = 5;
 
-pub fn run() {
-    lost_cases(6974);
-    header_cases(6974);
-    lost_cases(6973);
-    header_cases(6973);
+pub fn run(rt: &impl Print) -> io::Result<()> {
+    lost_cases(rt, 6974)?;
+    header_cases(rt, 6974)?;
+    lost_cases(rt, 6973)?;
+    header_cases(rt, 6973)
 }
 
 // What fits no reading: a SYNC whose last bit is a 1, load two clocks late, a high clock within SYNC, and a SYNC that begins with a 0.
-fn lost_cases(part: u16) {
+fn lost_cases(rt: &impl Print, part: u16) -> io::Result<()> {
     case(
+        rt,
         b"2a L1110100 H1",
         part,
         b"\x01\x01\x01\x00\x01\x00\x00\x03",
         LOST,
         0,
-    );
+    )?;
     case(
+        rt,
         b"2d L11101000 L1 L1 H1",
         part,
         b"\x01\x01\x01\x00\x01\x00\x00\x00\x01\x01\x03",
         LOST,
         0,
-    );
+    )?;
     case(
+        rt,
         b"2e L111 H0 L0100 H0",
         part,
         b"\x01\x01\x01\x02\x00\x01\x00\x00\x02",
         LOST,
         0,
-    );
+    )?;
     case(
+        rt,
         b"2f L0 L1101000 L1 H1",
         part,
         b"\x00\x01\x01\x00\x01\x00\x00\x00\x01\x03",
         LOST,
         0,
-    );
+    )
 }
 
 // Early, late and exact. What was read of a header is a one and then its command bits: 1 is none, 6 are the bits 1 and 0, 3 is the bit 1.
-fn header_cases(part: u16) {
+fn header_cases(rt: &impl Print, part: u16) -> io::Result<()> {
     case(
+        rt,
         b"2b H0 L1110100 H0",
         part,
         b"\x02\x01\x01\x01\x00\x01\x00\x00\x02",
         OPENING,
         1,
-    );
+    )?;
     case(
+        rt,
         b"2c L11101000 L1 H0",
         part,
         b"\x01\x01\x01\x00\x01\x00\x00\x00\x01\x02",
         OPENING,
         6,
-    );
+    )?;
     case(
+        rt,
         b"2h L1 L11101000 H1",
         part,
         b"\x01\x01\x01\x01\x00\x01\x00\x00\x00\x03",
         OPENING,
         3,
-    );
+    )
 }
 
 // The line of a case.
-fn case(name: &[u8], part: u16, states: &[u8], phase: u8, read: u16) {
+fn case(
+    rt: &impl Print,
+    name: &[u8],
+    part: u16,
+    states: &[u8],
+    phase: u8,
+    read: u16,
+) -> io::Result<()> {
     let should = place_of(phase, read);
-    cases::text(name);
-    cases::text(b",");
-    cases::count(part as u64);
-    cases::text(b", states");
-    cases::bytes(states);
-    cases::text(b": should be");
-    words(0, should);
-    cases::text(b", came out");
+    cases::text(rt, name)?;
+    cases::text(rt, b",")?;
+    cases::count(rt, part as u64)?;
+    cases::text(rt, b", states")?;
+    cases::bytes(rt, states)?;
+    cases::text(rt, b": should be")?;
+    words(rt, 0, should)?;
+    cases::text(rt, b", came out")?;
     let stepped = step_all(fresh_of(part), states);
-    let by_value = is_at(stepped.device, should);
-    cases::text(b", in a chain");
-    let in_chain = is_at(first_after(part, states), should);
-    cases::verdict(by_value && in_chain);
+    let by_value = is_at(rt, stepped.device, should)?;
+    cases::text(rt, b", in a chain")?;
+    let in_chain = is_at(rt, first_after(part, states), should)?;
+    cases::verdict(rt, by_value && in_chain)
 }
 
 fn place_of(phase: u8, read: u16) -> Place {
@@ -111,26 +126,26 @@ fn first_after(part: u16, states: &[u8]) -> Device {
 }
 
 // Says where a device is. Whether it should be there, and its record is one that is taken.
-fn is_at(device: Device, should: Place) -> bool {
+fn is_at(rt: &impl Print, device: Device, should: Place) -> io::Result<bool> {
     let refusal = device::judge(device);
     let place = device.place;
-    words(refusal, place);
-    refusal == 0 && phases::same_place(place, should)
+    words(rt, refusal, place)?;
+    Ok(refusal == 0 && phases::same_place(place, should))
 }
 
-fn words(refusal: u8, place: Place) {
-    cases::refusal(refusal);
-    phase_words(place.phase);
-    cases::text(b", phase");
-    cases::count(place.phase as u64);
-    cases::text(b", read");
-    cases::count(place.read as u64);
+fn words(rt: &impl Print, refusal: u8, place: Place) -> io::Result<()> {
+    cases::refusal(rt, refusal)?;
+    phase_words(rt, place.phase)?;
+    cases::text(rt, b", phase")?;
+    cases::count(rt, place.phase as u64)?;
+    cases::text(rt, b", read")?;
+    cases::count(rt, place.read as u64)
 }
 
-fn phase_words(phase: u8) {
+fn phase_words(rt: &impl Print, phase: u8) -> io::Result<()> {
     match phase {
-        OPENING => cases::text(b", in the header"),
-        LOST => cases::text(b", lost"),
-        _ => cases::text(b", elsewhere"),
+        OPENING => cases::text(rt, b", in the header"),
+        LOST => cases::text(rt, b", lost"),
+        _ => cases::text(rt, b", elsewhere"),
     }
 }

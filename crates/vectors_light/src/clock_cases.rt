@@ -1,6 +1,7 @@
 // j, k and r: the clocks at which an output is lit, each clock asked for and counted. s: outputs that a part has, and that it does not have.
 ghost use Rattle.std.specs.Prelude.{◌≡◌, ◌+◌, ◌<◌, ◌≤◌};
 
+use std::io;
 use subframes::Asked;
 
 // The first output in wire order, B7 or Z7, is odd. The last is even: R0 of a part with three banks, Y0 of one with two.
@@ -18,40 +19,68 @@ struct Lit {
     last: u32,
 }
 
-pub fn run() {
-    narrow_cases(b"j ", 6974, R0, b"R0 (even)", b"B7 (odd)");
-    wide_cases(b"k ", 6975, R0, b"R0 (even)", b"B7 (odd)");
-    narrow_cases(b"r ", 6972, Y0, b"Y0 (even)", b"Z7 (odd)");
-    wide_cases(b"r ", 6973, Y0, b"Y0 (even)", b"Z7 (odd)");
-    output_case(b"s ", 6972, Y0 + 1, 13);
-    output_case(b"s ", 6974, Y0 + 1, 0);
-    output_case(b"- ", 6974, R0 + 1, 13);
-    output_case(b"- ", 6971, FIRST, 1);
-    output_case(b"- ", 6976, FIRST, 1);
+pub fn run(rt: &impl Print) -> io::Result<()> {
+    narrow_cases(rt, b"j ", 6974, R0, b"R0 (even)", b"B7 (odd)")?;
+    wide_cases(rt, b"k ", 6975, R0, b"R0 (even)", b"B7 (odd)")?;
+    narrow_cases(rt, b"r ", 6972, Y0, b"Y0 (even)", b"Z7 (odd)")?;
+    wide_cases(rt, b"r ", 6973, Y0, b"Y0 (even)", b"Z7 (odd)")?;
+    output_case(rt, b"s ", 6972, Y0 + 1, 13)?;
+    output_case(rt, b"s ", 6974, Y0 + 1, 0)?;
+    output_case(rt, b"- ", 6974, R0 + 1, 13)?;
+    output_case(rt, b"- ", 6971, FIRST, 1)?;
+    output_case(rt, b"- ", 6976, FIRST, 1)
 }
 
 // A part with values of 12 bits.
-fn narrow_cases(letter: &[u8], part: u16, last: u32, even: &[u8], odd: &[u8]) {
-    lit_case(letter, part, 2560, last, even, lit_for(2544, 16, 2559));
-    lit_case(letter, part, 2560, FIRST, odd, lit_for(2544, 1536, 4079));
+fn narrow_cases(
+    rt: &impl Print,
+    letter: &[u8],
+    part: u16,
+    last: u32,
+    even: &[u8],
+    odd: &[u8],
+) -> io::Result<()> {
+    lit_case(rt, letter, part, 2560, last, even, lit_for(2544, 16, 2559))?;
+    lit_case(
+        rt,
+        letter,
+        part,
+        2560,
+        FIRST,
+        odd,
+        lit_for(2544, 1536, 4079),
+    )
 }
 
 // A part with values of 14 bits.
-fn wide_cases(letter: &[u8], part: u16, last: u32, even: &[u8], odd: &[u8]) {
-    lit_case(letter, part, 32, last, even, lit_for(0, 0, 0));
-    lit_case(letter, part, 32, FIRST, odd, lit_for(0, 0, 0));
-    lit_case(letter, part, 33, last, even, lit_for(1, 32, 32));
-    lit_case(letter, part, 33, FIRST, odd, lit_for(1, 16351, 16351));
+fn wide_cases(
+    rt: &impl Print,
+    letter: &[u8],
+    part: u16,
+    last: u32,
+    even: &[u8],
+    odd: &[u8],
+) -> io::Result<()> {
+    lit_case(rt, letter, part, 32, last, even, lit_for(0, 0, 0))?;
+    lit_case(rt, letter, part, 32, FIRST, odd, lit_for(0, 0, 0))?;
+    lit_case(rt, letter, part, 33, last, even, lit_for(1, 32, 32))?;
+    lit_case(rt, letter, part, 33, FIRST, odd, lit_for(1, 16351, 16351))
 }
 
 // The line of a question about an output.
-fn output_case(letter: &[u8], part: u16, output: u32, should: u8) {
-    cases::text(letter);
-    cases::count(part as u64);
-    cases::text(b", output");
-    cases::count(output as u64);
+fn output_case(
+    rt: &impl Print,
+    letter: &[u8],
+    part: u16,
+    output: u32,
+    should: u8,
+) -> io::Result<()> {
+    cases::text(rt, letter)?;
+    cases::count(rt, part as u64)?;
+    cases::text(rt, b", output")?;
+    cases::count(rt, output as u64)?;
     let came = refusal_of(schedule::is_lit(part, 0, 255, 0, output, 0, 0, 0));
-    cases::refusal_case(b"", should, came);
+    cases::refusal_case(rt, b"", should, came)
 }
 
 fn refusal_of(asked: Asked) -> u8 {
@@ -67,36 +96,44 @@ fn lit_for(count: u32, first: u32, last: u32) -> Lit
     Lit { count, first, last }
 }
 
-fn lit_case(letter: &[u8], part: u16, value: u16, output: u32, name: &[u8], should: Lit) {
+fn lit_case(
+    rt: &impl Print,
+    letter: &[u8],
+    part: u16,
+    value: u16,
+    output: u32,
+    name: &[u8],
+    should: Lit,
+) -> io::Result<()> {
     let came = lit_clocks(part, value, output);
-    cases::text(letter);
-    cases::count(part as u64);
-    cases::text(b", v =");
-    cases::count(value as u64);
-    cases::text(b", ");
-    cases::text(name);
-    cases::text(b": should be");
-    lit_words(should);
-    cases::text(b", came out");
-    lit_words(came);
-    cases::verdict(is_same(came, should));
+    cases::text(rt, letter)?;
+    cases::count(rt, part as u64)?;
+    cases::text(rt, b", v =")?;
+    cases::count(rt, value as u64)?;
+    cases::text(rt, b", ")?;
+    cases::text(rt, name)?;
+    cases::text(rt, b": should be")?;
+    lit_words(rt, should)?;
+    cases::text(rt, b", came out")?;
+    lit_words(rt, came)?;
+    cases::verdict(rt, is_same(came, should))
 }
 
-fn lit_words(lit: Lit) {
+fn lit_words(rt: &impl Print, lit: Lit) -> io::Result<()> {
     if lit.count == 0 {
-        cases::text(b" never lit");
-        return;
+        cases::text(rt, b" never lit")?;
+        return Ok(());
     }
-    cases::text(b" lit at");
-    cases::count(lit.first as u64);
+    cases::text(rt, b" lit at")?;
+    cases::count(rt, lit.first as u64)?;
     if lit.count == 1 {
-        cases::text(b" only");
+        cases::text(rt, b" only")
     } else {
-        cases::text(b" to");
-        cases::count(lit.last as u64);
-        cases::text(b",");
-        cases::count(lit.count as u64);
-        cases::text(b" clocks");
+        cases::text(rt, b" to")?;
+        cases::count(rt, lit.last as u64)?;
+        cases::text(rt, b",")?;
+        cases::count(rt, lit.count as u64)?;
+        cases::text(rt, b" clocks")
     }
 }
 

@@ -1,20 +1,35 @@
 // What one of three devices holds after a run of so few states, and the line of a case that says it.
 use crate::seen::{Seen, seen_of, verdict};
 use device::Device;
+use std::io;
 use three::load_three;
 
 // The line of a case: the first of three devices.
-pub fn first_case(name: &[u8], first: Device, other: Device, states: &[u8], should: Seen) {
-    begin(name, states);
-    cases::text(b", device 1 of 3");
-    verdict(seen_of(first_after(first, other, states)), should);
+pub fn first_case(
+    rt: &impl Print,
+    name: &[u8],
+    first: Device,
+    other: Device,
+    states: &[u8],
+    should: Seen,
+) -> io::Result<()> {
+    begin(rt, name, states)?;
+    cases::text(rt, b", device 1 of 3")?;
+    verdict(rt, seen_of(first_after(first, other, states)), should)
 }
 
 // The line of a case: the second.
-pub fn second_case(name: &[u8], first: Device, other: Device, states: &[u8], should: Seen) {
-    begin(name, states);
-    cases::text(b", device 2 of 3");
-    verdict(seen_of(second_after(first, other, states)), should);
+pub fn second_case(
+    rt: &impl Print,
+    name: &[u8],
+    first: Device,
+    other: Device,
+    states: &[u8],
+    should: Seen,
+) -> io::Result<()> {
+    begin(rt, name, states)?;
+    cases::text(rt, b", device 2 of 3")?;
+    verdict(rt, seen_of(second_after(first, other, states)), should)
 }
 
 // A device that two others follow, after a run.
@@ -30,8 +45,8 @@ fn second_after(first: Device, other: Device, states: &[u8]) -> Device {
     chain[1]
 }
 
-fn begin(name: &[u8], states: &[u8]) {
-    cases::text(name);
-    cases::text(b", states");
-    cases::bytes(states);
+fn begin(rt: &impl Print, name: &[u8], states: &[u8]) -> io::Result<()> {
+    cases::text(rt, name)?;
+    cases::text(rt, b", states")?;
+    cases::bytes(rt, states)
 }

@@ -1,5 +1,6 @@
 // What a device is seen to hold, and the end of a case's line that says it.
 use device::Device;
+use std::io;
 
 // The counts of the data line and of the load line, and their levels; at output 0 the values that wait and those that are active, MUX0 before
 // MUX1.
@@ -59,26 +60,26 @@ pub fn seen_of(device: Device) -> Seen {
 }
 
 // The end of a case's line.
-pub fn verdict(came: Seen, should: Seen) {
-    cases::text(b": should be");
-    words(should);
-    cases::text(b", came out");
-    words(came);
-    cases::verdict(is_same(came, should));
+pub fn verdict(rt: &impl Print, came: Seen, should: Seen) -> io::Result<()> {
+    cases::text(rt, b": should be")?;
+    words(rt, should)?;
+    cases::text(rt, b", came out")?;
+    words(rt, came)?;
+    cases::verdict(rt, is_same(came, should))
 }
 
-fn words(seen: Seen) {
-    cases::text(b" counts");
-    cases::count(seen.data);
-    cases::count(seen.load);
-    cases::text(b", levels");
-    cases::count(seen.data_level as u64);
-    cases::count(seen.load_level as u64);
-    cases::text(b", values");
-    cases::count(seen.waiting0 as u64);
-    cases::count(seen.waiting1 as u64);
-    cases::count(seen.active0 as u64);
-    cases::count(seen.active1 as u64);
+fn words(rt: &impl Print, seen: Seen) -> io::Result<()> {
+    cases::text(rt, b" counts")?;
+    cases::count(rt, seen.data)?;
+    cases::count(rt, seen.load)?;
+    cases::text(rt, b", levels")?;
+    cases::count(rt, seen.data_level as u64)?;
+    cases::count(rt, seen.load_level as u64)?;
+    cases::text(rt, b", values")?;
+    cases::count(rt, seen.waiting0 as u64)?;
+    cases::count(rt, seen.waiting1 as u64)?;
+    cases::count(rt, seen.active0 as u64)?;
+    cases::count(rt, seen.active1 as u64)
 }
 
 fn is_same(a: Seen, b: Seen) -> bool {

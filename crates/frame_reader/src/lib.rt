@@ -1,4 +1,6 @@
 // The frame reader: the settings that a frame holds. What it answers, and what it leaves in the lent lists, is in specs/Reading.
+#![tactic(auto)]
+
 mod answer; // what is answered
 mod lists; // tests of the bytes of a frame
 mod reader;

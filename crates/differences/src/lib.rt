@@ -1,4 +1,6 @@
 // One device against what of a set is its own: same, or the first difference.
+#![tactic(auto)]
+
 mod compared;
 mod own;
 

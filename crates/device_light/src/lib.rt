@@ -1,5 +1,7 @@
 // The light of a device record, by its active values: once the record is judged, the question about its numbers. What it answers is in
 // specs/OfDevice.
+#![tactic(auto)]
+
 ghost use Rattle.std.specs.Prelude.{◌≡◌};
 ghost use Rattle.device_light.specs.OfDevice.{active_value, device_answer, device_clocks_answer};
 

@@ -16,7 +16,7 @@ use Rattle.parts.specs.Parts.{is_count}
 use Rattle.tables.specs.Lists.{every}
 use Rattle.judgement.specs.declared.judging.Judged.{Judged}
 use Rattle.judgement.specs.Judging.{unjudged, judged_with, judged_from}
-use Rattle.judgement.proofs.Judged.{known-found, fits-found, same-found}
+use Rattle.judgement.proofs.Pass.{known-found, fits-found, same-found}
 use Rattle.sets.specs.Sets.{set_by, lengths_fit, settings_fit}
 use Rattle.sets.specs.declared.numbers.SetNumbers.{SetNumbers}
 use Rattle.compare.specs.Compare.{rows_of, same_chain, compare_refusal}

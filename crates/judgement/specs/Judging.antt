@@ -1,4 +1,4 @@
--- The judgement of a lent chain in one pass over its records. That it finds what the tests of calls/specs/Chain say is in proofs/Judged.
+-- The judgement of a lent chain in one pass over its records. That it finds what the tests of calls/specs/Chain say is in proofs/Pass.
 use Rattle.std.specs.Prelude.{true, false, ◌&&◌, cond, List, [], ◌∷◌}
 use Rattle.parts.specs.Parts.{known}
 use Rattle.device.specs.Judgement.{fits}

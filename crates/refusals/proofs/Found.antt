@@ -1,5 +1,5 @@
 -- By what one pass over the records finds, each call's refusal is the one that calls/specs/Calls gives it: the pass finds what the tests of a
--- chain say (judgement/proofs/Judged), so the rows are the same, test by test. Then the test of the room without a sum.
+-- chain say (judgement/proofs/Pass), so the rows are the same, test by test. Then the test of the room without a sum.
 use mathlib.Core.Path.{◌≡◌, refl, ap, sym, ◌∙◌}
 use mathlib.Core.Bool.{Bool, true, false, not, ◌&&◌}
 use mathlib.Core.List.{List, [], ◌∷◌, ◌++◌}
@@ -18,7 +18,7 @@ use Rattle.calls.specs.Calls.{room_for, chain_rows, fresh_table, fresh_refusal, 
 use Rattle.judgement.specs.Judging.{unjudged, judged_from}
 use Rattle.refusals.specs.Rows.{judged_rows, run_rows, is_device, fault_rows, output_rows}
 use Rattle.tables.proofs.Booleans.{and_assoc}
-use Rattle.judgement.proofs.Judged.{known-found, fits-found, same-found, part-found}
+use Rattle.judgement.proofs.Pass.{known-found, fits-found, same-found, part-found}
 
 -- a table with the rows of a chain's records before a call's own
 abbrev rows_with : Bool → Bool → ℕ → List Row → List Row

@@ -7,7 +7,6 @@ use Prim.Native.Nat.{ℕ, zero, suc, ◌<◌}
 use native.Mathlib.Nat.{not-suc-le-zero, le_of_suc-le-suc}
 use lib.ListN.{length, get_or, take}
 use Rattle.parts.specs.Parts.{known}
-use Rattle.tables.specs.Refusals.{first}
 use Rattle.tables.specs.Lists.{every}
 use Rattle.device.specs.Judgement.{fits}
 use Rattle.device.specs.declared.device.Device.{Device}

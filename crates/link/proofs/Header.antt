@@ -13,11 +13,11 @@ use borrow.Author.Tests.{ltb-true, ltb-false}
 use Rattle.bits.specs.Bits.{number}
 use Rattle.bits.proofs.Laws.{number_lt}
 use Rattle.parts.specs.Parts.{part_of, field_width}
-use Rattle.parts.specs.Wire.{high, header}
+use Rattle.parts.specs.Wire.{high}
 use Rattle.parts.specs.declared.command.Command.{Command}
 use Rattle.parts.specs.declared.command.Command.TheVariants.{Individual, Calibration, Global, Configuration}
 use Rattle.phases.specs.Phases.{rising, opened, opening, counting}
-use Rattle.device.specs.Step.{at, slice_length, step}
+use Rattle.device.specs.Step.{slice_length}
 use Rattle.phases.specs.declared.phase.Phase.{Phase}
 use Rattle.phases.specs.declared.phase.Phase.TheVariants.{Hunting, Opening, Counting, Slice, Lost}
 use Rattle.registers.specs.declared.registers.Registers.{Registers}

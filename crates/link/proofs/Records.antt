@@ -12,7 +12,7 @@ use borrow.Author.Tests.{lt-ltb, ltb-true}
 use Rattle.bits.specs.Bits.{digit}
 use Rattle.tables.specs.Lists.{all_below}
 use Rattle.parts.specs.Parts.{part_of}
-use Rattle.parts.specs.Wire.{State, low, lows, state_at, data_bit}
+use Rattle.parts.specs.Wire.{State, lows, state_at, data_bit}
 use Rattle.serial.specs.States.{data_bits}
 use Rattle.device.specs.Step.{faulted}
 use Rattle.device.proofs.Kept.{parts-of}

@@ -13,15 +13,15 @@ use Rattle.bits.specs.Bits.{is_one, split, over}
 use Rattle.bits.proofs.Laws.{take-over}
 use Rattle.tables.specs.Lists.{all_below, all_same}
 use Rattle.parts.specs.Parts.{Part, part_of, outputs, multiplex, limit, field_width, field_limit, slice_fields, Usable}
-use Rattle.parts.specs.Wire.{low, high, state_at, header, clocked}
+use Rattle.parts.specs.Wire.{high, state_at, header, clocked}
 use Rattle.parts.proofs.Laws.{usable}
 use Rattle.parts.specs.declared.command.Command.{Command}
 use Rattle.parts.specs.declared.command.Command.TheVariants.{Individual, Calibration, Global, Configuration}
 use Rattle.registers.specs.Held.{holding, took, fault, raised}
 use Rattle.storing.specs.Stored.{strided, byte_of, slice_bytes, first_byte, stored, copies}
-use Rattle.device.specs.Step.{sent_states, at, moved, sending, slice_length, collected}
+use Rattle.device.specs.Step.{sent_states, moved, sending, slice_length, collected}
 use Rattle.phases.specs.declared.phase.Phase.TheVariants.{Slice, Passing}
-use Rattle.phases.specs.declared.phase.Sent.TheVariants.{Nothing, One, Header}
+use Rattle.phases.specs.declared.phase.Sent.TheVariants.{Nothing, Header}
 use Rattle.registers.specs.declared.registers.Registers.{Registers}
 use Rattle.parts.proofs.Rows.{field-width-pos, fields_le, fields-used, field_of}
 use Rattle.registers.proofs.Flags.{fault-slice}

@@ -11,7 +11,6 @@ use borrow.Author.Tests.{ltb-true, ltb-false, lt-ltb, le-ltb}
 use Rattle.parts.specs.Parts.{known, part_of, outputs, is_count}
 use Rattle.tables.specs.Refusals.{Row, ◌when◌, first}
 use Rattle.tables.specs.Lists.{all_below}
-use Rattle.device.specs.Judgement.{fits}
 use Rattle.device.specs.declared.device.Device.{Device}
 use Rattle.calls.specs.Chain.{all_known, same_parts, all_fit, blank}
 use Rattle.calls.specs.Calls.{room_for, chain_rows, fresh_table, fresh_refusal, run_refusal, fault_refusal}

@@ -1,4 +1,6 @@
 // Bits for C and Rust, as include/bractbeacon.h documents them: numbers packed and unpacked, and how many subframes and slice bits a part has.
+#![tactic(auto)]
+
 mod bytes;
 mod rows;
 

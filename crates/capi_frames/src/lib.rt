@@ -1,5 +1,7 @@
 // Frames for C and Rust, as include/bractbeacon.h documents them: written, read, returned, and as line states. Each function takes the enum
 // of an operation apart and gives its numbers.
+#![tactic(auto)]
+
 mod conversion;
 mod wire;
 

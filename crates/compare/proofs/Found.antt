@@ -13,7 +13,6 @@ use lib.Seq.{drop-cons, drop-drop}
 use borrow.Author.Tests.{ltb-true, ltb-false, leb-true, eqb-true, ne_eqb, not-false}
 use Rattle.parts.specs.Parts.{Part, part_of, multiplex, slice_fields, is_count}
 use Rattle.tables.specs.Lists.{every}
-use Rattle.tables.specs.Refusals.{answer}
 use Rattle.parts.specs.declared.command.Command.TheVariants.{Individual}
 use Rattle.tables.proofs.Booleans.{and_left, and_right, and_both}
 use Rattle.tables.proofs.Rows.{clear}

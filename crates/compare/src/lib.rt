@@ -1,4 +1,6 @@
 // A set against a lent chain: same, or the first difference.
+#![tactic(auto)]
+
 mod comparison;
 mod judging;
 mod search;

@@ -11,7 +11,7 @@ use lib.Pow.{pow-add}
 use lib.ListN.{length, get_or, set, drop}
 use lib.Seq.{get_or-set_same, set-set}
 use borrow.Author.Tests.{eqb-true, eqb-false, lt-ltb, le-ltb, ltb-true, ltb-false, leb-true, leb-false}
-use Rattle.parts.specs.Parts.{part_of, multiplex, limit, field_width, field_limit, slice_fields}
+use Rattle.parts.specs.Parts.{part_of, multiplex, field_width, field_limit, slice_fields}
 use Rattle.parts.proofs.Laws.{usable}
 use Rattle.parts.specs.declared.command.Command.{Command}
 use Rattle.phases.specs.Phases.{pushed}

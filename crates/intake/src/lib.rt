@@ -1,5 +1,7 @@
 // One device takes as many high states at hand as it can at once, and then what it took is settled in its record: so a record is moved once a
 // slice or flood and not once a clock. Where high states end is asked by a chain that passes them too.
+#![tactic(auto)]
+
 mod field;
 mod highs;
 mod slice;

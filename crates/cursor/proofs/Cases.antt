@@ -1,7 +1,8 @@
 -- No header is under way: what is sent under the `else` of an `if let` is nothing or one state. Assumes nothing.
 use mathlib.Core.Path.{◌≡◌, refl}
 use mathlib.Core.List.{List, [], ◌∷◌}
-use mathlib.Core.Logic.{⊎_elim}
+use mathlib.Core.Logic.{⊎_elim, inl, inr}
+use Rattle.parts.specs.declared.command.Command.{Command}
 use Prim.Native.Nat.{ℕ}
 use native.Mathlib.Omega.{arith}
 use types.Run.{OneOf}
@@ -22,3 +23,9 @@ pub next_turn-none : (n f at w : ℕ) (p : Sent) (ss : List ℕ) → NoHeader p 
 next_turn-none n f at w Nothing ss h = refl
 next_turn-none n f at w (One s) ss h = refl
 next_turn-none n f at w (Header c m) ss h = absurd (not_last h)
+
+-- what an `else` says of the variant
+pub no_header : (p : Sent) → ((c : Command) (n : ℕ) → p ≡ Header c n → ⊥) → NoHeader p
+no_header Nothing f = inl refl
+no_header (One s) f = inr refl
+no_header (Header c n) f = absurd (f c n refl)

@@ -2,8 +2,8 @@
 ghost use Rattle.std.specs.Prelude.{◌≡◌, drop};
 ghost use Rattle.cursor.specs.Cursor.{index_of, turn_by_state, next_turn, halted};
 
-use watch::Ear;
 use phases::Sent;
+use watch::Ear;
 
 // Words come first, and what is smaller comes last: a gap in the middle slows each move.
 #[derive(Clone, Copy)]

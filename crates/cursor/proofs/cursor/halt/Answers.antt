@@ -1,0 +1,4 @@
+use Rattle.cursor.proofs.cursor.halt.Goals as goal
+
+pub returns : goal.returns
+returns c = rw c.no_ear-ear.ensures

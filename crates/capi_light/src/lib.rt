@@ -1,4 +1,6 @@
 // Light for C and Rust, as include/bractbeacon.h documents it: the questions of the crates schedule and device_light, answered in numbers.
+#![tactic(auto)]
+
 mod light;
 
 pub use light::{

@@ -1,5 +1,6 @@
-// Chains of three devices, by value: each function lends its array to one call of the crate chain. Its proof walks it; whoever calls it
-// needs no walk.
+// Chains of three devices, by value: each function lends its array to one call of the crate chain.
+#![tactic(auto)]
+
 ghost use Rattle.std.specs.Prelude.{◌≡◌, not, eqb, length};
 ghost use Rattle.calls.specs.Calls.{fresh_after, fault_after, run_after, run_room};
 ghost use Rattle.cursor.specs.Answer.{run_answer};

@@ -82,8 +82,7 @@ returns-in-Calibration c = let entry = c in
     let e = c.in-Calibration.is in
     let ew : 8 ≡ field_bits t = sym (ap (λ (k : Command). field_width (part_of t.part) k) e) in
     let ev : a.bytes.now ≡ settings t a.byte a.bytes.now a.values.now = sym (ap (λ (k : Command). settings_of t k a.byte a.bytes.now a.values.now) e) in
-    let known = c.shared_slice_known-1 in
-    pieces.put_whole t a.byte a.bytes.now a.values.now list ev ew refl (λ i. (known.given i).fits) a.at a.out.now put-bytes.ensures
+    pieces.put_whole t a.byte a.bytes.now a.values.now list ev ew refl (λ i. (c.type_inv.bytes i).fits) a.at a.out.now put-bytes.ensures
 
 pub returns-in-Global : goal.returns-in-Global
 returns-in-Global c =

@@ -5,6 +5,7 @@ use native.Mathlib.Omega.{arith}
 use lib.ListN.{length}
 use Rattle.bits.proofs.Fits as fits
 use Rattle.packing.proofs.Whole as whole
+use borrow.Author.Rules.{rules}
 use Rattle.packing.proofs.packing.pack.Goals as goal
 
 pub returns-then-not-has_room : goal.returns-then-not-has_room
@@ -60,4 +61,4 @@ returns c = let f = c in
     let p = whole.packed-run 16 a.width a.values.now a.at (sym t.has_room.ensures ∙ t.if-not-has_room.false) refl
     (whole.rest-bits a.width a.values.now n.result n.ensures.1 n.ensures.2) (whole.rest-fields a.width a.values.now n.result)
     n.ensures.0 d.push_all-last.ensures f.finish-end.ensures.0 (omega arith) f.finish-end.ensures.1 (omega arith)
-    (λ i. omega (arith, c.slice_known-1.given i)) (λ i. (c.type_inv.out i).fits) in record { value = p.0; out_after = p.1 }
+    (λ i. search rules) (λ i. (c.type_inv.out i).fits) in record { value = p.0; out_after = p.1 }

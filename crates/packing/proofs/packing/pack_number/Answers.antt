@@ -9,6 +9,7 @@ use Rattle.bits.proofs.Fits as fits
 use Rattle.packing.proofs.Laid as laid
 use Rattle.packing.proofs.Whole as whole
 use Rattle.packing.proofs.Writing as writing
+use borrow.Author.Rules.{rules}
 use Rattle.packing.proofs.packing.pack_number.Goals as goal
 
 pub returns-then-not-has_room : goal.returns-then-not-has_room
@@ -35,4 +36,4 @@ returns c = let w = c in
     let p = whole.packed-run 64 a.width (a.value ∷ []) a.at (sym t.has_room.ensures ∙ t.if-not-has_room.false) (omega arith) (omega arith) refl
     (laid.laid_none a.out.now a.at (a.at + bytes_for (1 * a.width)))
     (writing.pushed-one a.width a.value w.push_wide-last.ensures) f.ensures.0 (omega arith) f.ensures.1 (omega arith)
-    (λ i. omega (arith, c.slice_known-1.given i)) (λ i. (c.type_inv.out i).fits) in record { value = p.0; out_after = p.1 }
+    (λ i. search rules) (λ i. (c.type_inv.out i).fits) in record { value = p.0; out_after = p.1 }

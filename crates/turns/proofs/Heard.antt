@@ -7,7 +7,7 @@ use mathlib.Core.List.{List, [], ◌∷◌, ◌++◌, map}
 use Prim.Native.Nat.{ℕ, ◌+◌, ◌-◌, ◌/◌, ◌%◌}
 use native.Mathlib.Omega.{arith}
 use lib.Dec.{ltb}
-use lib.ListN.{length, set}
+use lib.ListN.{length}
 use Rattle.machine.specs.Machine as machine
 use Rattle.machine.proofs.Machine.{run-one}
 use Rattle.parts.specs.Parts.{part_of, field_width, field_limit}
@@ -30,7 +30,7 @@ use Rattle.intake.specs.Intake.{dated_by}
 use Rattle.turns.specs.Watching.{is_on, cleared_device, hearing}
 use Rattle.turns.proofs.LeavingStates.{length-header-states}
 use Rattle.turns.proofs.Timed.{Timed, stamp, stamped, timed, step_timed, run_timed}
-use Rattle.turns.proofs.Hearing.{heard_registers, after, hearing-after, hearing-on, header-nothing, hearing_step, step-hearing}
+use Rattle.turns.proofs.Hearing.{heard_registers, hearing-after, hearing-on, header-nothing, hearing_step, step-hearing}
 use Rattle.turns.proofs.Late.{Packet, packet, singles, before, step_late, run_late}
 
 pub none-sent : (x : Sent) → sent_states x ≡ [] → x ≡ Nothing

@@ -7,7 +7,6 @@ use Prim.Native.Nat.{ℕ, ◌+◌, ◌/◌, ◌%◌}
 use native.Mathlib.Omega.{arith}
 use lib.Dec.{ltb}
 use lib.ListN.{length}
-use Rattle.machine.specs.Machine as machine
 use Rattle.parts.specs.Parts.{part_of, field_width, field_limit}
 use Rattle.parts.specs.declared.command.Command.{Command}
 use Rattle.watch.specs.declared.kept.Listened.{Listened}

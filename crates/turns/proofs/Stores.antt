@@ -9,7 +9,6 @@ use native.Mathlib.Omega.{arith}
 use lib.Dec.{eqb, ltb}
 use lib.ListN.{length}
 use Rattle.tables.proofs.Booleans.{cond_both}
-use Rattle.machine.specs.Machine as machine
 use Rattle.machine.specs.Machine.{and_then}
 use Rattle.machine.proofs.Machine.{run-one, run-append}
 use Rattle.parts.specs.Parts.{part_of, multiplex, field_width, field_limit}
@@ -36,7 +35,7 @@ use Rattle.intake.specs.declared.taken.Taken.{Taken}
 use Rattle.intake.proofs.Settled.{dated-slice}
 use Rattle.turns.specs.Watching.{is_on, cleared_if, cleared_device, hearing}
 use Rattle.turns.proofs.Timed.{Timed, stamp, stamped, states, timed, step_timed, run_timed, timed-none, timed-cons, states-stamped}
-use Rattle.turns.proofs.Taking.{High, none, also}
+use Rattle.turns.proofs.Taking.{High}
 use Rattle.turns.proofs.Hearing.{heard_registers, after, hearing-after, hearing-on}
 use Rattle.turns.proofs.Heard.{less_one, Quiet, quietly, SliceOnly, step-slice, cleared-hearing, hearing-quiet, quietly-hearing, late-quiet, quietly-on}
 use Rattle.turns.proofs.Late.{Packet, packet, singles, before, step_late, run_late, singles-none, singles-cons, singles-append}

@@ -7,9 +7,9 @@ ghost use Rattle.turns.specs.Ending.{by_clock_device, shown_if};
 
 use cursor::Cursor;
 use device::Device;
-use watch::Ear;
 use phases::Sent;
 use registers::Registers;
+use watch::Ear;
 
 // What a turn makes of its device, the place of the next state, the ear that the next turns go by, and what was sent. What is smallest
 // comes last, as in a cursor.

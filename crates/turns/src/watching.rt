@@ -6,11 +6,10 @@ ghost use Rattle.intake.specs.Intake.{settled_by};
 
 use crate::turning::Turn;
 use device::Device;
-use watch::{Ear, Followed};
 use intake::Progress;
 use phases::Sent;
 use registers::Registers;
-use watch::{Listened, Watch};
+use watch::{Ear, Followed, Listened, Watch};
 
 // A device that got so far with the states from a place on, something being under way to it, where the high states end at another.
 pub fn watched_take(

@@ -15,9 +15,8 @@ returns-then-refusal-ne0 c = let j = c.judge-refusal in
     (first-record a.device a.output a.subframe a.clock a.phase j.ensures c.if-refusal-ne0.true) c.if-refusal-ne0.true
 
 pub returns : goal.returns
-returns c = let test = c in
-    let a = test.args in
+returns c = let a = c.args in
     let r = a.device.registers in
     c.is_lit.ensures
     ∙ ap (λ (v : ℕ). lit_answer r.part r.configuration r.active v a.output a.subframe a.clock a.phase) c.active_value-value.ensures
-    ∙ device-lit a.device a.output a.subframe a.clock a.phase (sym test.judge-refusal.ensures ∙ test.if-refusal-ne0.false)
+    ∙ device-lit a.device a.output a.subframe a.clock a.phase (sym c.judge-refusal.ensures ∙ c.if-refusal-ne0.false)

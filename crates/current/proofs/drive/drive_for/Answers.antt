@@ -25,10 +25,9 @@ period_frames-requires c = let a = c.args.given in
     (frame-clocks-pos (part_of a.part) (usable a.part) a.configuration)
 
 pub overflow_mul-result-2 : goal.overflow_mul-result-2
-overflow_mul-result-2 c = let s = c in
-    let a = s.args.given in
+overflow_mul-result-2 c = let a = c.args.given in
     rw (c.period_frames.ensures, c.subframes_of-subframes.ensures, c.constants_of-row.ensures)
-    (record { fits = omega (arith, repeats-le (part_of a.part) a.configuration a.global (usable a.part) s.requires) })
+    (record { fits = omega (arith, repeats-le (part_of a.part) a.configuration a.global (usable a.part) c.requires) })
 
 pub returns : goal.returns
 returns c = rw (c.period_frames.ensures, c.subframes_of-subframes.ensures, c.constants_of-row.ensures)

@@ -32,22 +32,19 @@ pub overflow_mul-i : goal.overflow_mul-i
 overflow_mul-i c = record { fits = omega (arith, c.loop-i-test.true, c.requires.1.few) }
 
 pub write_figure-sum-requires : goal.write_figure-sum-requires
-write_figure-sum-requires c = let s = c in
-    let a = s.args in
+write_figure-sum-requires c = let a = c.args in
     let l = c.loop-i in
     let test = c.loop-i-test.true in
-    rw (l.invariant.2, figures-long a.drive a.calibration.now a.individual.now a.figures.now l.i (omega (arith, test, s.requires.1.figures_in)))
-    (omega (arith, test, s.requires.1.figures_in))
+    rw (l.invariant.2, figures-long a.drive a.calibration.now a.individual.now a.figures.now l.i (omega (arith, test, c.requires.1.figures_in)))
+    (omega (arith, test, c.requires.1.figures_in))
 
 pub overflow_add-sum : goal.overflow_add-sum
-overflow_add-sum c = let inside = c in
-    let known = inside in
-    let a = known.args in
-    let l = inside.loop-i in
-    let all = sum_below a.drive known.requires.0 a.calibration.now (λ k. (known.type_inv.calibration k).fits) a.individual.now l.i in
+overflow_add-sum c = let a = c.args in
+    let l = c.loop-i in
+    let all = sum_below a.drive c.requires.0 a.calibration.now (λ k. (c.type_inv.calibration k).fits) a.individual.now l.i in
     record {
       fits = omega
-          (arith, l.invariant.1, c.write_figure-sum.ensures.value, c.device_total-total.ensures, all, closed-below c.args.drive c.requires.0 c.args.calibration.now (λ k. (c.type_inv.calibration k).fits) (c.loop-i.i * c.args.drive.banks) c.args.individual.now (c.loop-i.i * (c.args.drive.banks * c.args.drive.each)), inside.loop-i-test.true, known.requires.1.few);
+          (arith, l.invariant.1, c.write_figure-sum.ensures.value, c.device_total-total.ensures, all, closed-below c.args.drive c.requires.0 c.args.calibration.now (λ k. (c.type_inv.calibration k).fits) (c.loop-i.i * c.args.drive.banks) c.args.individual.now (c.loop-i.i * (c.args.drive.banks * c.args.drive.each)), c.loop-i-test.true, c.requires.1.few);
     }
 
 pub overflow_add-i : goal.overflow_add-i
@@ -57,11 +54,10 @@ pub loop-i-smaller : goal.loop-i-smaller
 loop-i-smaller c = omega (arith, c.loop-i-test.true)
 
 pub loop-i-preserved : goal.loop-i-preserved
-loop-i-preserved c = let inside = c in
-    let a = inside.args in
-    let l = inside.loop-i in
+loop-i-preserved c = let a = c.args in
+    let l = c.loop-i in
     let total = c.device_total-total.ensures in (
-      omega (arith, inside.loop-i-test.true),
+      omega (arith, c.loop-i-test.true),
       ap₂ (λ (m n : ℕ). m + n) l.invariant.1 (c.write_figure-sum.ensures.value ∙ total)
           ∙ sym (total-next (closed_at a.drive a.calibration.now a.individual.now) l.i),
       c.write_figure-sum.ensures.figures_after

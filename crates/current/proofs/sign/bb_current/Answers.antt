@@ -24,47 +24,59 @@ use Rattle.current.proofs.sign.bb_current.Goals as goal
 
 pub returns-then-refusal-ne0 : goal.returns-then-refusal-ne0
 unfolding current current_out current_refusal
-returns-then-refusal-ne0 c = let s = c in
-    let found = c.refusal_of-refusal.ensures in record { value = c.refuse.ensures ∙ refused answers.refused (drawing (sign_total (set_of s.args.part s.args.devices s.args.configuration s.args.calibration.now s.args.global s.args.individual.now))) found c.if-refusal-ne0.true; figures_after = kept s.args.figures.now (over (device_figures (set_of s.args.part s.args.devices s.args.configuration s.args.calibration.now s.args.global s.args.individual.now)) s.args.figures.now) found c.if-refusal-ne0.true }
+returns-then-refusal-ne0 c =
+    let a = c.args in
+    let g = set_of a.part a.devices a.configuration a.calibration.now a.global a.individual.now in
+    let found = c.refusal_of-refusal.ensures in
+    record {
+      value = c.refuse.ensures ∙ refused answers.refused (drawing (sign_total g)) found c.if-refusal-ne0.true;
+      figures_after = kept a.figures.now (over (device_figures g) a.figures.now) found c.if-refusal-ne0.true;
+    }
 
 pub drive_for-drive-requires : goal.drive_for-drive-requires
 unfolding current_refusal
-drive_for-drive-requires c = let s = c in
-    global-below (set_of s.args.part s.args.devices s.args.configuration s.args.calibration.now s.args.global s.args.individual.now) (length s.args.figures.now) (sym c.refusal_of-refusal.ensures ∙ c.if-refusal-ne0.false)
+drive_for-drive-requires c =
+    let a = c.args in
+    let g = set_of a.part a.devices a.configuration a.calibration.now a.global a.individual.now in
+    let n : ℕ = length a.figures.now in
+    let ok : first (current_table g n) ≡ 0 = sym c.refusal_of-refusal.ensures ∙ c.if-refusal-ne0.false in
+    global-below g n ok
 
 pub write_figures-total-requires : goal.write_figures-total-requires
 unfolding current_refusal
-write_figures-total-requires c = let test = c in
-    let s = test in
-    let g = set_of s.args.part s.args.devices s.args.configuration s.args.calibration.now s.args.global s.args.individual.now in
-    let ok : first (current_table g (length s.args.figures.now)) ≡ 0 = sym c.refusal_of-refusal.ensures ∙ c.if-refusal-ne0.false in
+write_figures-total-requires c =
+    let a = c.args in
+    let g = set_of a.part a.devices a.configuration a.calibration.now a.global a.individual.now in
+    let n : ℕ = length a.figures.now in
+    let ok : first (current_table g n) ≡ 0 = sym c.refusal_of-refusal.ensures ∙ c.if-refusal-ne0.false in
     rw c.drive_for-drive.ensures (
-      driven (part_of g.part) g.configuration g.global (usable g.part) (global-below g (length s.args.figures.now) ok),
+      driven (part_of g.part) g.configuration g.global (usable g.part) (global-below g n ok),
       record {
-        few = omega (arith, devices-few g (length s.args.figures.now) ok);
-        bytes_in = le_of_eq (sym (bytes-long g (length s.args.figures.now) ok));
-        values_in = le_of_eq (sym (values-long g (length s.args.figures.now) ok ∙ ap (λ (n : ℕ). g.devices * n) (fields-banks (part_of g.part) g.configuration)));
-        figures_in = room-enough g (length s.args.figures.now) ok;
+        few = omega (arith, devices-few g n ok);
+        bytes_in = le_of_eq (sym (bytes-long g n ok));
+        values_in = le_of_eq (sym (values-long g n ok ∙ ap (λ (n : ℕ). g.devices * n) (fields-banks (part_of g.part) g.configuration)));
+        figures_in = room-enough g n ok;
       },
     )
 
 pub returns : goal.returns
 unfolding current current_out current_refusal
-returns c = let wrote = c in
-    let test = wrote in
-    let s = test in
-    let g = set_of s.args.part s.args.devices s.args.configuration s.args.calibration.now s.args.global s.args.individual.now in
-    let found = test.refusal_of-refusal.ensures in
-    let ok : first (current_table g (length s.args.figures.now)) ≡ 0 = sym c.refusal_of-refusal.ensures ∙ c.if-refusal-ne0.false in
-    let drive = wrote.drive_for-drive.ensures in record {
+returns c =
+    let a = c.args in
+    let g = set_of a.part a.devices a.configuration a.calibration.now a.global a.individual.now in
+    let n : ℕ = length a.figures.now in
+    let found = c.refusal_of-refusal.ensures in
+    let ok : first (current_table g n) ≡ 0 = sym c.refusal_of-refusal.ensures ∙ c.if-refusal-ne0.false in
+    let drive = c.drive_for-drive.ensures in
+    record {
       value = c.accept.ensures
-          ∙ accepted answers.refused found test.if-refusal-ne0.false
+          ∙ accepted answers.refused found c.if-refusal-ne0.false
           (ap drawing
-          (wrote.write_figures-total.ensures.value
+          (c.write_figures-total.ensures.value
           ∙ ap (λ (d : Drive). closed_sum d g.calibration g.individual g.devices) drive
-          ∙ sum-answered g (length s.args.figures.now) ok));
-      figures_after = changed s.args.figures.now found test.if-refusal-ne0.false
-          (wrote.write_figures-total.ensures.figures_after
-          ∙ ap (λ (d : Drive). over (closed_figures d g.calibration g.individual g.devices) s.args.figures.now) drive
-          ∙ ap (λ (l : List ℕ). over l s.args.figures.now) (figures-answered g (length s.args.figures.now) ok));
+          ∙ sum-answered g n ok));
+      figures_after = changed a.figures.now found c.if-refusal-ne0.false
+          (c.write_figures-total.ensures.figures_after
+          ∙ ap (λ (d : Drive). over (closed_figures d g.calibration g.individual g.devices) a.figures.now) drive
+          ∙ ap (λ (l : List ℕ). over l a.figures.now) (figures-answered g n ok));
     }

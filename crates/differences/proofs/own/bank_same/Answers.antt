@@ -14,10 +14,9 @@ pub loop-i-init : goal.loop-i-init
 loop-i-init c = (search rules, refl)
 
 pub loop-i-preserved : goal.loop-i-preserved
-loop-i-preserved c = let first = c in
-    let test = first.loop-i-test.true in
-    let l = first.loop-i in
-    let p = first.args in
+loop-i-preserved c = let test = c.loop-i-test.true in
+    let l = c.loop-i in
+    let p = c.args in
     let i = l.i in
     let m : length p.mux0.now ≡ 8 = search rules in
     let n : length p.mux1.now ≡ 8 = search rules in

@@ -14,41 +14,55 @@ use Rattle.differences.specs.Groups.{differs_at, compared}
 use Rattle.differences.proofs.Groups.{configuration-differs, calibration-differs, global-differs, individual-differs, none-differs}
 use Rattle.differences.proofs.own.device_differs.Goals as goal
 
-abbrev bytes_at : List ℕ → Registers → ℕ
-bytes_at calibration r = differs_at calibration (bank_bytes r)
-
+-- the place in the bytes of the part's banks
 byte-found :
-    (calibration : List ℕ) (r : Registers) (result banks : ℕ)
-    → result ≡ differs_at calibration (take banks r.calibration)
-    → banks ≡ (constants_of (part_of r.part)).banks
-    → result ≡ bytes_at calibration r
-byte-found calibration r result banks e b = e ∙ ap (λ (k : ℕ). differs_at calibration (take k r.calibration)) b
+    (calibration : List ℕ) (r : Registers) (result : ℕ) (k : Constants)
+    → result ≡ differs_at calibration (take k.banks r.calibration)
+    → k ≡ constants_of (part_of r.part)
+    → result ≡ differs_at calibration (bank_bytes r)
+byte-found calibration r result k e b = e ∙ ap (λ (k : Constants). differs_at calibration (take k.banks r.calibration)) b
 
 pub returns-then-configuration-registers : goal.returns-then-configuration-registers
 returns-then-configuration-registers c =
-    c.differs.ensures ∙ configuration-differs c.args.number (own_of c.args.configuration c.args.calibration.now c.args.global c.args.individual.now) c.args.device c.if-configuration-registers.true
+    let a = c.args in
+    let own = own_of a.configuration a.calibration.now a.global a.individual.now in
+    c.differs.ensures ∙ configuration-differs a.number own a.device c.if-configuration-registers.true
 
 pub bytes_differ-byte-requires : goal.bytes_differ-byte-requires
-bytes_differ-byte-requires c = let part = c.args.device.registers.part in
-    rw c.constants_of-banks.ensures (usable part).few_banks
+bytes_differ-byte-requires c = rw c.constants_of-banks.ensures (usable c.args.device.registers.part).few_banks
 
 pub returns-then-byte-calibration : goal.returns-then-byte-calibration
 returns-then-byte-calibration c =
-    let k = byte-found c.args.calibration.now c.args.device.registers c.bytes_differ-byte.result c.constants_of-banks.result.banks c.bytes_differ-byte.ensures.0 (ap (λ (k : Constants). k.banks) c.constants_of-banks.ensures) in
-    c.differs-then-byte-calibration.ensures ∙ ap (λ (k : ℕ). compared 0 c.args.number 2 k) k
-    ∙ calibration-differs c.args.number (own_of c.args.configuration c.args.calibration.now c.args.global c.args.individual.now) c.args.device c.if-configuration-registers.false (omega (arith, c.if-byte-calibration.true, k))
+    let a = c.args in
+    let own = own_of a.configuration a.calibration.now a.global a.individual.now in
+    let k = byte-found a.calibration.now a.device.registers _ _ c.bytes_differ-byte.ensures.0 c.constants_of-banks.ensures in
+    c.differs-then-byte-calibration.ensures ∙ ap (λ (k : ℕ). compared 0 a.number 2 k) k
+    ∙ calibration-differs a.number own a.device c.if-configuration-registers.false (omega (arith, c.if-byte-calibration.true, k))
 
 pub returns-then-global-registers : goal.returns-then-global-registers
 returns-then-global-registers c =
+    let a = c.args in
+    let own = own_of a.configuration a.calibration.now a.global a.individual.now in
+    let k = byte-found a.calibration.now a.device.registers _ _ c.bytes_differ-byte.ensures.0 c.constants_of-banks.ensures in
     c.differs-then-global-registers.ensures
-    ∙ global-differs c.args.number (own_of c.args.configuration c.args.calibration.now c.args.global c.args.individual.now) c.args.device c.if-configuration-registers.false (omega (arith, c.if-byte-calibration.false, byte-found c.args.calibration.now c.args.device.registers c.bytes_differ-byte.result c.constants_of-banks.result.banks c.bytes_differ-byte.ensures.0 (ap (λ (k : Constants). k.banks) c.constants_of-banks.ensures))) c.if-global-registers.true
+    ∙ global-differs a.number own a.device c.if-configuration-registers.false (omega (arith, c.if-byte-calibration.false, k)) c.if-global-registers.true
 
 pub returns-then-value-individual : goal.returns-then-value-individual
-returns-then-value-individual c = let k = c.active_differ-value.ensures.0 in
-    c.differs-then-value-individual.ensures ∙ ap (λ (k : ℕ). compared 0 c.args.number 4 k) k
-    ∙ individual-differs c.args.number (own_of c.args.configuration c.args.calibration.now c.args.global c.args.individual.now) c.args.device c.if-configuration-registers.false (omega (arith, c.if-byte-calibration.false, byte-found c.args.calibration.now c.args.device.registers c.bytes_differ-byte.result c.constants_of-banks.result.banks c.bytes_differ-byte.ensures.0 (ap (λ (k : Constants). k.banks) c.constants_of-banks.ensures))) c.if-global-registers.false (omega (arith, c.if-value-individual.true, k))
+returns-then-value-individual c =
+    let a = c.args in
+    let own = own_of a.configuration a.calibration.now a.global a.individual.now in
+    let b = byte-found a.calibration.now a.device.registers _ _ c.bytes_differ-byte.ensures.0 c.constants_of-banks.ensures in
+    let k = c.active_differ-value.ensures.0 in
+    c.differs-then-value-individual.ensures ∙ ap (λ (k : ℕ). compared 0 a.number 4 k) k
+    ∙ individual-differs a.number own a.device c.if-configuration-registers.false (omega (arith, c.if-byte-calibration.false, b)) c.if-global-registers.false
+    (omega (arith, c.if-value-individual.true, k))
 
 pub returns : goal.returns
-returns c = let k = c.active_differ-value.ensures.0 in
+returns c =
+    let a = c.args in
+    let own = own_of a.configuration a.calibration.now a.global a.individual.now in
+    let b = byte-found a.calibration.now a.device.registers _ _ c.bytes_differ-byte.ensures.0 c.constants_of-banks.ensures in
+    let k = c.active_differ-value.ensures.0 in
     c.differs-2.ensures
-    ∙ none-differs c.args.number (own_of c.args.configuration c.args.calibration.now c.args.global c.args.individual.now) c.args.device c.if-configuration-registers.false (omega (arith, c.if-byte-calibration.false, byte-found c.args.calibration.now c.args.device.registers c.bytes_differ-byte.result c.constants_of-banks.result.banks c.bytes_differ-byte.ensures.0 (ap (λ (k : Constants). k.banks) c.constants_of-banks.ensures))) c.if-global-registers.false (omega (arith, c.if-value-individual.false, k))
+    ∙ none-differs a.number own a.device c.if-configuration-registers.false (omega (arith, c.if-byte-calibration.false, b)) c.if-global-registers.false
+    (omega (arith, c.if-value-individual.false, k))

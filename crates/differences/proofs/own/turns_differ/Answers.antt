@@ -20,27 +20,18 @@ pub loop-i-init : goal.loop-i-init
 loop-i-init c = (search rules, omega arith)
 
 pub returns-then-values-even : goal.returns-then-values-even
-returns-then-values-even c = let t = c in
-    (omega (arith, t.loop-i.invariant.1, turns-first (within {ys = c.args.mux1} c.loop-i-test.true c.requires (search rules) (search rules)) c.if-values-even.true), search rules)
+returns-then-values-even c = (omega (arith, c.loop-i.invariant.1, turns-first (within {ys = c.args.mux1} c.loop-i-test.true c.requires (search rules) (search rules)) c.if-values-even.true), search rules)
 
 -- the values end within {ys = c.args.mux1} c.loop-i-test.true c.requires (search rules) (search rules)he turn
 pub returns-then-next-values : goal.returns-then-next-values
-returns-then-next-values c = let first = c in
-    let t = first in
-    (omega (arith, t.loop-i.invariant.1, turns_alone (within {ys = c.args.mux1} c.loop-i-test.true c.requires (search rules) (search rules)) first.if-values-even.false c.if-next-values.true), search rules)
+returns-then-next-values c = (omega (arith, c.loop-i.invariant.1, turns_alone (within {ys = c.args.mux1} c.loop-i-test.true c.requires (search rules) (search rules)) c.if-values-even.false c.if-next-values.true), search rules)
 
 pub returns-then-values-next : goal.returns-then-values-next
-returns-then-values-next c = let both = c in
-    let first = both in
-    let t = first in
-    (omega (arith, t.loop-i.invariant.1, turns-second (within {ys = c.args.mux1} c.loop-i-test.true c.requires (search rules) (search rules)) both.if-next-values.false first.if-values-even.false c.if-values-next.true), search rules)
+returns-then-values-next c = (omega (arith, c.loop-i.invariant.1, turns-second (within {ys = c.args.mux1} c.loop-i-test.true c.requires (search rules) (search rules)) c.if-next-values.false c.if-values-even.false c.if-values-next.true), search rules)
 
 pub loop-i-preserved : goal.loop-i-preserved
-loop-i-preserved c = let both = c in
-    let first = both in
-    let t = first in
-    let next = turns_next (within {ys = c.args.mux1} c.loop-i-test.true c.requires (search rules) (search rules)) both.if-next-values.false first.if-values-even.false c.if-values-next.false in
-    (omega (arith, both.if-next-values.false), omega (arith, t.loop-i.invariant.1, next))
+loop-i-preserved c = let next = turns_next (within {ys = c.args.mux1} c.loop-i-test.true c.requires (search rules) (search rules)) c.if-next-values.false c.if-values-even.false c.if-values-next.false in
+    (omega (arith, c.if-next-values.false), omega (arith, c.loop-i.invariant.1, next))
 
 -- the values end after a turn
 pub returns : goal.returns

@@ -14,14 +14,12 @@ pub loop-i-init : goal.loop-i-init
 loop-i-init c = (search rules, differs-start _ _)
 
 pub returns-then-values-i : goal.returns-then-values-i
-returns-then-values-i c = let t = c in
-    let p = t.args in
-    (omega (arith, t.loop-i.invariant.1, differs-here p.values.now p.held t.loop-i.i t.loop-i-test.true (within c.loop-i.i (length c.args.values.now) (length c.args.held) c.loop-i-test.true c.requires (search rules)) c.if-values-i.true), search rules)
+returns-then-values-i c = let p = c.args in
+    (omega (arith, c.loop-i.invariant.1, differs-here p.values.now p.held c.loop-i.i c.loop-i-test.true (within c.loop-i.i (length c.args.values.now) (length c.args.held) c.loop-i-test.true c.requires (search rules)) c.if-values-i.true), search rules)
 
 pub loop-i-preserved : goal.loop-i-preserved
-loop-i-preserved c = let t = c in
-    let p = t.args in
-    (search rules, omega (arith, t.loop-i.invariant.1, differs_next p.values.now p.held t.loop-i.i t.loop-i-test.true (within c.loop-i.i (length c.args.values.now) (length c.args.held) c.loop-i-test.true c.requires (search rules)) c.if-values-i.false))
+loop-i-preserved c = let p = c.args in
+    (search rules, omega (arith, c.loop-i.invariant.1, differs_next p.values.now p.held c.loop-i.i c.loop-i-test.true (within c.loop-i.i (length c.args.values.now) (length c.args.held) c.loop-i-test.true c.requires (search rules)) c.if-values-i.false))
 
 pub returns : goal.returns
 returns c = let l = c.loop-i in

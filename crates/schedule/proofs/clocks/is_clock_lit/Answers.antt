@@ -39,14 +39,17 @@ returns-then-clock-clocks c = let a = c.args in
     dark-last (part_of a.part) a.value a.output a.clock (omega (arith, ap (λ (k : Constants). k.clocks - k.edge) e, c.if-clock-clocks.true))
 
 pub overflow_sub-result : goal.overflow_sub-result
-overflow_sub-result c = let s = c in
-    let a = s.args in
-    subst (λ (k : Constants). a.value ≤ k.clocks) (sym s.constants_of-constants.ensures) (omega (arith, s.requires, (usable a.part).clocks))
+overflow_sub-result c = let a = c.args in
+    subst (λ (k : Constants). a.value ≤ k.clocks) (sym c.constants_of-constants.ensures) (omega (arith, c.requires, (usable a.part).clocks))
 
 pub returns-then-is_output_even : goal.returns-then-is_output_even
-returns-then-is_output_even c = by_value c.args.part c.args.value c.args.output c.args.clock c.constants_of-constants.result true c.is_output_even.result c.constants_of-constants.ensures c.is_output_even.ensures c.if-is_output_even.true c.if-clock-edge.false c.if-clock-clocks.false
+returns-then-is_output_even c =
+    let a = c.args in
+    let e = c.constants_of-constants.ensures in
+    by_value a.part a.value a.output a.clock _ true _ e c.is_output_even.ensures c.if-is_output_even.true c.if-clock-edge.false c.if-clock-clocks.false
 
 pub returns-else-is_output_even : goal.returns-else-is_output_even
 returns-else-is_output_even c = let a = c.args in
     let e = c.constants_of-constants.ensures in
-    ap (λ (k : Constants). leb (k.clocks - a.value) a.clock) e ∙ by_value a.part a.value a.output a.clock c.constants_of-constants.result false c.is_output_even.result e c.is_output_even.ensures c.if-is_output_even.false c.if-clock-edge.false c.if-clock-clocks.false
+    ap (λ (k : Constants). leb (k.clocks - a.value) a.clock) e
+    ∙ by_value a.part a.value a.output a.clock _ false _ e c.is_output_even.ensures c.if-is_output_even.false c.if-clock-edge.false c.if-clock-clocks.false

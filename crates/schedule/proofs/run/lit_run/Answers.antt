@@ -37,8 +37,10 @@ returns-then-not-is_subframe_on c = let a = c.args in
 
 pub returns-then-from-to : goal.returns-then-from-to
 returns-then-from-to c = let a = c.args in
-    by-ends a.part a.configuration a.global a.value a.output a.subframe c.lit_from-from.result c.lit_to-to.result c.is_subframe_on.result false c.is_subframe_on.ensures c.if-not-is_subframe_on.false c.lit_from-from.ensures c.lit_to-to.ensures (le-ltb _ _ c.if-from-to.true)
+    by-ends a.part a.configuration a.global a.value a.output a.subframe c.lit_from-from.result c.lit_to-to.result _ false
+    c.is_subframe_on.ensures c.if-not-is_subframe_on.false c.lit_from-from.ensures c.lit_to-to.ensures (le-ltb _ _ c.if-from-to.true)
 
 pub returns : goal.returns
 returns c = let a = c.args in
-    by-ends a.part a.configuration a.global a.value a.output a.subframe c.lit_from-from.result c.lit_to-to.result c.is_subframe_on.result true c.is_subframe_on.ensures c.if-not-is_subframe_on.false c.lit_from-from.ensures c.lit_to-to.ensures (lt-ltb _ _ c.if-from-to.false)
+    by-ends a.part a.configuration a.global a.value a.output a.subframe c.lit_from-from.result c.lit_to-to.result _ true
+    c.is_subframe_on.ensures c.if-not-is_subframe_on.false c.lit_from-from.ensures c.lit_to-to.ensures (lt-ltb _ _ c.if-from-to.false)

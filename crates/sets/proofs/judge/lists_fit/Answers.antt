@@ -14,9 +14,7 @@ is_product-requires-then-is_product c = let a = c.args.given in
     rw c.slice_fields-fields.ensures (fields-some (part_of a.part) (usable a.part) Individual (multiplex a.configuration))
 
 pub returns-then-is_product : goal.returns-then-is_product
-returns-then-is_product c = let first = c in
-    rw (c.is_product-then-is_product.ensures, first.slice_fields-fields.ensures, rw first.slice_fields-banks.ensures at (sym first.is_product.ensures ∙ c.if-is_product.true))
+returns-then-is_product c = rw (c.is_product-then-is_product.ensures, c.slice_fields-fields.ensures, rw c.slice_fields-banks.ensures at (sym c.is_product.ensures ∙ c.if-is_product.true))
 
 pub returns-else-is_product : goal.returns-else-is_product
-returns-else-is_product c = let first = c in
-    rw (c.if-is_product.false, rw first.slice_fields-banks.ensures at (sym first.is_product.ensures ∙ c.if-is_product.false))
+returns-else-is_product c = rw (c.if-is_product.false, rw c.slice_fields-banks.ensures at (sym c.is_product.ensures ∙ c.if-is_product.false))

@@ -14,7 +14,6 @@ use Rattle.schedule.specs.Light.{total}
 use Rattle.model.specs.Set.{Set, Own, owned}
 use Rattle.model.proofs.Set.{length-owned}
 use Rattle.current.specs.Current.{drawn, drawn_in_clock, figure, sum, totals_of, device_totals, device_figures, sign_total}
-use Rattle.current.specs.Answers.{current}
 use Rattle.current.specs.declared.sign.Current.{Current}
 use Rattle.current.proofs.EachClock.{each-clock}
 use Rattle.claims.specs.Claims as claim

@@ -31,7 +31,7 @@ use Rattle.turns.specs.declared.turning.Turn.{Turn}
 use Rattle.intake.specs.Intake.{settled_by}
 use Rattle.intake.specs.declared.taken.Progress.{Progress}
 use Rattle.turns.specs.Watching.{is_on, cleared_if, cleared_device, reached, heard_to, late_by, overheard, onward, hearing, watched_turn, watched_by}
-use Rattle.turns.specs.Ending.{by_clock_device, shown_if}
+use Rattle.turns.specs.Ending.{by_clock_device, shown_with, shown_if}
 use Rattle.turns.specs.Front.{is_lost, front_after, leave_cursor, leaving, passed_to}
 use Rattle.cursor.specs.declared.cursor.Cursor.{Cursor}
 use Rattle.cursor.proofs.Cases.{NoHeader, not_last}
@@ -130,11 +130,17 @@ counted_with d n w =
     let v : Watch = d.registers.watch in
     record { registers = with_watch (placed_at d.registers n) (with_lines v (line w.din.still v.din.level) (line w.loadi.still v.loadi.level)); place = d.place }
 
+-- a record brought up to a clock: what is shown by then, the counts, and no value where its watchdog has expired
+pub brought-is : (t : ℕ) (d : Device) {on x : Bool} {w : Watch} → on ≡ is_on d.registers → w ≡ watch_by on t d.registers.watch → x ≡ expired_by on t d.registers.watch
+    → cleared_device x (shown_with d w t) ≡ by_clock_device t d
+unfolding watched_by
+brought-is t d {on} {x} {w} eo ew ex = rw (ew, ex, eo)
+
 -- a record brought up to a clock: its position, the counts, what is shown by then, and no value where its watchdog has expired
-pub brought-is : (t : ℕ) (d : Device) {on x ended : Bool} {w : Watch} {n : ℕ} → on ≡ is_on d.registers → w ≡ watch_by on t d.registers.watch → x ≡ expired_by on t d.registers.watch
+pub brought-counted : (t : ℕ) (d : Device) {on x ended : Bool} {w : Watch} {n : ℕ} → on ≡ is_on d.registers → w ≡ watch_by on t d.registers.watch → x ≡ expired_by on t d.registers.watch
     → n ≡ position_by t d.registers → ended ≡ has_ended t d.registers → record { registers = shown_if ended x (counted_with d n w).registers; place = d.place } ≡ by_clock_device t d
 unfolding watched_by by_clock
-brought-is t d {on} {x} {ended} {w} {n} eo ew ex en ee = go ended ee
+brought-counted t d {on} {x} {ended} {w} {n} eo ew ex en ee = go ended ee
   where
     go : (b : Bool) → b ≡ has_ended t d.registers → record { registers = shown_if b x (counted_with d n w).registers; place = d.place } ≡ by_clock_device t d
     go true e = rw (ew, ex, eo, en, sym e)

@@ -10,6 +10,7 @@ pub mod Cases
 pub mod LowStates
 pub mod Phases
 pub mod Taking
+pub mod AfterHeader
 pub mod Stores
 pub mod Passing
 pub mod Onward

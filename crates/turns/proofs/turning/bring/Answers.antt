@@ -2,7 +2,7 @@
 use mathlib.Core.Path.{ap, sym, ◌∙◌}
 use mathlib.Core.Bool.{false}
 use Rattle.registers.specs.declared.registers.Registers.{Registers}
-use Rattle.turns.proofs.Cases.{brought-is}
+use Rattle.turns.proofs.Cases.{brought-counted}
 use Rattle.turns.proofs.turning.bring.Goals as goal
 
 pub returns-then-ended : goal.returns-then-ended
@@ -13,7 +13,7 @@ returns-then-ended c = let e = c in
     let o = b in
     let a = o.args in
     ap (λ (q : Registers). record { registers = q; place = a.device.place }) c.shown-registers.ensures
-    ∙ brought-is a.clock a.device o.is_on-on.ensures b.bring-watch.ensures x.has_expired-expired.ensures p.position_by-position.ensures e.has_ended-ended.ensures
+    ∙ brought-counted a.clock a.device o.is_on-on.ensures b.bring-watch.ensures x.has_expired-expired.ensures p.position_by-position.ensures e.has_ended-ended.ensures
 
 pub returns : goal.returns
 returns c = let e = c in
@@ -22,5 +22,5 @@ returns c = let e = c in
     let b = x in
     let o = b in
     let a = o.args in
-    brought-is a.clock a.device {x = false} {ended = false} o.is_on-on.ensures b.bring-watch.ensures (sym c.if-expired.false ∙ x.has_expired-expired.ensures) p.position_by-position.ensures
+    brought-counted a.clock a.device {x = false} {ended = false} o.is_on-on.ensures b.bring-watch.ensures (sym c.if-expired.false ∙ x.has_expired-expired.ensures) p.position_by-position.ensures
     (sym c.if-ended.false ∙ e.has_ended-ended.ensures)

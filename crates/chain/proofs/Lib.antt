@@ -1,5 +1,4 @@
--- What the walks over a lent chain share: the laws of a loop over a span of records (Sweep), the walk of that loop (Loop), and of what stands
--- around it (Around).
+-- What the loops over a lent chain share: the laws of a loop over a span of records (Sweep); and where a run stands in its
+-- loop (Standing).
 pub mod Sweep
-pub mod Loop
-pub mod Around
+pub mod Standing

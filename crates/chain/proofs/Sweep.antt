@@ -1,13 +1,14 @@
 -- A loop that replaces element after element of a list by what a function makes of it. After k turns from place `from` on the list is
 -- `sweep f from k`. A loop over a span that is empty where the call is refused leaves what calls/specs/Calls says: by cases of the refusal.
 use mathlib.Core.Path.{◌≡◌, refl, ap, sym, ◌∙◌}
-use mathlib.Core.Bool.{Bool, true, false, not, ◌&&◌, cond}
+use mathlib.Core.Bool.{Bool, true, false, ◌&&◌, cond}
 use mathlib.Core.List.{List, [], ◌∷◌, ◌++◌, map}
-use Prim.Native.Nat.{ℕ, zero, suc, ◌+◌, ◌-◌, ◌≤◌}
+use Prim.Native.Nat.{ℕ, zero, suc, ◌+◌, ◌-◌, ◌≤◌, ◌<◌}
 use native.Mathlib.Omega.{arith}
 use lib.Dec.{eqb, ltb, leb}
 use lib.ListN.{length, get_or, set, replicate, length-set, length-map}
 use lib.Seq.{set_at, get_or_at}
+use Rattle.std.proofs.lemmas.List.{get_or_default}
 use borrow.Author.Tests.{leb-true, eqb-true, not-false}
 use Rattle.bits.specs.Bits.{digit}
 use Rattle.tables.specs.Refusals.{first, content}
@@ -214,3 +215,43 @@ at_next from k = omega arith
 
 pub at_first : (from : ℕ) → from ≡ from + 0
 at_first from = omega arith
+
+-- ---- the loop of a call, at place i of a span: the records before it are changed
+
+pub record Sweeping (f : Device → Device) (s : Span) (xs ys : List Device) (i : ℕ) : Type 0 where
+  pub order : s.from ≤ i
+  pub far : i ≤ s.to
+  pub so_far : ys ≡ sweep f s.from (i - s.from) xs
+
+pub sweep-begins : (f : Device → Device) (s : Span) (xs : List Device) → Within s (length xs) → Sweeping f s xs xs s.from
+sweep-begins f s xs w =
+    let e : s.from - s.from ≡ 0 = omega arith in
+    record { order = omega arith; far = w.order; so_far = sym (ap (λ (k : ℕ). sweep f s.from k xs) e ∙ sweep-none f s.from xs) }
+
+-- the place is one of the list's
+pub sweep-place : (f : Device → Device) (s : Span) (xs ys : List Device) (i : ℕ) → Within s (length xs) → Sweeping f s xs ys i → i < s.to → i < length ys
+sweep-place f s xs ys i w g h = omega (arith, w.far, ap (length {A = Device}) g.so_far ∙ length-sweep f s.from (i - s.from) xs)
+
+pub sweep-goes : (f : Device → Device) (s : Span) (xs ys : List Device) (i : ℕ) (r e : Device) → Within s (length xs) → Sweeping f s xs ys i
+    → i < s.to → r ≡ f (get_or ys i e) → Sweeping f s xs (set ys i r) (i + 1)
+sweep-goes f s xs ys i r e w g h q =
+    let k : ℕ = i - s.from in
+    let at : s.from + k ≡ i = omega (arith, g.order) in
+    let next : i + 1 - s.from ≡ suc k = omega (arith, g.order) in
+    let made : r ≡ f (get_or ys i blank) = q ∙ ap f (get_or_default ys i e blank (sweep-place f s xs ys i w g h)) in
+    record {
+      order = omega (arith, g.order);
+      far = omega (arith, h);
+      so_far =
+          ap (set ys i) made
+          ∙ ap (λ (j : ℕ). set ys j (f (get_or ys j blank))) (sym at)
+          ∙ ap (λ (zs : List Device). set zs (s.from + k) (f (get_or zs (s.from + k) blank))) g.so_far
+          ∙ sweep-next f s.from k xs
+          ∙ ap (λ (j : ℕ). sweep f s.from j xs) (sym next);
+    }
+
+pub sweep-ends : (f : Device → Device) (s : Span) (xs ys : List Device) (i : ℕ) (last : List Device) → Sweeping f s xs ys i → s.to ≤ i
+    → sweep f s.from (turns_of s) xs ≡ last → ys ≡ last
+sweep-ends f s xs ys i last g h e =
+    let all : i - s.from ≡ turns_of s = omega (arith, g.far, h) in
+    g.so_far ∙ ap (λ (k : ℕ). sweep f s.from k xs) all ∙ e

@@ -1,5 +1,7 @@
 // The three calls on a lent chain of device records, changed in place, for C and Rust. Each function here walks the records; what it does
 // with one of them is by value, in the crates device, judgement, changes and turns.
+#![tactic(auto)]
+
 ghost use Rattle.std.specs.Prelude.{◌≡◌, not, map, eqb, length};
 ghost use Rattle.calls.specs.Calls.{fresh_refusal, fresh_after, run_after, run_room, fault_refusal, fault_after};
 ghost use Rattle.cursor.specs.Answer.{run_answer};

@@ -56,8 +56,8 @@ pub record OwnInLists (s : Search) (bytes values : ℕ) : Type 0 where
   pub values_in : s.values + s.fields ≤ values
 
 -- what of the set is the next device's own
-abbrev pub field_own : Search → List ℕ → List ℕ → Own
-field_own s bytes values =
+abbrev pub own_at : Search → List ℕ → List ℕ → Own
+own_at s bytes values =
     own_of s.configuration (take s.banks (drop s.bytes bytes)) s.global (take s.fields (drop s.values values))
 
 -- a device is the same: on to the next
@@ -98,4 +98,4 @@ followed s a = cond (eqb a.group 0) (onward s a) (ended s a)
 
 -- one device more
 unfoldable pub looked_at : Search → List ℕ → List ℕ → Device → Search
-looked_at s bytes values d = followed s (in_groups (s.index + 1) 1 (groups (field_own s bytes values) d) same)
+looked_at s bytes values d = followed s (in_groups (s.index + 1) 1 (groups (own_at s bytes values) d) same)

@@ -1,4 +1,4 @@
--- The current that is answered is the sum over the schedule: what each device draws, clock after clock, by current/proofs/Each_clock. Assumes nothing.
+-- The current that is answered is the sum over the schedule: what each device draws, clock after clock, by current/proofs/EachClock. Assumes nothing.
 use mathlib.Core.Path.{◌≡◌, refl, sym, ap, ap₂, ◌∙◌}
 use mathlib.Core.List.{List, [], ◌∷◌, map, flatten}
 use Prim.Native.Nat.{ℕ, ◌+◌, ◌*◌, ◌/◌, ◌%◌}

@@ -1,6 +1,6 @@
 -- What it is to answer by a table of refusals: the number that an answer carries, 0 where it is none, is given exactly under the table's
 -- conditions; and what then stands in the answer and in a lent list. Then that number for each kind of answer; of the
--- return reader it is capi_frames/specs/Frame_answers: return_read_number.
+-- return reader it is capi_frames/specs/FrameAnswers: return_read_number.
 use Rattle.std.specs.Prelude.{ℕ, ◌≡◌, List}
 use Rattle.tables.specs.Refusals.{Row, Applies, Lowest}
 use Rattle.serial.specs.declared.states.Converted.{Converted}

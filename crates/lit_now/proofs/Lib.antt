@@ -1,2 +1,2 @@
--- The call's answer as the code comes to it is the one that specs/Lit_now says, and it is the schedule's.
+-- The call's answer as the code comes to it is the one that specs/LitNow says, and it is the schedule's.
 pub mod Answered

@@ -1,5 +1,5 @@
 -- Is an output of one device of a lent chain lit now, and in which phase: the answer for any records. It is the light of the schedule
--- (device_light/specs/Of_device) at the moment at which the device's position stands (schedule/specs/Moments).
+-- (device_light/specs/OfDevice) at the moment at which the device's position stands (schedule/specs/Moments).
 use Rattle.std.specs.Prelude.{ℕ, ◌-◌, Bool, not, ◌&&◌, List, [], ◌∷◌, ◌++◌, leb, ltb, length, get_or}
 use Rattle.tables.specs.Refusals.{Row, ◌when◌, first, answer}
 use Rattle.bits.specs.Bits.{digit}

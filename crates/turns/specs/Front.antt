@@ -1,6 +1,6 @@
 -- Inside: line states through a lent chain by its front, the first device that is not passing: only that device can change, but for its
 -- position. What one turn does, and turn after turn, until the states are over; what follows then is in Ending. These definitions are what the
--- functions inside a run answer; that the whole is the run clock by clock of calls/specs/Chain is in proofs/Same and proofs/By_clock.
+-- functions inside a run answer; that the whole is the run clock by clock of calls/specs/Chain is in proofs/Same and proofs/ByClock.
 use Rattle.std.specs.Prelude.{ℕ, zero, suc, ◌+◌, ◌*◌, ◌%◌, Bool, true, false, ◌&&◌, ◌||◌, cond, List, [], ◌∷◌, eqb, ltb, leb, length, get_or, set, take, drop}
 use Rattle.parts.specs.Wire.{header, states_of}
 use Rattle.parts.specs.declared.command.Command.{Command}

@@ -1,7 +1,7 @@
 -- Inside: the watchdog of the device of a turn. What is under way to it reaches it first, in the clock in which it was sent; then come its own
 -- states, one to a clock. A device that stores, or that passes, then hears all the high states that follow, which it will pass: so it needs no
 -- look before a header reaches it again, or the end. While its bit is set it goes by an ear, which the run keeps from device to device. That the
--- whole is the run clock by clock is in proofs/By_clock and proofs/Same.
+-- whole is the run clock by clock is in proofs/ByClock and proofs/Same.
 use Rattle.std.specs.Prelude.{ℕ, ◌-◌, ◌%◌, Bool, false, ◌||◌, cond, List, [], ◌∷◌, get_or, take, drop}
 use Rattle.watch.specs.Watch.{enabled}
 use Rattle.watch.specs.Kept.{watch_by, expired_by, watch_in, moved_in, listened}

@@ -1,5 +1,5 @@
 -- Inside: a watchdog over a block of 64 states, one in each clock, the bit being set: what the block leaves of its lines, and whether a count may
--- come to the limit in it. That this is what it hears clock by clock is in proofs/By_block.
+-- come to the limit in it. That this is what it hears clock by clock is in proofs/ByBlock.
 use Rattle.std.specs.Prelude.{ℕ, ◌+◌, Bool, true, false, cond, ◌||◌, List, map, take, drop, ◌==◌, slice_index}
 use Rattle.watch.specs.declared.watch.Line.{Line}
 use Rattle.watch.specs.declared.watch.Watch.{Watch}

@@ -5,9 +5,9 @@ use Rattle.vectors_chain.proofs.lists.copy.Given as goal
 abbrev pub invariant-loop-i : goal.invariant-loop-i
 invariant-loop-i l =
     record {
-        in_from : l.end ≤ length l.from;
-        in_to : l.end ≤ length l.initial.to;
-        size : length l.to ≡ length l.initial.to
+      in_from : l.end ≤ length l.from;
+      in_to : l.end ≤ length l.initial.to;
+      size : length l.to ≡ length l.initial.to;
     }
 
 abbrev pub decreases-loop-i : goal.decreases-loop-i

@@ -1,6 +1,6 @@
 -- Laws of decimal texts: a text read digit by digit from the front, and the number held to 65,535 on the way. Assumes nothing.
-use mathlib.Core.Path.{◌≡◌, sym, ap, ap₂, ◌∙◌}
-use mathlib.Core.Bool.{true, false, ◌&&◌}
+use mathlib.Core.Path.{◌≡◌, refl, sym, ap, ap₂, ◌∙◌}
+use mathlib.Core.Bool.{Bool, true, false, ◌&&◌}
 use mathlib.Core.List.{List, [], ◌∷◌, ◌++◌}
 use Prim.Native.Nat.{ℕ, suc, ◌+◌, ◌-◌, ◌*◌, ◌^◌, ◌≤◌, ◌<◌, min}
 use native.Mathlib.Nat.{mul_assoc, add-mul, add_assoc, pow-suc}
@@ -8,7 +8,8 @@ use native.Mathlib.Numerals.{add-one}
 use native.Mathlib.Omega.{arith}
 use lib.ListN.{length, get_or, take, drop, length-append}
 use lib.Seq.{take-suc, drop-cons}
-use borrow.Author.Tests.{ne_eqb, eq-eqb, le-leb, lt-leb, le-ltb, lt-ltb}
+use borrow.Author.Tests.{ne_eqb, eq-eqb, le-leb, lt-leb, le-ltb, lt-ltb, ltb-true, ltb-false}
+use lib.Dec.{ltb}
 use Rattle.arguments.specs.Arguments.{is_digit, digits_only, numeral, parsed, value_of, is_part, count_accepted, judged}
 use Rattle.arguments.specs.declared.decimal.Parsed.{Parsed}
 use Rattle.arguments.specs.declared.decimal.Parsed.TheVariants as P
@@ -53,6 +54,13 @@ digit_low b h = rw (lt-leb 48 b h)
 pub digit-high : (b : ℕ) → 57 < b → is_digit b ≡ false
 digit-high b h = rw (le-leb 48 b (omega arith), lt-leb b 57 h)
 
+-- below the first or above the last
+pub digit-no : (b : ℕ) → (48 ≤ b → 57 < b) → is_digit b ≡ false
+digit-no b h = at (ltb b 48) refl where
+  at : (t : Bool) → ltb b 48 ≡ t → is_digit b ≡ false
+  at true e = digit_low b (ltb-true b 48 e)
+  at false e = digit-high b (h (ltb-false b 48 e))
+
 pub digit-yes : (b : ℕ) → 48 ≤ b → b ≤ 57 → is_digit b ≡ true
 digit-yes b h g = rw (le-leb 48 b h, le-leb b 57 g)
 
@@ -88,6 +96,13 @@ count_low n h = rw (le-ltb 0 n (omega arith))
 
 pub count-high : (n : ℕ) → 512 < n → count_accepted (P.Value n) ≡ false
 count-high n h = rw (lt-ltb 0 n (omega arith), le-ltb n 513 (omega arith))
+
+-- 0, or above the most
+pub count_no : (n : ℕ) → (0 < n → 512 < n) → count_accepted (P.Value n) ≡ false
+count_no n h = at (ltb 0 n) refl where
+  at : (t : Bool) → ltb 0 n ≡ t → count_accepted (P.Value n) ≡ false
+  at true e = count-high n (h (ltb-true 0 n e))
+  at false e = count_low n (omega (arith, ltb-false 0 n e))
 
 pub count_yes : (n : ℕ) → (n ≡ 0 → ⊥) → n ≤ 512 → count_accepted (P.Value n) ≡ true
 count_yes n h g = rw (lt-ltb 0 n (omega arith), lt-ltb n 513 (omega arith))

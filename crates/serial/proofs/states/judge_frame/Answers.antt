@@ -11,10 +11,6 @@ returns-then-long-bytes_for c = yes 4 _ (differs refl c.bytes_for.ensures c.if-l
 pub returns-then-room-bits : goal.returns-then-room-bits
 returns-then-room-bits c = no 4 (agrees refl c.bytes_for.ensures c.if-long-bytes_for.false) (yes 5 _ (lt-ltb _ _ c.if-room-bits.true))
 
-pub returns-then-edge-gt-LATE : goal.returns-then-edge-gt-LATE
-returns-then-edge-gt-LATE c = no 4 (agrees refl c.bytes_for.ensures c.if-long-bytes_for.false)
-    (no 5 (le-ltb _ _ c.if-room-bits.false) (yes 13 _ (ap not (le-ltb _ _ c.if-edge-gt-LATE.true))))
-
 pub returns : goal.returns
 returns c = no 4 (agrees refl c.bytes_for.ensures c.if-long-bytes_for.false)
-    (no 5 (le-ltb _ _ c.if-room-bits.false) (no 13 (ap not (lt-ltb c.args.edge 3 (omega (arith, c.if-edge-gt-LATE.false)))) refl))
+    (no 5 (le-ltb _ _ c.if-room-bits.false) (no 13 (ap not (lt-ltb c.args.edge 3 (omega arith))) refl))

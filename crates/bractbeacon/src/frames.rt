@@ -32,7 +32,18 @@ pub extern "C" fn bb_write(
         ≡ written_out (told_by part devices command configuration) (tail_of tail long) byte bytes.now values.now
         out.old }
 {
-    capi_frames::bb_write(part, devices, command, configuration, tail, long, byte, bytes, values, out)
+    capi_frames::bb_write(
+        part,
+        devices,
+        command,
+        configuration,
+        tail,
+        long,
+        byte,
+        bytes,
+        values,
+        out,
+    )
 }
 
 // Reads a host frame.
@@ -59,7 +70,17 @@ pub extern "C" fn bb_read(
         ≡ read_values (told_by part devices command configuration) (tail_of tail long) frame.now (length bytes.old)
         values.old }
 {
-    capi_frames::bb_read(part, devices, command, configuration, tail, long, frame, bytes, values)
+    capi_frames::bb_read(
+        part,
+        devices,
+        command,
+        configuration,
+        tail,
+        long,
+        frame,
+        bytes,
+        values,
+    )
 }
 
 // Reads what came back.

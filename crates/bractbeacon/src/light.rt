@@ -6,8 +6,7 @@ ghost use Rattle.schedule.specs.Answers.{lit_answer, lit_clocks_answer};
 ghost use Rattle.device_light.specs.OfDevice.{device_answer, device_clocks_answer};
 
 use answers::Answer;
-use capi_light::Clocks;
-use capi_light::Signed;
+use capi_light::{Clocks, Signed};
 use device::Device;
 
 // Is a subframe ON?
@@ -40,7 +39,16 @@ pub extern "C" fn bb_lit(
 ) -> Answer
     ensures { result ≡ of_asked (lit_answer part configuration global value output subframe clock phase) }
 {
-    capi_light::bb_lit(part, configuration, global, value, output, subframe, clock, phase)
+    capi_light::bb_lit(
+        part,
+        configuration,
+        global,
+        value,
+        output,
+        subframe,
+        clock,
+        phase,
+    )
 }
 
 // The same of a device, by its active values.

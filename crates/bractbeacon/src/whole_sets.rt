@@ -22,7 +22,15 @@ pub extern "C" fn bb_compare(
 ) -> Compared
     ensures { result ≡ comparison (set_of part devices configuration calibration.now global individual.now) chain.now }
 {
-    compare::bb_compare(part, devices, configuration, calibration, global, individual, chain)
+    compare::bb_compare(
+        part,
+        devices,
+        configuration,
+        calibration,
+        global,
+        individual,
+        chain,
+    )
 }
 
 // What a set draws: answered for the sign, and in front of `figures` for each device its total, average and remainder. The set's part, number of
@@ -40,5 +48,13 @@ pub extern "C" fn bb_current(
     ensures value { result ≡ current (set_of part devices configuration calibration.now global individual.now) (length figures.old) }
     ensures figures_after { figures.new ≡ current_out (set_of part devices configuration calibration.now global individual.now) figures.old }
 {
-    current::bb_current(part, devices, configuration, calibration, global, individual, figures)
+    current::bb_current(
+        part,
+        devices,
+        configuration,
+        calibration,
+        global,
+        individual,
+        figures,
+    )
 }

@@ -46,6 +46,14 @@ get_d-behind ys l i h =
     ap (λ (k : ℕ). get_or (ys ++ drop (length ys) l) k 0) (sym e) ∙ get_or-append-add ys (drop (length ys) l) n 0
     ∙ get_or-drop (length ys) l n 0 ∙ ap (λ (k : ℕ). get_or l k 0) e
 
+-- values of a slice over the front of a register: a place before n has its own, and a later one stays
+pub strided-front : (s l : List ℕ) (a k n i : ℕ) → i < n → get_or (over (strided s a k n) l) i 0 ≡ get_or s (a + k * i) 0
+strided-front s l a k n i h =
+    get_d_front (strided s a k n) l i (omega (arith, h, length-strided s a k n)) ∙ get_d-strided s a k n i h
+
+pub strided-behind : (s l : List ℕ) (a k n i : ℕ) → n ≤ i → get_or (over (strided s a k n) l) i 0 ≡ get_or l i 0
+strided-behind s l a k n i h = get_d-behind (strided s a k n) l i (omega (arith, h, length-strided s a k n))
+
 -- a loop that writes a list from the front has one value more of it
 pub agrees-next : (xs ys : List ℕ) (i v : ℕ) → i < length xs → ((j : ℕ) → j < i → get_or xs j 0 ≡ get_or ys j 0) → v ≡ get_or ys i 0
     → (j : ℕ) → j < i + 1 → get_or (set xs i v) j 0 ≡ get_or ys j 0

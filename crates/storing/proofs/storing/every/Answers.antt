@@ -1,6 +1,6 @@
 use native.Mathlib.Nat.{mul-le-mul_left, not-suc-le-zero}
 use mathlib.Core.Path.{refl, sym, ◌∙◌, ◌≡◌}
-use lib.ListN.{length, get_or, length-set}
+use lib.ListN.{length, length-set}
 use lib.Seq.{ext_get_or}
 use borrow.Author.Rules.{rules}
 use native.Mathlib.Omega.{arith}
@@ -8,9 +8,8 @@ use Prim.Native.Nat.{◌≤◌, ◌<◌}
 use Rattle.bits.specs.Bits.{over}
 use Rattle.bits.proofs.Laws.{length_over}
 use Rattle.storing.specs.Stored.{strided}
-use Rattle.storing.proofs.Lists.{length-strided, get_d-strided, get_d_front, get_d-behind, agrees-next}
+use Rattle.storing.proofs.Lists.{length-strided, strided-front, strided-behind, agrees-next}
 use Rattle.storing.proofs.storing.every.Goals as goal
-use Rattle.storing.proofs.storing.every.Goals.{then-i-outputs, else-i-outputs}
 
 pub loop-i-init : goal.loop-i-init
 loop-i-init c = (search rules, refl, λ j h. absurd (not-suc-le-zero h))
@@ -30,18 +29,10 @@ bounds-slice-at c = let h : c.loop-i.i ≤ 23 = omega arith in omega (arith, mul
 pub loop-i-preserved : goal.loop-i-preserved
 loop-i-preserved c = let a = c.args in
     let l = c.loop-i in
-    let i = l.i in
-    let ys = strided a.slice a.first a.stride a.outputs in
-    let n = length-strided a.slice a.first a.stride a.outputs in
-    let target = over ys a.held in
-    let short : l.i < length l.values = omega (arith, l.invariant.1) in
-    let chosen : c.if-i-outputs.value ≡ get_or target i 0 = elim c.if-i-outputs.branch [
-      | then-i-outputs w ↦ w.value-is ∙ sym (get_d_front ys a.held i (omega (arith, n, w.if-i-outputs.true)) ∙ get_d-strided a.slice a.first a.stride a.outputs i w.if-i-outputs.true)
-      | else-i-outputs w ↦ w.value-is ∙ sym (get_d-behind ys a.held i (omega (arith, n, w.if-i-outputs.false)))
-    ] in (
+    let short : l.i < length l.values = omega (arith, l.invariant.1) in (
       omega arith,
       simp length-set l.invariant.1,
-      agrees-next l.values target l.i _ short l.invariant.2 chosen,
+      agrees-next l.values (over (strided a.slice a.first a.stride a.outputs) a.held) l.i _ short l.invariant.2 (grind (arith, strided-front, strided-behind)),
     )
 
 pub returns : goal.returns

@@ -3,7 +3,8 @@
 use mathlib.Core.Path.{◌≡◌, refl, sym}
 use mathlib.Core.Bool.{true, false}
 use mathlib.Core.List.{List, ◌∷◌}
-use Prim.Native.Nat.{ℕ, suc, ◌+◌, ◌%◌, ◌<◌, ◌≤◌}
+use Prim.Native.Nat.{ℕ, zero, suc, ◌+◌, ◌-◌, ◌%◌, ◌<◌, ◌≤◌}
+use native.Mathlib.Omega.{arith}
 use native.Mathlib.Nat.{add_assoc}
 use native.Mathlib.Numerals.{add-one}
 use lib.ListN.{length, get_or, drop, drop_of_length-le}
@@ -52,6 +53,9 @@ pub highs-on : (ss : List ℕ) (i k : ℕ) → i < length ss → 2 ≤ get_or ss
 unfolding highs_end
 highs-on ss i k h l = rw (drop-on ss i h, le-ltb (get_or ss i 0) 2 l) refl
 
+-- the three, for the code that looks for the end
+pub ruleset highs_clauses = (highs-end, highs-low, highs-on)
+
 -- m states behind i, a high one moves the end on
 pub highs-further : (ss : List ℕ) (i m : ℕ) → i + m < length ss → 2 ≤ get_or ss (i + m) 0
     → highs_end (drop (i + m) ss) (i + m) ≡ highs_end (drop (i + (m + 1)) ss) (i + (m + 1))
@@ -79,6 +83,24 @@ pub filled_on : (v b : ℕ) (ss : List ℕ) (i : ℕ) → i < length ss → 2 �
     → filled v (suc b) (drop i ss) i ≡ filled (pushed v (get_or ss i 0 % 2) 65536) b (drop (i + 1) ss) (i + 1)
 unfolding filled
 filled_on v b ss i h l = rw (drop-on ss i h, le-ltb (get_or ss i 0) 2 l) refl
+
+-- the same, by how many bits it may take
+pub filled_over : (v n : ℕ) (ss : List ℕ) (i : ℕ) → n ≡ 0 → filled v n (drop i ss) i ≡ record { value = v; at = i }
+filled_over v n ss i e = rw e (filled_none v ss i)
+
+pub filled_low : (v n : ℕ) (ss : List ℕ) (i : ℕ) → 0 < n → i < length ss → get_or ss i 0 < 2 → filled v n (drop i ss) i ≡ record { value = v; at = i }
+filled_low v zero ss i p h l = absurd (omega arith)
+filled_low v (suc b) ss i p h l = filled-low v b ss i h l
+
+pub filled_next : (v n : ℕ) (ss : List ℕ) (i : ℕ) → 0 < n → i < length ss → 2 ≤ get_or ss i 0
+    → filled v n (drop i ss) i ≡ filled (pushed v (get_or ss i 0 % 2) 65536) (n - 1) (drop (i + 1) ss) (i + 1)
+filled_next v zero ss i p h l = absurd (omega arith)
+filled_next v (suc b) ss i p h l =
+    let e : suc b - 1 ≡ b = omega arith in
+    rw e (filled_on v b ss i h l)
+
+-- the three, for the code that goes state by state
+pub ruleset filled_clauses = (filled_over, filled_low, filled_next)
 
 -- ---- high states of a device
 

@@ -62,6 +62,9 @@ pub high-low-at : (d : Device) (ss : List ℕ) (i : ℕ) → i < length ss → g
 high-low-at d ss i h l =
     ap (λ (rest : List ℕ). high_taken d rest i) (drop-on ss i h) ∙ high-low d (get_or ss i 0) (drop (i + 1) ss) i (lt-ltb (get_or ss i 0) 2 l)
 
+-- it, for the code that stops at a low state
+pub ruleset low_clauses = high-low-at
+
 pub high-cons : (d : Device) (s : ℕ) (rest : List ℕ) (i : ℕ) → ltb s 2 ≡ false → high_taken d (s ∷ rest) i ≡ after (step_in (i + 1) d s) rest i
 unfolding high_taken
 high-cons d s rest i e = ap (λ (t : Bool). cond t (stopped d i Nothing) (after (step_in (i + 1) d s) rest i)) e

@@ -32,6 +32,7 @@ pub fn fill(value: u16, states: &[u8], from: usize, end: usize) -> Filled
 }
 
 // One by one.
+#[tactic(auto, using(crate::proofs::Clauses::filled_clauses))]
 fn fill_each(value: u16, states: &[u8], from: usize, end: usize) -> Filled
     requires { (from ≤ end) × (end ≤ length states.now) }
     ensures { result ≡ filled value (end - from) (drop from states.now) from }

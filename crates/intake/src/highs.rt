@@ -149,6 +149,7 @@ fn block_high(states: &[u8], from: usize, size: usize) -> bool
 }
 
 // The place of the first low state, or the end.
+#[tactic(auto, using(crate::proofs::Clauses::highs_clauses))]
 fn low_or_end(states: &[u8], from: usize) -> usize
     ensures { result ≡ highs_end (drop from states.now) from }
 {

@@ -28,6 +28,7 @@ pub fn take_slice(
 }
 
 // A device within a slice takes high states, field by field.
+#[tactic(auto, using(crate::proofs::Phases::low_clauses))]
 pub fn gather(
     registers: Registers,
     command: Command,

@@ -8,7 +8,6 @@ use Rattle.intake.proofs.Slices.{goes_on, FieldTaken, field_taken, slot-width, s
 use Rattle.intake.proofs.Clauses.{high_end}
 use Rattle.intake.proofs.Settled.{full-progress}
 use native.Mathlib.Omega.{arith}
-use Rattle.intake.proofs.Phases.{high-low-at}
 use Rattle.parts.proofs.Laws.{usable}
 use Rattle.parts.proofs.Rows.{field-width-pos}
 use native.Mathlib.Nat.{mod-lt}
@@ -47,34 +46,16 @@ stepped r cm count ss sl t i k w m f u e5 =
     u.same
     ∙ ap (λ (k : ℕ). goes_on r cm count ss (set sl k (f.value % m)) (t + (f.at - i)) f.at) (sym e5)
 
-pub overflow_cast-t-then-states-i-lt2 : goal.overflow_cast-t-then-states-i-lt2
-overflow_cast-t-then-states-i-lt2 c = let o = c in
-    let a = o.args in
-    let v = o.loop-i.invariant in
-    omega (arith, v.3, slice-le a.registers a.command)
-
-pub returns-then-states-i-lt2 : goal.returns-then-states-i-lt2
-returns-then-states-i-lt2 c = let o = c in
-    let a = o.args in
-    let v = o.loop-i.invariant in
-    c.part_of.ensures ∙ sym (ap progress_of (v.7 ∙ high-low-at _ a.states.now o.loop-i.i c.loop-i-test.true c.if-states-i-lt2.true))
-
 pub overflow_sub-t : goal.overflow_sub-t
-overflow_sub-t c = let u = turn-of c.args.registers c.args.command c.args.count c.args.states.now c.loop-i.slice c.loop-i.t c.loop-i.i c.loop-i.k c.loop-i.lack _ _ _ c.fill-f.result c.loop-i.invariant.0 c.loop-i.invariant.1 c.loop-i.invariant.4 c.loop-i.invariant.3 c.loop-i.invariant.5 c.loop-i.invariant.6 c.loop-i-test.true c.if-states-i-lt2.false c.smaller.ensures c.fill-f.ensures in
+overflow_sub-t c = let u = turn-of c.args.registers c.args.command c.args.count c.args.states.now c.loop-i.slice c.loop-i.t c.loop-i.i c.loop-i.k c.loop-i.lack _ _ _ c.fill-f.result c.loop-i.invariant.0 c.loop-i.invariant.1 c.loop-i.invariant.4 c.loop-i.invariant.3 c.loop-i.invariant.5 c.loop-i.invariant.6 c.loop-i-test.true (omega arith) c.smaller.ensures c.fill-f.ensures in
     omega (arith, u.more)
 
 pub overflow_add-t : goal.overflow_add-t
 overflow_add-t c = let o = c in
     let a = o.args in
     let v = o.loop-i.invariant in
-    let u = turn-of c.args.registers c.args.command c.args.count c.args.states.now c.loop-i.slice c.loop-i.t c.loop-i.i c.loop-i.k c.loop-i.lack _ _ _ c.fill-f.result c.loop-i.invariant.0 c.loop-i.invariant.1 c.loop-i.invariant.4 c.loop-i.invariant.3 c.loop-i.invariant.5 c.loop-i.invariant.6 c.loop-i-test.true c.if-states-i-lt2.false c.smaller.ensures c.fill-f.ensures in
+    let u = turn-of c.args.registers c.args.command c.args.count c.args.states.now c.loop-i.slice c.loop-i.t c.loop-i.i c.loop-i.k c.loop-i.lack _ _ _ c.fill-f.result c.loop-i.invariant.0 c.loop-i.invariant.1 c.loop-i.invariant.4 c.loop-i.invariant.3 c.loop-i.invariant.5 c.loop-i.invariant.6 c.loop-i-test.true (omega arith) c.smaller.ensures c.fill-f.ensures in
     record { fits = omega (arith, u.near, v.3, slice-le a.registers a.command) }
-
-pub overflow_cast-t-2 : goal.overflow_cast-t-2
-overflow_cast-t-2 c = let o = c in
-    let a = o.args in
-    let v = o.loop-i.invariant in
-    omega (arith, v.3, slice-le a.registers a.command)
 
 pub returns : goal.returns
 returns c = let o = c in
@@ -97,6 +78,7 @@ loop-i-init c = (
   refl,
   refl,
   refl,
+  omega (arith, c.slice_bits-bits.ensures, slice-le c.args.registers c.args.command),
 )
 
 pub offset_bounds-slice-k : goal.offset_bounds-slice-k
@@ -143,14 +125,14 @@ returns-then-t-bits c = let o = c in
     let t = o.loop-i.t + (f.at - o.loop-i.i) in
     let l : slice_length a.registers a.command ≤ t = omega (arith, v.2, c.if-t-bits.true) in
     c.whole.ensures
-    ∙ sym (ap progress_of (v.7 ∙ stepped c.args.registers c.args.command c.args.count c.args.states.now c.loop-i.slice c.loop-i.t c.loop-i.i c.loop-i.k _ _ c.fill-f.result (turn-of c.args.registers c.args.command c.args.count c.args.states.now c.loop-i.slice c.loop-i.t c.loop-i.i c.loop-i.k c.loop-i.lack _ _ _ c.fill-f.result c.loop-i.invariant.0 c.loop-i.invariant.1 c.loop-i.invariant.4 c.loop-i.invariant.3 c.loop-i.invariant.5 c.loop-i.invariant.6 c.loop-i-test.true c.if-states-i-lt2.false c.smaller.ensures c.fill-f.ensures) c.loop-i.invariant.5 ∙ goes-full a.registers a.command a.count a.states.now sl t f.at l) ∙ full-progress a.registers sl a.command a.count f.at)
+    ∙ sym (ap progress_of (v.7 ∙ stepped c.args.registers c.args.command c.args.count c.args.states.now c.loop-i.slice c.loop-i.t c.loop-i.i c.loop-i.k _ _ c.fill-f.result (turn-of c.args.registers c.args.command c.args.count c.args.states.now c.loop-i.slice c.loop-i.t c.loop-i.i c.loop-i.k c.loop-i.lack _ _ _ c.fill-f.result c.loop-i.invariant.0 c.loop-i.invariant.1 c.loop-i.invariant.4 c.loop-i.invariant.3 c.loop-i.invariant.5 c.loop-i.invariant.6 c.loop-i-test.true (omega arith) c.smaller.ensures c.fill-f.ensures) c.loop-i.invariant.5 ∙ goes-full a.registers a.command a.count a.states.now sl t f.at l) ∙ full-progress a.registers sl a.command a.count f.at)
 
 pub overflow_sub-left : goal.overflow_sub-left
-overflow_sub-left c = let u = turn-of c.args.registers c.args.command c.args.count c.args.states.now c.loop-i.slice c.loop-i.t c.loop-i.i c.loop-i.k c.loop-i.lack _ _ _ c.fill-f.result c.loop-i.invariant.0 c.loop-i.invariant.1 c.loop-i.invariant.4 c.loop-i.invariant.3 c.loop-i.invariant.5 c.loop-i.invariant.6 c.loop-i-test.true c.if-states-i-lt2.false c.smaller.ensures c.fill-f.ensures in
+overflow_sub-left c = let u = turn-of c.args.registers c.args.command c.args.count c.args.states.now c.loop-i.slice c.loop-i.t c.loop-i.i c.loop-i.k c.loop-i.lack _ _ _ c.fill-f.result c.loop-i.invariant.0 c.loop-i.invariant.1 c.loop-i.invariant.4 c.loop-i.invariant.3 c.loop-i.invariant.5 c.loop-i.invariant.6 c.loop-i-test.true (omega arith) c.smaller.ensures c.fill-f.ensures in
     omega (arith, u.more)
 
 pub overflow_sub-left-in-loop-i : goal.overflow_sub-left-in-loop-i
-overflow_sub-left-in-loop-i c = let u = turn-of c.args.registers c.args.command c.args.count c.args.states.now c.loop-i.slice c.loop-i.t c.loop-i.i c.loop-i.k c.loop-i.lack _ _ _ c.fill-f.result c.loop-i.invariant.0 c.loop-i.invariant.1 c.loop-i.invariant.4 c.loop-i.invariant.3 c.loop-i.invariant.5 c.loop-i.invariant.6 c.loop-i-test.true c.if-states-i-lt2.false c.smaller.ensures c.fill-f.ensures in
+overflow_sub-left-in-loop-i c = let u = turn-of c.args.registers c.args.command c.args.count c.args.states.now c.loop-i.slice c.loop-i.t c.loop-i.i c.loop-i.k c.loop-i.lack _ _ _ c.fill-f.result c.loop-i.invariant.0 c.loop-i.invariant.1 c.loop-i.invariant.4 c.loop-i.invariant.3 c.loop-i.invariant.5 c.loop-i.invariant.6 c.loop-i-test.true (omega arith) c.smaller.ensures c.fill-f.ensures in
     omega (arith, u.own, c.loop-i.invariant.6)
 
 pub field_after-k-requires : goal.field_after-k-requires
@@ -160,7 +142,7 @@ field_after-k-requires c = let o = c in
     slot a.registers a.command o.loop-i.t _ o.loop-i.k v.0 v.3 v.5
 
 pub loop-i-smaller : goal.loop-i-smaller
-loop-i-smaller c = let u = turn-of c.args.registers c.args.command c.args.count c.args.states.now c.loop-i.slice c.loop-i.t c.loop-i.i c.loop-i.k c.loop-i.lack _ _ _ c.fill-f.result c.loop-i.invariant.0 c.loop-i.invariant.1 c.loop-i.invariant.4 c.loop-i.invariant.3 c.loop-i.invariant.5 c.loop-i.invariant.6 c.loop-i-test.true c.if-states-i-lt2.false c.smaller.ensures c.fill-f.ensures in
+loop-i-smaller c = let u = turn-of c.args.registers c.args.command c.args.count c.args.states.now c.loop-i.slice c.loop-i.t c.loop-i.i c.loop-i.k c.loop-i.lack _ _ _ c.fill-f.result c.loop-i.invariant.0 c.loop-i.invariant.1 c.loop-i.invariant.4 c.loop-i.invariant.3 c.loop-i.invariant.5 c.loop-i.invariant.6 c.loop-i-test.true (omega arith) c.smaller.ensures c.fill-f.ensures in
     omega (arith, u.more, c.loop-i-test.true)
 
 pub loop-i-preserved : goal.loop-i-preserved
@@ -168,7 +150,7 @@ loop-i-preserved c = let o = c in
     let a = o.args in
     let v = o.loop-i.invariant in
     let q = c in
-    let u = turn-of c.args.registers c.args.command c.args.count c.args.states.now c.loop-i.slice c.loop-i.t c.loop-i.i c.loop-i.k c.loop-i.lack _ _ _ c.fill-f.result c.loop-i.invariant.0 c.loop-i.invariant.1 c.loop-i.invariant.4 c.loop-i.invariant.3 c.loop-i.invariant.5 c.loop-i.invariant.6 c.loop-i-test.true c.if-states-i-lt2.false c.smaller.ensures c.fill-f.ensures in
+    let u = turn-of c.args.registers c.args.command c.args.count c.args.states.now c.loop-i.slice c.loop-i.t c.loop-i.i c.loop-i.k c.loop-i.lack _ _ _ c.fill-f.result c.loop-i.invariant.0 c.loop-i.invariant.1 c.loop-i.invariant.4 c.loop-i.invariant.3 c.loop-i.invariant.5 c.loop-i.invariant.6 c.loop-i-test.true (omega arith) c.smaller.ensures c.fill-f.ensures in
     let f = q.fill-f.result in
     let w = o.field_width-width.result in
     let sl = set o.loop-i.slice o.loop-i.k (f.value % o.field_limit-below.result) in
@@ -183,5 +165,6 @@ loop-i-preserved c = let o = c in
       simp length-set v.4,
       c.field_after-k.ensures ∙ ap₂ (λ (k lack : ℕ). field_after k (lack - n)) v.5 v.6 ∙ next.0,
       c.lack_after-lack.ensures ∙ ap (λ (lack : ℕ). lack_after w (lack - n)) v.6 ∙ next.1,
-      v.7 ∙ stepped c.args.registers c.args.command c.args.count c.args.states.now c.loop-i.slice c.loop-i.t c.loop-i.i c.loop-i.k _ _ c.fill-f.result (turn-of c.args.registers c.args.command c.args.count c.args.states.now c.loop-i.slice c.loop-i.t c.loop-i.i c.loop-i.k c.loop-i.lack _ _ _ c.fill-f.result c.loop-i.invariant.0 c.loop-i.invariant.1 c.loop-i.invariant.4 c.loop-i.invariant.3 c.loop-i.invariant.5 c.loop-i.invariant.6 c.loop-i-test.true c.if-states-i-lt2.false c.smaller.ensures c.fill-f.ensures) c.loop-i.invariant.5 ∙ goes-more a.registers a.command a.count a.states.now sl t f.at l,
+      v.7 ∙ stepped c.args.registers c.args.command c.args.count c.args.states.now c.loop-i.slice c.loop-i.t c.loop-i.i c.loop-i.k _ _ c.fill-f.result (turn-of c.args.registers c.args.command c.args.count c.args.states.now c.loop-i.slice c.loop-i.t c.loop-i.i c.loop-i.k c.loop-i.lack _ _ _ c.fill-f.result c.loop-i.invariant.0 c.loop-i.invariant.1 c.loop-i.invariant.4 c.loop-i.invariant.3 c.loop-i.invariant.5 c.loop-i.invariant.6 c.loop-i-test.true (omega arith) c.smaller.ensures c.fill-f.ensures) c.loop-i.invariant.5 ∙ goes-more a.registers a.command a.count a.states.now sl t f.at l,
+      v.8,
     )

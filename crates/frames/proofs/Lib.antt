@@ -5,4 +5,5 @@ pub mod Copies
 pub mod Lengths
 pub mod Pieces
 pub mod Judged
+pub mod Rowed
 pub mod Accepted

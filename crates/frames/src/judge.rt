@@ -34,6 +34,7 @@ pub fn judge_told(part: u16, devices: usize, tail: Tail) -> u8
 }
 
 // Numbers 7 and 8, and 4 of a frame that is shorter than a header.
+#[tactic(auto, using(crate::proofs::Rowed::head_sync))]
 pub fn judge_head(frame: &[u8], command: Command) -> u8
     ensures { result ≡ first (head_table command frame.now) }
 {
@@ -50,6 +51,7 @@ pub fn judge_head(frame: &[u8], command: Command) -> u8
 }
 
 // Numbers 11 and 12, of a tail from the bit `at` on; 3 of a tail of over 64 bits, and 4 of a frame that does not end with the tail.
+#[tactic(auto, using(crate::proofs::Rowed::end_unused))]
 pub fn judge_end(frame: &[u8], at: u32, tail: Tail) -> u8
     ensures { result ≡ first (end_table at tail frame.now) }
 {

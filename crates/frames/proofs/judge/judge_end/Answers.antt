@@ -17,14 +17,6 @@ pub returns-then-frame-end : goal.returns-then-frame-end
 unfolding end_table
 returns-then-frame-end c = rows.no 3 (le-ltb _ _ c.if-tail-gt64.false) (rows.yes 4 _ (rows.differs refl refl c.if-frame-end.true))
 
-pub returns-then-field_at-ne0 : goal.returns-then-field_at-ne0
-returns-then-field_at-ne0 c = let q = c in
-    let a = q.args in
-    let end = a.at + a.tail.length in
-    let rest = c.field_at.ensures ∙ judged.field-within end ((8 - end % 8) % 8) a.frame.now (omega arith) (omega arith) ∙ pieces.rest_all end a.frame.now c.if-frame-end.false in
-    rows.yes 11 _ (rows.differs rest refl c.if-field_at-ne0.true)
-    ∙ sym (judged.end-rows a.at a.tail a.frame.now q.if-tail-gt64.false q.if-frame-end.false)
-
 pub returns-then-field_at-tail : goal.returns-then-field_at-tail
 returns-then-field_at-tail c = let p = c in
     let q = p in
@@ -32,7 +24,7 @@ returns-then-field_at-tail c = let p = c in
     let end = a.at + a.tail.length in
     let rest = c.field_at.ensures ∙ judged.field-within end ((8 - end % 8) % 8) a.frame.now (omega arith) (omega arith) ∙ pieces.rest_all end a.frame.now c.if-frame-end.false in
     let behind = c.field_at-2.ensures ∙ judged.field-within a.at a.tail.length a.frame.now c.if-tail-gt64.false (omega arith) in
-    rows.no 11 (rows.agrees rest refl p.if-field_at-ne0.false) (rows.yes 12 _ (rows.differs behind refl c.if-field_at-tail.true))
+    rows.no 11 (rows.agrees rest refl (omega arith)) (rows.yes 12 _ (rows.differs behind refl c.if-field_at-tail.true))
     ∙ sym (judged.end-rows a.at a.tail a.frame.now q.if-tail-gt64.false q.if-frame-end.false)
 
 pub returns : goal.returns
@@ -42,5 +34,5 @@ returns c = let p = c in
     let end = a.at + a.tail.length in
     let rest = c.field_at.ensures ∙ judged.field-within end ((8 - end % 8) % 8) a.frame.now (omega arith) (omega arith) ∙ pieces.rest_all end a.frame.now c.if-frame-end.false in
     let behind = c.field_at-2.ensures ∙ judged.field-within a.at a.tail.length a.frame.now c.if-tail-gt64.false (omega arith) in
-    rows.no 11 (rows.agrees rest refl p.if-field_at-ne0.false) (rows.no 12 (rows.agrees behind refl c.if-field_at-tail.false) refl)
+    rows.no 11 (rows.agrees rest refl (omega arith)) (rows.no 12 (rows.agrees behind refl c.if-field_at-tail.false) refl)
     ∙ sym (judged.end-rows a.at a.tail a.frame.now q.if-tail-gt64.false q.if-frame-end.false)

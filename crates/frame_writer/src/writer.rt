@@ -12,6 +12,7 @@ use frames::{Tail, Told, is_tail_high, judge_told, told_fields, told_length};
 use parts::Command;
 
 // A frame from its settings: those of its own command alone are looked at.
+#[tactic(auto, using(crate::proofs::Refused::written_refused, crate::proofs::Refused::out_kept))]
 pub fn write(
     told: Told,
     tail: Tail,

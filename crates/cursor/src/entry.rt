@@ -30,6 +30,7 @@ pub fn enter(judged: Judged, n: usize, states: &[u8], room: usize) -> Entry
     enter_under(refusals::run_refusal(judged, n, states, room), n, states)
 }
 
+#[tactic(auto, using(crate::proofs::Entered::entered, crate::proofs::Entered::not_entered))]
 fn enter_under(refusal: u8, n: usize, states: &[u8]) -> Entry
     ensures { result ≡ entry_under refusal n states.now }
 {

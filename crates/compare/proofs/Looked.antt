@@ -1,6 +1,6 @@
 -- One device more in the search: its own bytes and values as the code takes them, and on to the next device or at the end by its answer.
 -- Assumes nothing.
-use mathlib.Core.Path.{◌≡◌, ap, ap₂, sym, ◌∙◌}
+use mathlib.Core.Path.{◌≡◌, refl, ap, ap₂, sym, ◌∙◌}
 use mathlib.Core.Bool.{Bool, cond}
 use mathlib.Core.List.{List}
 use Prim.Native.Nat.{ℕ, ◌+◌, ◌-◌}
@@ -36,3 +36,14 @@ module _ (s : Search) (bytes values : List ℕ) (d : Device) where
 
     pub looked-other : (a.group ≡ 0 → ⊥) → ended s a ≡ looked_at s bytes values d
     looked-other z = ap (λ (b : Bool). follow b a) (sym (ne_eqb a.group 0 z)) ∙ own-taken
+
+-- the same, of the device's answer as the code finds it
+module _ (s : Search) (bytes values : List ℕ) (d : Device) where
+  abbrev pub found : Compared
+  found = answer s bytes values d (take (s.bytes + s.banks - s.bytes) (drop s.bytes bytes)) (take (s.values + s.fields - s.values) (drop s.values values))
+
+  pub found_same : found.group ≡ 0 → looked_at s bytes values d ≡ onward s found
+  found_same z = sym (looked-same s bytes values d found refl z)
+
+  pub found_other : (found.group ≡ 0 → ⊥) → looked_at s bytes values d ≡ ended s found
+  found_other z = sym (looked-other s bytes values d found refl z)

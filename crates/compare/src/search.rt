@@ -75,6 +75,7 @@ fn begin_under(refusal: u8, given: SetNumbers) -> Search
 }
 
 // One device more.
+#[tactic(auto, using(crate::proofs::Looked::found_same, crate::proofs::Looked::found_other))]
 pub fn look(device: Device, search: Search, calibration: &[u8], individual: &[u16]) -> Search
     requires { OwnInLists search (length calibration.now) (length individual.now) }
     ensures { result ≡ looked_at search calibration.now individual.now device }

@@ -69,7 +69,7 @@ returns-then-from-input c = let p = c in
     let a = i.args in
     let past : l.place ≡ 3 = omega arith in
     put.ahead-last
-    (put.ahead-same (laws.lines-over a.part a.devices a.configuration a.input.now l.place l.from past i.if-from-input.true) l.invariant.4)
+    (put.ahead-same (laws.lines-over a.part a.devices a.configuration a.input.now l.place l.from past (omega arith)) l.invariant.4)
     p.put_trailing.ensures
 
 pub returns : goal.returns
@@ -77,4 +77,4 @@ returns c = let l = c.loop-place in
     let a = c.args in
     let past : l.place ≡ 3 = omega arith in
     put.ahead_none
-    (put.ahead-same (laws.lines_none a.part a.devices a.configuration a.input.now l.place l.from past c.if-from-input.false) l.invariant.4)
+    (put.ahead-same (laws.lines_none a.part a.devices a.configuration a.input.now l.place l.from past (omega arith)) l.invariant.4)

@@ -2,4 +2,5 @@
 pub mod Clocks
 pub mod Changes
 pub mod Ears
+pub mod Heeded
 pub mod ByBlock

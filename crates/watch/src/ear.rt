@@ -94,6 +94,7 @@ fn follow_on(watch: Watch, ear: Ear, states: &[u8], clock: usize, end: usize) ->
 }
 
 // Of a stretch that an ear was told of already, only the next change may have to be looked for.
+#[tactic(auto, using(crate::proofs::Heeded::heeded, crate::proofs::Heeded::heeded_past, crate::proofs::Heeded::unheeded))]
 fn ear_on(ear: Ear, limit: u32, states: &[u8], at: usize, end: usize) -> Ear
     ensures { result ≡ ear_on ear limit states.now at end }
 {

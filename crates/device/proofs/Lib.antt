@@ -5,3 +5,4 @@ pub mod Judged
 pub mod Position
 pub mod Shown
 pub mod Kept
+pub mod Taken

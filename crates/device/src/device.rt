@@ -34,6 +34,7 @@ pub struct Answer {
 
 impl Device {
     // One line state.
+    #[tactic(auto, using(crate::proofs::Taken::record_refused, crate::proofs::Taken::state_refused, crate::proofs::Taken::step_taken))]
     pub fn step(self, state: u8) -> Answer
         ensures { result ≡ step_answer self state }
     {

@@ -5,3 +5,4 @@ pub mod Phases
 pub mod Settled
 pub mod Slices
 pub mod Words
+pub mod Four

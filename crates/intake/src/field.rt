@@ -52,6 +52,7 @@ fn fill_each(value: u16, states: &[u8], from: usize, end: usize) -> Filled
 
 // The data bits of four states at high load, the first one on top, or 16 where one of them is anything else. Each state's bit is
 // the lowest of its byte; the product brings the four together.
+#[tactic(auto, using(crate::proofs::Four::bits_high, crate::proofs::Four::bits_other, crate::proofs::Four::word_least))]
 fn four_bits(states: &[u8], i: usize) -> u32
     requires { i + 4 ≤ length states.now }
     ensures { result ≡ four_bits (get_or states.now i 0) (get_or states.now (i + 1) 0) (get_or states.now (i + 2) 0) (get_or states.now (i + 3) 0) }

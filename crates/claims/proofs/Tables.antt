@@ -56,7 +56,7 @@ use Rattle.claims.specs.Claims as claim
 
 -- ---- any table, any answer, any lent list
 
-module _ (table : List Row) (up : rows.above 0 table ≡ true) (ok : rows.numbered table ≡ true) where
+module _ (table : List Row) (up : rows.above 0 table ≡ true) (ok : rows.positive table ≡ true) where
   lowest-first : (n : ℕ) → Lowest n table → first table ≡ n
   lowest-first n l = at (eqb (first table) 0) refl where
     at : (b : Bool) → eqb (first table) 0 ≡ b → first table ≡ n
@@ -159,14 +159,14 @@ table-rises ds (fresh part bit limit) = refl
 table-rises ds (run ss out) = refl
 table-rises ds (fault device kind flag) = refl
 
-table-numbered : (ds : List Device) (c : Call) → rows.numbered (table_of ds c) ≡ true
-table-numbered ds (fresh part bit limit) = refl
-table-numbered ds (run ss out) = refl
-table-numbered ds (fault device kind flag) = refl
+table-positive : (ds : List Device) (c : Call) → rows.positive (table_of ds c) ≡ true
+table-positive ds (fresh part bit limit) = refl
+table-positive ds (run ss out) = refl
+table-positive ds (fault device kind flag) = refl
 
 calls : (ds : List Device) (c : Call) → claim.Calls ds c
 calls ds c = (
-  subst (Exactly (table_of ds c)) (sym (table-refusal ds c)) (exactly (table_of ds c) (table-rises ds c) (table-numbered ds c)),
+  subst (Exactly (table_of ds c)) (sym (table-refusal ds c)) (exactly (table_of ds c) (table-rises ds c) (table-positive ds c)),
   record {
     accepted = λ e. after-effect ds c ∙ ap (λ (b : Bool). cond b (effect ds c) ds) (eq-eqb (refusal_of ds c) 0 e);
     refused = λ h. after-effect ds c ∙ ap (λ (b : Bool). cond b (effect ds c) ds) (ne_eqb (refusal_of ds c) 0 h);

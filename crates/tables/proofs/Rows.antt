@@ -16,21 +16,21 @@ Clear [] = Unit {0}
 Clear ((n when b) ∷ rows) = (b ≡ false) × Clear rows
 
 -- no row has the number 0
-abbrev pub numbered : List Row → Bool
-numbered [] = true
-numbered ((n when b) ∷ rows) = ltb 0 n && numbered rows
+abbrev pub positive : List Row → Bool
+positive [] = true
+positive ((n when b) ∷ rows) = ltb 0 n && positive rows
 
 -- the numbers rise
 abbrev pub above : ℕ → List Row → Bool
 above m [] = true
 above m ((n when b) ∷ rows) = ltb m n && above n rows
 
-pub clear : (rows : List Row) → numbered rows ≡ true → first rows ≡ 0 → Clear rows
+pub clear : (rows : List Row) → positive rows ≡ true → first rows ≡ 0 → Clear rows
 clear [] p e = tt
 clear ((n when true) ∷ rows) p e =
-    let h : 0 < n = ltb-true 0 n (and_left (ltb 0 n) (numbered rows) p) in
+    let h : 0 < n = ltb-true 0 n (and_left (ltb 0 n) (positive rows) p) in
     absurd (omega arith)
-clear ((n when false) ∷ rows) p e = (refl, clear rows (and_right (ltb 0 n) (numbered rows) p) e)
+clear ((n when false) ∷ rows) p e = (refl, clear rows (and_right (ltb 0 n) (positive rows) p) e)
 
 pub none : (rows : List Row) → Clear rows → first rows ≡ 0
 none [] c = refl
@@ -52,7 +52,7 @@ first-sooner ((n when false) ∷ xs) bs h = first-sooner xs bs h
 pub sooner : {n : ℕ} (xs bs : List Row) → n ≡ first xs → (n ≡ 0 → ⊥) → n ≡ first (xs ++ bs)
 sooner xs bs e h = e ∙ sym (first-sooner xs bs (λ z. h (e ∙ z)))
 
-pub later : {n m : ℕ} (xs bs : List Row) → numbered xs ≡ true → n ≡ first xs → n ≡ 0 → m ≡ first bs → m ≡ first (xs ++ bs)
+pub later : {n m : ℕ} (xs bs : List Row) → positive xs ≡ true → n ≡ first xs → n ≡ 0 → m ≡ first bs → m ≡ first (xs ++ bs)
 later xs bs p e z f = f ∙ sym (first-later xs bs (clear xs p (sym e ∙ z)))
 
 -- one row, by its test
@@ -103,7 +103,7 @@ lowest-from m ((n when false) ∷ rows) a h =
 pub lowest : (rows : List Row) → above 0 rows ≡ true → (first rows ≡ 0 → ⊥) → Lowest (first rows) rows
 lowest rows a h = lowest-from 0 rows a h
 
-pub none-applies : (rows : List Row) → numbered rows ≡ true → first rows ≡ 0 → (k : ℕ) → Applies k rows → ⊥
+pub none-applies : (rows : List Row) → positive rows ≡ true → first rows ≡ 0 → (k : ℕ) → Applies k rows → ⊥
 none-applies rows p e k h = at rows (clear rows p e) h where
   at : (rs : List Row) → Clear rs → Applies k rs → ⊥
   at [] c j = j

@@ -1,11 +1,9 @@
 -- The program's two arguments, part and N, as texts: a missing argument is the empty text. docs/RULES.md, "The bench program".
 -- A decimal is one digit or more and nothing else: no sign and no blank; zeros in front count for nothing. A number over 65,535 is
 -- read as 65,535, which is neither a part nor an N.
-use Rattle.std.specs.Prelude.{ℕ, ◌+◌, ◌-◌, ◌*◌, ◌^◌, min, Bool, true, false, not, ◌&&◌, cond, List, [], ◌∷◌, eqb, ltb, leb, length}
+use Rattle.std.specs.Prelude.{ℕ, ◌+◌, ◌-◌, ◌*◌, ◌^◌, min, Bool, true, false, not, ◌&&◌, cond, Option, Some, None, List, [], ◌∷◌, eqb, ltb, leb, length}
 use Rattle.tables.specs.Refusals.{Row, ◌when◌, first, answer}
 use Rattle.parts.specs.Parts.{known}
-use Rattle.arguments.specs.declared.decimal.Parsed.{Parsed}
-use Rattle.arguments.specs.declared.decimal.Parsed.TheVariants as P
 use Rattle.arguments.specs.declared.judging.Asked.{Asked}
 use Rattle.arguments.specs.declared.judging.Asked.TheVariants as A
 
@@ -24,30 +22,30 @@ numeral [] = 0
 numeral (b ∷ bs) = (b - 48) * 10 ^ length bs + numeral bs
 
 -- what a text says
-unfoldable pub parsed : List ℕ → Parsed
-parsed text = cond (not (eqb (length text) 0) && digits_only text) (P.Value (min (numeral text) 65535)) P.Bad
+unfoldable pub parsed : List ℕ → Option ℕ
+parsed text = cond (not (eqb (length text) 0) && digits_only text) (Some (min (numeral text) 65535)) None
 
 -- the number of a text that says one
-abbrev pub value_of : Parsed → ℕ
-value_of (P.Value n) = n
-value_of P.Bad = 0
+abbrev pub value_of : Option ℕ → ℕ
+value_of (Some n) = n
+value_of None = 0
 
 -- a part's number
-abbrev pub is_part : Parsed → Bool
-is_part (P.Value n) = known n
-is_part P.Bad = false
+abbrev pub is_part : Option ℕ → Bool
+is_part (Some n) = known n
+is_part None = false
 
 -- 1 to 512
-abbrev pub count_accepted : Parsed → Bool
-count_accepted (P.Value n) = ltb 0 n && ltb n 513
-count_accepted P.Bad = false
+abbrev pub count_accepted : Option ℕ → Bool
+count_accepted (Some n) = ltb 0 n && ltb n 513
+count_accepted None = false
 
 -- 1 and 2
-abbrev pub asked_rows : Parsed → Parsed → List Row
+abbrev pub asked_rows : Option ℕ → Option ℕ → List Row
 asked_rows part devices = (1 when not (is_part part)) ∷ (2 when not (count_accepted devices)) ∷ []
 
 -- what they ask for
-unfoldable pub judged : Parsed → Parsed → Asked
+unfoldable pub judged : Option ℕ → Option ℕ → Asked
 judged part devices = answer (first (asked_rows part devices)) A.Refused (A.Chain (value_of part) (value_of devices))
 
 -- what the texts of the two arguments ask for

@@ -2,7 +2,7 @@
 ghost use Rattle.std.specs.Prelude.{◌≡◌};
 ghost use Rattle.arguments.specs.Arguments.{asked};
 
-use crate::decimal::{Parsed, parse};
+use crate::decimal::parse;
 
 // What the two arguments ask for.
 #[derive(Clone, Copy)]
@@ -14,18 +14,17 @@ pub enum Asked {
 }
 
 // Judges the texts of the two arguments; a missing one is empty.
+#[tactic(auto, unfolding(crate::specs::Arguments::judged))]
 pub fn ask(part: &[u8], devices: &[u8]) -> Asked
     ensures { result ≡ asked part.now devices.now }
 {
-    let first = parse(part);
-    let Parsed::Value(number) = first else {
+    let Some(number) = parse(part) else {
         return Asked::Refused(1); // no decimal number
     };
     if !parts::is_known(number) {
         return Asked::Refused(1); // no part's number
     }
-    let second = parse(devices);
-    let Parsed::Value(count) = second else {
+    let Some(count) = parse(devices) else {
         return Asked::Refused(2);
     };
     if count == 0 || 512 < count {

@@ -4,5 +4,5 @@
 mod decimal; // a number from its text
 mod judging; // part and N
 
-pub use decimal::{Parsed, parse};
+pub use decimal::parse;
 pub use judging::{Asked, ask};

@@ -1,21 +1,13 @@
 -- The laws of room_fits of specs/Bits: what each answer says, and how the bytes of fields are counted. Assumes nothing.
 use mathlib.Core.Path.{◌≡◌, refl, sym, ap, ◌∙◌, subst}
-use mathlib.Core.Bool.{Bool, true, false, not, ◌&&◌}
+use mathlib.Core.Bool.{Bool, true, false, ◌&&◌}
 use Prim.Native.Nat.{ℕ, ◌+◌, ◌*◌, ◌-◌, ◌/◌, ◌%◌, ◌≤◌, ◌<◌}
 use native.Mathlib.Nat.{one-mul, add-mul, mul_comm, mul_assoc, div-add-mod', mul-le-mul_right, div-lt_iff_lt-mul, le-div_iff_mul-le}
 use native.Mathlib.Omega.{arith}
-use borrow.Author.Tests.{not-true, not-false, leb-true, leb-false, le-leb, lt-leb}
+use borrow.Author.Tests.{leb-true, leb-false, le-leb, lt-leb}
 use lib.Dec.{leb}
 use Rattle.tables.proofs.Booleans.{and_left, and_right, and-false, both-and}
 use Rattle.bits.specs.Bits.{bytes_for, room_fits}
-
--- ---- a test that the code told, after `if !told`
-
-pub told-true : {told test : Bool} → told ≡ test → not told ≡ false → test ≡ true
-told-true {told} e n = sym e ∙ not-false told n
-
-pub told-false : {told test : Bool} → told ≡ test → not told ≡ true → test ≡ false
-told-false {told} e n = sym e ∙ not-true told n
 
 -- ---- what fits
 module _ (widest w n at room : ℕ) where

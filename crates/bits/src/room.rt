@@ -19,5 +19,5 @@ pub fn has_room(widest: u32, width: u32, count: usize, at: usize, room: usize) -
     if rest / wide < eights {
         return false;
     }
-    (count % 8 * wide + 7) / 8 <= rest - eights * wide
+    (count % 8 * wide).div_ceil(8) <= rest - eights * wide
 }

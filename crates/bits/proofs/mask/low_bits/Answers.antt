@@ -4,7 +4,7 @@ use Prim.Native.Nat.{ℕ, ◌*◌, ◌%◌, ◌^◌, ◌<◌}
 use native.Mathlib.Nat.{one-mul, mod-eq_of_lt, lt_of_lt_of_le}
 use native.Mathlib.Omega.{arith}
 use lib.Bits.{and_mask}
-use lib.Pow.{pow_pos, pow-lt, pow_mono}
+use lib.Pow.{pow-lt, pow_mono}
 use Rattle.bits.proofs.mask.low_bits.Goals as goal
 
 one_shl : (w : ℕ) → w < 64 → (1 * 2 ^ w) % 2 ^ 64 ≡ 2 ^ w
@@ -14,9 +14,6 @@ pub returns-then-width-ge64 : goal.returns-then-width-ge64
 returns-then-width-ge64 c = let a = c.args in
     let small : a.value < 2 ^ 64 = omega arith in
     sym (mod-eq_of_lt (lt_of_lt_of_le small (pow_mono c.if-width-ge64.true)))
-
-pub overflow_sub-result : goal.overflow_sub-result
-overflow_sub-result c = let w = c.args.width in rw (one_shl w (omega arith)) (pow_pos w)
 
 pub returns : goal.returns
 returns c = let a = c.args in rw (one_shl a.width (omega arith)) (and_mask a.value a.width)

@@ -35,7 +35,7 @@ pub fn raise(count: u16, flag: u8) -> u16
     if flag == 0 {
         count % 1024
     } else {
-        (((count as u32) + 1) % 1024) as u16
+        ((u32::from(count) + 1) % 1024) as u16
     }
 }
 
@@ -44,7 +44,7 @@ fn push(value: u16, bit: u8, below: u16) -> u16
     requires { 0 < below }
     ensures { result ≡ pushed value bit below }
 {
-    (((value as u32) * 2 + (bit as u32)) % (below as u32)) as u16
+    ((u32::from(value) * 2 + u32::from(bit)) % u32::from(below)) as u16
 }
 
 // A bit goes into one field of the slice.
@@ -52,15 +52,11 @@ fn take_at(registers: Registers, at: usize, bit: u8, below: u16) -> Registers
     requires { 0 < below }
     ensures { result ≡ took registers at bit below }
 {
-    if at < 48 {
-        let mut next = registers;
-        let v = next.slice[at];
-        let w = push(v, bit, below);
-        next.slice[at] = w;
-        next
-    } else {
-        registers
+    let mut next = registers;
+    if at < next.slice.len() {
+        next.slice[at] = push(next.slice[at], bit, below);
     }
+    next
 }
 
 impl Registers {
@@ -69,9 +65,8 @@ impl Registers {
         ensures { result
             ≡ took self (taken / field_width (part_of self.part) command) bit (field_limit (part_of self.part) command) }
     {
-        let part = self.part;
-        let width = slices::field_width(command, part) as u16;
-        let below = slices::field_limit(command, part);
+        let width = slices::field_width(command, self.part) as u16;
+        let below = slices::field_limit(command, self.part);
         take_at(self, (taken / width) as usize, bit, below)
     }
 
@@ -80,10 +75,8 @@ impl Registers {
         ensures { result ≡ fault self command }
     {
         match command {
-            Command::Individual => self.overtemperature,
-            Command::Calibration => self.openled,
-            Command::Global => self.overtemperature,
-            Command::Configuration => self.openled,
+            Command::Individual | Command::Global => self.overtemperature,
+            Command::Calibration | Command::Configuration => self.openled,
         }
     }
 
@@ -105,10 +98,10 @@ impl Registers {
         ensures { result ≡ cleared self }
     {
         let mut next = self;
-        next.waiting0 = [0u16; 24];
-        next.waiting1 = [0u16; 24];
-        next.active0 = [0u16; 24];
-        next.active1 = [0u16; 24];
+        next.waiting0 = [0; 24];
+        next.waiting1 = [0; 24];
+        next.active0 = [0; 24];
+        next.active1 = [0; 24];
         next
     }
 
@@ -121,14 +114,14 @@ impl Registers {
             overtemperature: 0,
             openled: 0,
             configuration: 0,
-            calibration: [0u8; 3],
+            calibration: [0; 3],
             waiting: 0,
             active: 0,
-            waiting0: [0u16; 24],
-            waiting1: [0u16; 24],
-            active0: [0u16; 24],
-            active1: [0u16; 24],
-            slice: [0u16; 48],
+            waiting0: [0; 24],
+            waiting1: [0; 24],
+            active0: [0; 24],
+            active1: [0; 24],
+            slice: [0; 48],
             position: 0,
             watch,
         }

@@ -8,7 +8,7 @@ use registers::Registers;
 pub fn length_in(registers: Registers) -> u64
     ensures { result ≡ length_in registers }
 {
-    parts::frame_clocks(registers.part, registers.configuration) as u64
+    u64::from(parts::frame_clocks(registers.part, registers.configuration))
 }
 
 // The position is below them.
@@ -22,9 +22,8 @@ pub fn position_fits(registers: Registers) -> bool
 pub fn refit(old: Registers, new: Registers) -> Registers
     ensures { result ≡ refitted old new }
 {
-    let position = refit_from(length_in(old), new, new.position);
     let mut next = new;
-    next.position = position;
+    next.position = refit_from(length_in(old), new, new.position);
     next
 }
 

@@ -5,13 +5,12 @@ ghost use Rattle.positions.specs.Running.{run_on, has_ended, position_by, kept_f
 
 use crate::positions::{length_in, refit_from};
 use registers::Registers;
-use std::num::{wrapping_add_u64, wrapping_sub_u64};
 
 // A frame has ended by a clock of the run.
 pub fn has_ended(registers: Registers, clock: usize) -> bool
     ensures { result ≡ has_ended clock registers }
 {
-    !(run_on(registers, clock) < length_in(registers))
+    run_on(registers, clock) >= length_in(registers)
 }
 
 // The position by a clock of the run. Most often no frame has ended, and nothing is divided.
@@ -25,19 +24,17 @@ pub fn position_by(registers: Registers, clock: usize) -> u64
 
 // The registers that a slice leaves which is stored in a clock, where `new` is what the line state made of `old`. What waited in the old ones
 // is shown if a frame has ended by then, and only then is anything shown written.
+#[tactic(auto, unfolding(crate::specs::Running::dated))]
 pub fn date(old: Registers, new: Registers, clock: usize) -> Registers
     ensures { result ≡ dated clock old new }
 {
-    let length = length_in(old);
-    let position = position_by(old, clock);
-    let ended = has_ended(old, clock);
-    let kept = keep_from(refit_from(length, new, position), clock);
+    let position = refit_from(length_in(old), new, position_by(old, clock));
     let mut next = new;
-    next.position = kept;
-    if ended {
+    next.position = keep_from(position, clock);
+    if has_ended(old, clock) {
+        next.active = old.waiting;
         let waiting0 = old.waiting0;
         let waiting1 = old.waiting1;
-        next.active = old.waiting;
         next.active0 = waiting0;
         next.active1 = waiting1;
     }
@@ -48,12 +45,12 @@ pub fn date(old: Registers, new: Registers, clock: usize) -> Registers
 fn run_on(registers: Registers, clock: usize) -> u64
     ensures { result ≡ run_on clock registers }
 {
-    wrapping_add_u64(registers.position, clock as u64)
+    registers.position.wrapping_add(clock as u64)
 }
 
 // A position at a clock, as the run keeps it.
 fn keep_from(position: u64, clock: usize) -> u64
     ensures { result ≡ kept_from clock position }
 {
-    wrapping_sub_u64(position, clock as u64)
+    position.wrapping_sub(clock as u64)
 }

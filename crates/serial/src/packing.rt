@@ -36,7 +36,7 @@ fn judge_states(states: &[u8], room: usize) -> u8
 fn bit_at(states: &[u8], at: usize) -> u8
     ensures { result ≡ digit_at states.now at }
 {
-    if at < states.len() { states[at] % 2 } else { 0 }
+    states.get(at).copied().unwrap_or(0) % 2
 }
 
 // The byte at a place: eight data bits, those past the last state 0.
@@ -44,14 +44,11 @@ fn byte_at(states: &[u8], place: usize) -> u8
     requires { place < bytes_for (length states.now) }
     ensures { result ≡ get_or (bytes_of (data_bits states.now)) place 0 }
 {
-    let at = place * 8;
-    let mut byte: u16 = 0;
-    let mut k: usize = 0;
-    while k < 8 {
-        byte = byte * 2 + bit_at(states, at + k) as u16;
-        k += 1;
+    let mut byte = 0;
+    for at in place * 8..place * 8 + 8 {
+        byte = byte * 2 + bit_at(states, at);
     }
-    (byte % 256) as u8
+    byte
 }
 
 fn put_bytes(states: &[u8], out: &mut [u8])
@@ -59,9 +56,7 @@ fn put_bytes(states: &[u8], out: &mut [u8])
     ensures { out.new ≡ over (bytes_of (data_bits states.now)) out.old }
 {
     let end = bytes_for(states.len());
-    let mut j: usize = 0;
-    while j < end {
-        out[j] = byte_at(states, j);
-        j += 1;
+    for (place, byte) in out[..end].iter_mut().enumerate() {
+        *byte = byte_at(states, place);
     }
 }

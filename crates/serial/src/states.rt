@@ -6,6 +6,7 @@ ghost use Rattle.parts.specs.Wire.{edge_at, low_clocks};
 ghost use Rattle.serial.specs.States.{frame_rows, frame_states, clocked_answer, clocked_out};
 
 // Where load rises in a frame, by its number: with SYNC's last bit, with the first command bit, or with the second.
+// Numbers and no enum: C tells the edge by its number, and any other number is refused.
 pub const EARLY: u8 = 0;
 
 // What is sent to a sign, and what every device sends on.
@@ -53,11 +54,7 @@ fn judge_frame(long: usize, bits: usize, edge: u8, room: usize) -> u8
 pub fn bytes_for(bits: usize) -> usize
     ensures { result ≡ bytes_for bits }
 {
-    if bits % 8 == 0 {
-        bits / 8
-    } else {
-        bits / 8 + 1
-    }
+    bits.div_ceil(8)
 }
 
 // The state of one bit of a frame.
@@ -91,9 +88,7 @@ fn put_states(frame: &[u8], bits: usize, edge: u8, out: &mut [u8])
     ensures { out.new ≡ over (frame_states (edge_at edge) frame.now bits) out.old }
 {
     let low = low_clocks(edge);
-    let mut i: usize = 0;
-    while i < bits {
-        out[i] = bit_state(frame[i / 8], (i % 8) as u32, load_at(i, low));
-        i += 1;
+    for (i, state) in out[..bits].iter_mut().enumerate() {
+        *state = bit_state(frame[i / 8], (i % 8) as u32, load_at(i, low));
     }
 }

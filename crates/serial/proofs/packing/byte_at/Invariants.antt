@@ -1,13 +1,8 @@
--- The byte so far is the number of the bits taken, fewer than eight. Assumes nothing.
-use Rattle.serial.specs.States.{data_bits}
+-- The byte so far is the number of the bits taken. Assumes nothing.
+use Rattle.std.proofs.Common.{◌≡◌, ◌*◌, ◌-◌, take, drop}
 use Rattle.bits.specs.Bits.{number, padded}
-use mathlib.Core.Path.{◌≡◌}
-use Prim.Native.Nat.{◌-◌, ◌≤◌}
-use lib.ListN.{take, drop}
+use Rattle.serial.specs.States.{data_bits}
 use Rattle.serial.proofs.packing.byte_at.Given as goal
 
-abbrev pub invariant-loop-k : goal.invariant-loop-k
-invariant-loop-k l = (l.k ≤ 8) × (l.byte ≡ number (take l.k (drop l.at (padded (data_bits l.states)))))
-
-abbrev pub decreases-loop-k : goal.decreases-loop-k
-decreases-loop-k l = 8 - l.k
+abbrev pub invariant-loop-at : goal.invariant-loop-at
+invariant-loop-at l = l.byte ≡ number (take (l.at - l.place * 8) (drop (l.place * 8) (padded (data_bits l.states))))

@@ -1,11 +1,9 @@
-use Rattle.serial.specs.States.{frame_rows, frame_states, clocked_answer, clocked_out}
+use Rattle.serial.specs.States.{frame_states, clocked_answer, clocked_out}
 use Rattle.serial.specs.declared.states.Converted.TheVariants as L
 use Rattle.bits.specs.Bits.{over}
 use Rattle.tables.proofs.Rows as rows
-use mathlib.Core.Path.{refl, sym, ◌∙◌}
-use lib.ListN.{length}
+use mathlib.Core.Path.{refl}
 use Rattle.parts.specs.Wire.{edge_at}
-use borrow.Author.Tests.{eqb-true, ltb-false, not-false}
 use Rattle.serial.proofs.states.frame_states.Goals as goal
 
 pub returns-then-refusal-ne0 : goal.returns-then-refusal-ne0
@@ -13,11 +11,6 @@ unfolding clocked_answer clocked_out
 returns-then-refusal-ne0 c = let a = c.args in
     let e = c.judge_frame-refusal.ensures in
     (rows.refused L.Refused (L.Written a.bits) e c.if-refusal-ne0.true, rows.kept a.out.now (over (frame_states (edge_at a.edge) a.frame.now a.bits) a.out.now) e c.if-refusal-ne0.true)
-
-pub put_states-requires : goal.put_states-requires
-put_states-requires c = let a = c.args in
-    let k = rows.clear (frame_rows (length a.frame.now) a.bits a.edge (length a.out.now)) refl (sym c.judge_frame-refusal.ensures ∙ c.if-refusal-ne0.false) in
-    (eqb-true _ _ (not-false _ k.0), ltb-false _ _ k.1.0)
 
 pub returns : goal.returns
 unfolding clocked_answer clocked_out

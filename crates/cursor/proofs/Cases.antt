@@ -10,7 +10,6 @@ use denote.Enum.Declared.{tag_of}
 use Rattle.phases.specs.declared.phase.Sent.{Sent}
 use Rattle.phases.specs.declared.phase.Sent.TheVariants.{Nothing, One, Header}
 use Rattle.phases.specs.contracts.phase.Sent as S
-use Rattle.cursor.specs.Cursor.{turn_by_state, next_turn}
 
 -- no header
 abbrev pub NoHeader : Sent → Type 0
@@ -18,11 +17,6 @@ NoHeader p = OneOf (0 ∷ 1 ∷ []) (tag_of S.the_type p)
 
 pub not_last : OneOf (0 ∷ 1 ∷ []) 2 → ⊥
 not_last h = ⊎_elim (λ e. omega arith) (λ e. omega arith) h
-
-pub next_turn-none : (n f at w : ℕ) (p : Sent) (ss : List ℕ) → NoHeader p → turn_by_state n f at w ss ≡ next_turn n f at w p ss
-next_turn-none n f at w Nothing ss h = refl
-next_turn-none n f at w (One s) ss h = refl
-next_turn-none n f at w (Header c m) ss h = absurd (not_last h)
 
 -- what an `else` says of the variant
 pub no_header : (p : Sent) → ((c : Command) (n : ℕ) → p ≡ Header c n → ⊥) → NoHeader p

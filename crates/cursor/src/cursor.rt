@@ -1,6 +1,7 @@
 // Where a run stands, and whose turn is next.
-ghost use Rattle.std.specs.Prelude.{◌≡◌, drop};
-ghost use Rattle.cursor.specs.Cursor.{index_of, turn_by_state, next_turn, halted};
+ghost use Rattle.std.specs.Prelude.{◌≡◌, drop, false};
+ghost use Rattle.phases.specs.declared.phase.Sent.TheVariants.{Nothing};
+ghost use Rattle.cursor.specs.Cursor.{index_of, cursor, turn_by_state, next_turn, halted};
 
 use phases::Sent;
 use watch::Ear;
@@ -38,66 +39,34 @@ pub fn next_turn(
 ) -> Cursor
     ensures { result ≡ next_turn count front at written pending (drop at states.now) }
 {
-    let ear = watch::no_ear();
-    if let Sent::Header { .. } = pending {
-        return Cursor {
-            count,
-            front,
+    match pending {
+        Sent::Header { .. } => Cursor {
             index: index_of(count, front),
-            at,
-            written,
-            end: 0,
-            ear,
             pending,
             going: true,
-        };
+            ..over(count, front, at, written)
+        },
+        _ => turn_by_state(count, front, at, written, states),
     }
-    turn_by_state(count, front, at, written, states)
 }
 
 // By the next state: a low one is the first device's.
 pub fn turn_by_state(count: usize, front: usize, at: usize, written: usize, states: &[u8]) -> Cursor
     ensures { result ≡ turn_by_state count front at written (drop at states.now) }
 {
-    let ear = watch::no_ear();
-    if at < states.len() {
-        if states[at] < 2 {
-            Cursor {
-                count,
-                front: 0,
-                index: 0,
-                at,
-                written,
-                end: 0,
-                ear,
-                pending: Sent::Nothing,
-                going: true,
-            }
-        } else {
-            Cursor {
-                count,
-                front,
-                index: index_of(count, front),
-                at,
-                written,
-                end: 0,
-                ear,
-                pending: Sent::Nothing,
-                going: true,
-            }
-        }
-    } else {
-        Cursor {
-            count,
-            front,
-            index: 0,
-            at,
-            written,
-            end: 0,
-            ear,
-            pending: Sent::Nothing,
-            going: false,
-        }
+    let over = over(count, front, at, written);
+    match states.get(at) {
+        None => over,
+        Some(&state) if state < 2 => Cursor {
+            front: 0,
+            going: true,
+            ..over
+        },
+        Some(_) => Cursor {
+            index: index_of(count, front),
+            going: true,
+            ..over
+        },
     }
 }
 
@@ -105,15 +74,21 @@ pub fn turn_by_state(count: usize, front: usize, at: usize, written: usize, stat
 pub fn halt() -> Cursor
     ensures { result ≡ halted }
 {
-    let ear = watch::no_ear();
+    over(0, 0, 0, 0)
+}
+
+// A run whose states are over.
+fn over(count: usize, front: usize, at: usize, written: usize) -> Cursor
+    ensures { result ≡ cursor count front 0 at written Nothing false }
+{
     Cursor {
-        count: 0,
-        front: 0,
+        count,
+        front,
         index: 0,
-        at: 0,
-        written: 0,
+        at,
+        written,
         end: 0,
-        ear,
+        ear: watch::no_ear(),
         pending: Sent::Nothing,
         going: false,
     }

@@ -30,33 +30,26 @@ pub fn enter(judged: Judged, n: usize, states: &[u8], room: usize) -> Entry
     enter_under(refusals::run_refusal(judged, n, states, room), n, states)
 }
 
-#[tactic(auto, using(crate::proofs::Entered::entered, crate::proofs::Entered::not_entered))]
 fn enter_under(refusal: u8, n: usize, states: &[u8]) -> Entry
     ensures { result ≡ entry_under refusal n states.now }
 {
-    if refusal == 0 {
-        let mut cursor = crate::cursor::turn_by_state(n, 0, 0, 0, states);
-        cursor.end = intake::highs_end(states, 0);
-        cursor.ear = watch::no_ear();
-        Entry { refusal, cursor }
+    let cursor = if refusal == 0 {
+        Cursor {
+            end: intake::highs_end(states, 0),
+            ..crate::cursor::turn_by_state(n, 0, 0, 0, states)
+        }
     } else {
-        let cursor = crate::cursor::halt();
-        Entry { refusal, cursor }
-    }
+        crate::cursor::halt()
+    };
+    Entry { refusal, cursor }
 }
 
 // The answer of a run under a refusal, or 0, that returned n states.
 pub fn answer(refusal: u8, n: usize) -> Ran
     ensures { result ≡ ran refusal n }
 {
-    if refusal != 0 {
-        return Ran {
-            returned: 0,
-            refusal,
-        };
-    }
     Ran {
-        returned: n,
+        returned: if refusal == 0 { n } else { 0 },
         refusal,
     }
 }

@@ -1,8 +1,0 @@
-use borrow.Author.Tests.{eq-eqb, ne_eqb}
-use Rattle.cursor.proofs.entry.answer.Goals as goal
-
-pub returns-then-refusal-ne0 : goal.returns-then-refusal-ne0
-returns-then-refusal-ne0 c = rw (ne_eqb _ _ c.if-refusal-ne0.true)
-
-pub returns : goal.returns
-returns c = rw (eq-eqb _ _ c.if-refusal-ne0.false)

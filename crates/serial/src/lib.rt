@@ -5,4 +5,4 @@ mod packing;
 mod states;
 
 pub use packing::pack_states;
-pub use states::{Converted, EARLY, EXACT, LATE, frame_states};
+pub use states::{EARLY, EXACT, LATE, frame_states};

@@ -1,35 +1,34 @@
 // The data bits of returned states, packed.
 ghost use Rattle.std.specs.Prelude.{◌≡◌, ◌+◌, ◌*◌, ◌<◌, ◌≤◌, length, get_or};
-ghost use Rattle.tables.specs.Refusals.{first};
+ghost use Rattle.tables.specs.Refusals.{first, numbered, carried};
 ghost use Rattle.bits.specs.Bits.{bytes_of, bytes_for, over};
 ghost use Rattle.serial.specs.States.{state_rows, data_bits, digit_at, data_bytes_answer, data_bytes_out};
 
-use crate::states::{Converted, bytes_for};
+use crate::states::bytes_for;
+use tables::Refusal;
 
-// The data bits of `states`, most significant first, zeros in the unused bits of the last byte.
-pub fn pack_states(states: &[u8], out: &mut [u8]) -> Converted
-    ensures { (result ≡ data_bytes_answer states.now out.old)
+// The data bits of `states`, most significant first, zeros in the unused bits of the last byte. The answer is how many bytes were written.
+#[tactic(auto, unfolding(crate::specs::States::data_bytes_answer, crate::specs::States::data_bytes_out))]
+pub fn pack_states(states: &[u8], out: &mut [u8]) -> Result<usize, Refusal>
+    ensures { (numbered result ≡ data_bytes_answer states.now out.old)
         × (out.new ≡ data_bytes_out states.now out.old) }
 {
-    let refusal = judge_states(states, out.len());
-    if refusal != 0 {
-        return Converted::Refused(refusal);
-    }
+    judge_states(states, out.len())?;
     put_bytes(states, out);
-    Converted::Written(bytes_for(states.len()))
+    Ok(bytes_for(states.len()))
 }
 
-// Numbers 5 and 13, or 0.
-fn judge_states(states: &[u8], room: usize) -> u8
-    ensures { result ≡ first (state_rows states.now room) }
+// Refusals 5 and 13.
+fn judge_states(states: &[u8], room: usize) -> Result<(), Refusal>
+    ensures { carried result ≡ first (state_rows states.now room) }
 {
     if room < bytes_for(states.len()) {
-        return 5;
+        return Err(Refusal::NoRoom);
     }
     if !tables::bytes_below(states, 4) {
-        return 13;
+        return Err(Refusal::OutOfRange);
     }
-    0
+    Ok(())
 }
 
 // The data bit of a state, 0 past the last one.

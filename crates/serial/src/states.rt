@@ -1,9 +1,11 @@
 // A packed frame's line states.
 ghost use Rattle.std.specs.Prelude.{◌≡◌, ◌+◌, ◌*◌, ◌/◌, ◌%◌, ◌^◌, ◌-◌, ◌<◌, ◌≤◌, cond, ltb, length, get_or};
-ghost use Rattle.tables.specs.Refusals.{first};
+ghost use Rattle.tables.specs.Refusals.{first, numbered, carried};
 ghost use Rattle.bits.specs.Bits.{bytes_for, over};
 ghost use Rattle.parts.specs.Wire.{edge_at, low_clocks};
 ghost use Rattle.serial.specs.States.{frame_rows, frame_states, clocked_answer, clocked_out};
+
+use tables::Refusal;
 
 // Where load rises in a frame, by its number: with SYNC's last bit, with the first command bit, or with the second.
 // Numbers and no enum: C tells the edge by its number, and any other number is refused.
@@ -14,40 +16,32 @@ pub const EXACT: u8 = 1;
 
 pub const LATE: u8 = 2;
 
-// How many states or bytes were written, or the refusal's number.
-#[derive(Clone, Copy)]
-pub enum Converted {
-    Written(usize),
-    Refused(u8),
-}
-
 // The states of the first `bits` bits of a frame that is sent with an edge: those before it at low load, the rest at high.
-pub fn frame_states(frame: &[u8], bits: usize, edge: u8, out: &mut [u8]) -> Converted
-    ensures { (result ≡ clocked_answer frame.now bits edge out.old)
+// The answer is how many states were written.
+#[tactic(auto, unfolding(crate::specs::States::clocked_answer, crate::specs::States::clocked_out))]
+pub fn frame_states(frame: &[u8], bits: usize, edge: u8, out: &mut [u8]) -> Result<usize, Refusal>
+    ensures { (numbered result ≡ clocked_answer frame.now bits edge out.old)
         × (out.new ≡ clocked_out frame.now bits edge out.old) }
 {
-    let refusal = judge_frame(frame.len(), bits, edge, out.len());
-    if refusal != 0 {
-        return Converted::Refused(refusal);
-    }
+    judge_frame(frame.len(), bits, edge, out.len())?;
     put_states(frame, bits, edge, out);
-    Converted::Written(bits)
+    Ok(bits)
 }
 
-// Numbers 4, 5 and 13, or 0. A count of bits that no slice could hold is another length than its rule says.
-fn judge_frame(long: usize, bits: usize, edge: u8, room: usize) -> u8
-    ensures { result ≡ first (frame_rows long bits edge room) }
+// Refusals 4, 5 and 13. A count of bits that no slice could hold is another length than its rule says.
+fn judge_frame(long: usize, bits: usize, edge: u8, room: usize) -> Result<(), Refusal>
+    ensures { carried result ≡ first (frame_rows long bits edge room) }
 {
     if long != bytes_for(bits) {
-        return 4;
+        return Err(Refusal::WrongLength);
     }
     if room < bits {
-        return 5;
+        return Err(Refusal::NoRoom);
     }
     if edge > LATE {
-        return 13;
+        return Err(Refusal::OutOfRange);
     }
-    0
+    Ok(())
 }
 
 // The bytes that a count of bits takes: `bits + 7` might not fit.

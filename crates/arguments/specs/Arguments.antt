@@ -1,11 +1,10 @@
 -- The program's two arguments, part and N, as texts: a missing argument is the empty text. docs/RULES.md, "The bench program".
 -- A decimal is one digit or more and nothing else: no sign and no blank; zeros in front count for nothing. A number over 65,535 is
 -- read as 65,535, which is neither a part nor an N.
-use Rattle.std.specs.Prelude.{ℕ, ◌+◌, ◌-◌, ◌*◌, ◌^◌, min, Bool, true, false, not, ◌&&◌, cond, Option, Some, None, List, [], ◌∷◌, eqb, ltb, leb, length}
+use Rattle.std.specs.Prelude.{ℕ, ◌+◌, ◌-◌, ◌*◌, ◌^◌, min, Bool, true, false, not, ◌&&◌, cond, Option, Some, None, Result, Ok, Err, List, [], ◌∷◌, eqb, ltb, leb, length}
 use Rattle.tables.specs.Refusals.{Row, ◌when◌, first, answer}
 use Rattle.parts.specs.Parts.{known}
-use Rattle.arguments.specs.declared.judging.Asked.{Asked}
-use Rattle.arguments.specs.declared.judging.Asked.TheVariants as A
+use Rattle.arguments.specs.declared.judging.Chain.{Chain}
 
 -- `0` to `9`
 abbrev pub is_digit : ℕ → Bool
@@ -44,10 +43,11 @@ count_accepted None = false
 abbrev pub asked_rows : Option ℕ → Option ℕ → List Row
 asked_rows part devices = (1 when not (is_part part)) ∷ (2 when not (count_accepted devices)) ∷ []
 
--- what they ask for
-unfoldable pub judged : Option ℕ → Option ℕ → Asked
-judged part devices = answer (first (asked_rows part devices)) A.Refused (A.Chain (value_of part) (value_of devices))
+-- the chain that they ask for
+unfoldable pub judged : Option ℕ → Option ℕ → Result Chain ℕ
+judged part devices =
+    answer (first (asked_rows part devices)) Err (Ok (record { part = value_of part; devices = value_of devices }))
 
 -- what the texts of the two arguments ask for
-abbrev pub asked : List ℕ → List ℕ → Asked
+abbrev pub asked : List ℕ → List ℕ → Result Chain ℕ
 asked part devices = judged (parsed part) (parsed devices)

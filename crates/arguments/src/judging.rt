@@ -1,34 +1,28 @@
 // The two arguments judged.
 ghost use Rattle.std.specs.Prelude.{◌≡◌};
+ghost use Rattle.tables.specs.Refusals.{numbered};
 ghost use Rattle.arguments.specs.Arguments.{asked};
 
 use crate::decimal::parse;
+use tables::Refusal;
 
-// What the two arguments ask for.
+// So many devices of a part.
 #[derive(Clone, Copy)]
-pub enum Asked {
-    // a part and a number of devices
-    Chain(u16, u16),
-    // the refusal's number
-    Refused(u8),
+pub struct Chain {
+    pub part: u16,
+    pub devices: u16,
 }
 
-// Judges the texts of the two arguments; a missing one is empty.
+// The chain that the texts of the two arguments ask for; a missing one is empty.
 #[tactic(auto, unfolding(crate::specs::Arguments::judged))]
-pub fn ask(part: &[u8], devices: &[u8]) -> Asked
-    ensures { result ≡ asked part.now devices.now }
+pub fn ask(part: &[u8], devices: &[u8]) -> Result<Chain, Refusal>
+    ensures { numbered result ≡ asked part.now devices.now }
 {
-    let Some(number) = parse(part) else {
-        return Asked::Refused(1); // no decimal number
-    };
-    if !parts::is_known(number) {
-        return Asked::Refused(1); // no part's number
-    }
-    let Some(count) = parse(devices) else {
-        return Asked::Refused(2);
-    };
-    if count == 0 || 512 < count {
-        return Asked::Refused(2);
-    }
-    Asked::Chain(number, count)
+    let part = parse(part)
+        .filter(|number| parts::is_known(*number))
+        .ok_or(Refusal::UnknownPart)?;
+    let devices = parse(devices)
+        .filter(|count| (1..=512).contains(count))
+        .ok_or(Refusal::WrongDeviceCount)?;
+    Ok(Chain { part, devices })
 }

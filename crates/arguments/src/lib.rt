@@ -5,4 +5,4 @@ mod decimal; // a number from its text
 mod judging; // part and N
 
 pub use decimal::parse;
-pub use judging::{Asked, ask};
+pub use judging::{Chain, ask};

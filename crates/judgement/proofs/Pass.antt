@@ -1,66 +1,59 @@
 -- One pass over a chain's records finds what the tests of calls/specs/Chain say. By induction on the records: what the pass has found so far
 -- and what the tests say of the rest.
 use mathlib.Core.Path.{◌≡◌, refl, ap, sym, ◌∙◌}
-use mathlib.Core.Bool.{Bool, true, ◌&&◌, cond}
+use mathlib.Core.Bool.{◌&&◌}
 use mathlib.Core.List.{List, [], ◌∷◌}
 use Prim.Native.Nat.{ℕ, zero, suc, ◌<◌}
 use native.Mathlib.Nat.{not-suc-le-zero, le_of_suc-le-suc}
 use lib.ListN.{length, get_or, take}
+use Rattle.std.specs.Prelude.{Option, Some}
+use Rattle.std.specs.Option.{option_or}
 use Rattle.parts.specs.Parts.{known}
 use Rattle.tables.specs.Lists.{every}
 use Rattle.device.specs.Judgement.{fits}
 use Rattle.device.specs.declared.device.Device.{Device}
 use Rattle.calls.specs.Chain.{all_known, has_part, same_parts, all_fit, blank}
 use Rattle.judgement.specs.declared.judging.Judged.{Judged}
-use Rattle.judgement.specs.Judging.{unjudged, judged_with, judged_from}
+use Rattle.judgement.specs.Judging.{unjudged, is_alike, judged_with, judged_from}
 use Rattle.tables.proofs.Booleans.{and_assoc, and-true}
 
 -- ---- the pass, record by record
 
 pub judged-next : (i : ℕ) (j : Judged) (ds : List Device) → i < length ds
     → judged_with (judged_from j (take i ds)) (get_or ds i blank) ≡ judged_from j (take (suc i) ds)
-unfolding judged_from
 judged-next i j [] l = absurd (not-suc-le-zero l)
 judged-next zero j (d ∷ ds) l = refl
 judged-next (suc i) j (d ∷ ds) l = judged-next i (judged_with j d) ds (le_of_suc-le-suc l)
 
 pub judged-none : (j : Judged) → judged_from j [] ≡ j
-unfolding judged_from
 judged-none j = refl
 
 -- ---- what the pass finds
 
 pub known-found : (j : Judged) (ds : List Device) → (judged_from j ds).known ≡ (j.known && all_known ds)
-unfolding judged_from
 known-found j [] = sym (and-true j.known)
 known-found j (d ∷ ds) = known-found (judged_with j d) ds ∙ and_assoc j.known (known d.registers.part) (all_known ds)
 
 pub fits-found : (j : Judged) (ds : List Device) → (judged_from j ds).fits ≡ (j.fits && all_fit ds)
-unfolding judged_from
 fits-found j [] = sym (and-true j.fits)
 fits-found j (d ∷ ds) = fits-found (judged_with j d) ds ∙ and_assoc j.fits (fits d) (all_fit ds)
 
 -- after a first record: the rest are of its part
-same_after : (j : Judged) (ds : List Device) → j.some ≡ true → (judged_from j ds).same ≡ (j.same && every (has_part j.part) ds)
-unfolding judged_from
-same_after j [] e = sym (and-true j.same)
-same_after j (d ∷ ds) e =
-    same_after (judged_with j d) ds refl
-    ∙ ap (λ (b : Bool). (j.same && cond b (has_part j.part d) true) && every (has_part (cond b j.part d.registers.part)) ds) e
-    ∙ and_assoc j.same (has_part j.part d) (every (has_part j.part) ds)
+same_after : (j : Judged) (n : ℕ) (ds : List Device) → j.part ≡ Some n → (judged_from j ds).same ≡ (j.same && every (has_part n) ds)
+same_after j n [] e = sym (and-true j.same)
+same_after j n (d ∷ ds) e =
+    same_after (judged_with j d) n ds (ap (λ (p : Option ℕ). option_or p (Some d.registers.part)) e)
+    ∙ ap (λ (p : Option ℕ). (j.same && is_alike p d) && every (has_part n) ds) e
+    ∙ and_assoc j.same (has_part n d) (every (has_part n) ds)
 
 pub same-found : (ds : List Device) → (judged_from unjudged ds).same ≡ same_parts ds
-unfolding judged_from
 same-found [] = refl
-same-found (d ∷ ds) = same_after (judged_with unjudged d) ds refl
+same-found (d ∷ ds) = same_after (judged_with unjudged d) d.registers.part ds refl
 
 -- the first record's part stays
-part-after : (j : Judged) (ds : List Device) → j.some ≡ true → (judged_from j ds).part ≡ j.part
-unfolding judged_from
-part-after j [] e = refl
-part-after j (d ∷ ds) e = part-after (judged_with j d) ds refl ∙ ap (λ (b : Bool). cond b j.part d.registers.part) e
+part-after : (j : Judged) (n : ℕ) (ds : List Device) → j.part ≡ Some n → (judged_from j ds).part ≡ Some n
+part-after j n [] e = e
+part-after j n (d ∷ ds) e = part-after (judged_with j d) n ds (ap (λ (p : Option ℕ). option_or p (Some d.registers.part)) e)
 
-pub part-found : (ds : List Device) → (judged_from unjudged ds).part ≡ (get_or ds 0 blank).registers.part
-unfolding judged_from
-part-found [] = refl
-part-found (d ∷ ds) = part-after (judged_with unjudged d) ds refl
+pub part-found : (d : Device) (ds : List Device) → (judged_from unjudged (d ∷ ds)).part ≡ Some d.registers.part
+part-found d ds = part-after (judged_with unjudged d) d.registers.part ds refl

@@ -1,5 +1,7 @@
 -- The judgement of a lent chain in one pass over its records. That it finds what the tests of calls/specs/Chain say is in proofs/Pass.
-use Rattle.std.specs.Prelude.{true, false, ◌&&◌, cond, List, [], ◌∷◌}
+use Rattle.std.specs.Prelude.{true, ◌&&◌, Option, None, Some, ℕ, Bool, List}
+use Rattle.std.specs.Option.{option_or}
+use Rattle.std.specs.List.{fold}
 use Rattle.parts.specs.Parts.{known}
 use Rattle.device.specs.Judgement.{fits}
 use Rattle.device.specs.declared.device.Device.{Device}
@@ -8,20 +10,23 @@ use Rattle.judgement.specs.declared.judging.Judged.{Judged}
 
 -- before the first record
 abbrev pub unjudged : Judged
-unjudged = record { some = false; part = 0; known = true; same = true; fits = true }
+unjudged = record { part = None; known = true; same = true; fits = true }
+
+-- a record is of the first one's part
+abbrev pub is_alike : Option ℕ → Device → Bool
+is_alike None d = true
+is_alike (Some first) d = has_part first d
 
 -- one record more: its part is the first one's
 abbrev pub judged_with : Judged → Device → Judged
 judged_with j d =
     record {
-      some = true;
-      part = cond j.some j.part d.registers.part;
+      part = option_or j.part (Some d.registers.part);
       known = j.known && known d.registers.part;
-      same = j.same && cond j.some (has_part j.part d) true;
+      same = j.same && is_alike j.part d;
       fits = j.fits && fits d;
     }
 
 -- all records
-unfoldable pub judged_from : Judged → List Device → Judged
-judged_from j [] = j
-judged_from j (d ∷ ds) = judged_from (judged_with j d) ds
+abbrev pub judged_from : Judged → List Device → Judged
+judged_from j ds = fold judged_with j ds

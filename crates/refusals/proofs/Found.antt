@@ -1,13 +1,12 @@
 -- By what one pass over the records finds, each call's refusal is the one that calls/specs/Calls gives it: the pass finds what the tests of a
--- chain say (judgement/proofs/Pass), so the rows are the same, test by test. Then the test of the room without a sum.
-use mathlib.Core.Path.{◌≡◌, refl, ap, sym, ◌∙◌}
-use mathlib.Core.Bool.{Bool, true, false, not, ◌&&◌}
+-- chain say (judgement/proofs/Pass), so the rows are the same, test by test.
+use mathlib.Core.Path.{◌≡◌, refl, ap, ◌∙◌}
+use mathlib.Core.Bool.{Bool, not, ◌&&◌}
 use mathlib.Core.List.{List, [], ◌∷◌, ◌++◌}
-use Prim.Native.Nat.{ℕ, ◌+◌, ◌-◌, ◌<◌, ◌≤◌}
-use native.Mathlib.Omega.{arith}
+use Prim.Native.Nat.{ℕ}
 use lib.Dec.{ltb, leb}
 use lib.ListN.{length, get_or}
-use borrow.Author.Tests.{ltb-true, ltb-false, lt-ltb, le-ltb}
+use Rattle.std.specs.Prelude.{Option}
 use Rattle.parts.specs.Parts.{known, part_of, outputs, is_count}
 use Rattle.tables.specs.Refusals.{Row, ◌when◌, first}
 use Rattle.tables.specs.Lists.{all_below}
@@ -15,7 +14,7 @@ use Rattle.device.specs.declared.device.Device.{Device}
 use Rattle.calls.specs.Chain.{all_known, same_parts, all_fit, blank}
 use Rattle.calls.specs.Calls.{room_for, chain_rows, fresh_table, fresh_refusal, run_refusal, fault_refusal}
 use Rattle.judgement.specs.Judging.{unjudged, judged_from}
-use Rattle.refusals.specs.Rows.{judged_rows, run_rows, is_device, fault_rows, output_rows}
+use Rattle.refusals.specs.Rows.{judged_rows, run_rows, is_device, has_output, fault_rows, output_rows}
 use Rattle.tables.proofs.Booleans.{and_assoc}
 use Rattle.judgement.proofs.Pass.{known-found, fits-found, same-found, part-found}
 
@@ -45,26 +44,15 @@ fault-refusal-found ds device kind =
     rows-found ds (λ b. (13 when not (is_device (length ds) device && (ltb kind 2 && b))) ∷ [])
     ∙ ap (λ (b : Bool). first (chain_rows ds ++ (13 when not b) ∷ [])) (and_assoc (leb 1 device) (leb device (length ds)) (ltb kind 2 && all_fit ds))
 
--- the rows of a question about an output, with the first record's part
+-- the rows of a question about an output, with the first record's part: without a record number 2 is given before it is asked for
 pub output-refusal-found : (ds : List Device) (device output : ℕ)
     → first (output_rows (judged_from unjudged ds) (length ds) device output)
     ≡ first (chain_rows ds
     ++ (13 when not (leb 1 device && (leb device (length ds) && (ltb output (outputs (part_of (get_or ds 0 blank).registers.part)) && all_fit ds)))) ∷ [])
-output-refusal-found ds device output =
-    rows-found ds (λ b. (13 when not (is_device (length ds) device && (ltb output (outputs (part_of (judged_from unjudged ds).part)) && b))) ∷ [])
-    ∙ ap (λ (n : ℕ). first (chain_rows ds ++ (13 when not (is_device (length ds) device && (ltb output (outputs (part_of n)) && all_fit ds))) ∷ []))
-    (part-found ds)
-    ∙ ap (λ (b : Bool). first (chain_rows ds ++ (13 when not b) ∷ []))
-    (and_assoc (leb 1 device) (leb device (length ds)) (ltb output (outputs (part_of (get_or ds 0 blank).registers.part)) && all_fit ds))
-
--- ---- room for n + 23, with no sum
-
-pub room_small : (n room : ℕ) → room < 23 → true ≡ ltb room (room_for n)
-room_small n room h = sym (lt-ltb room (n + 23) (omega (arith, h)))
-
-pub room-test : (n room : ℕ) → 23 ≤ room → ltb (room - 23) n ≡ ltb room (room_for n)
-room-test n room h = go (ltb room (n + 23)) refl
-  where
-    go : (t : Bool) → ltb room (n + 23) ≡ t → ltb (room - 23) n ≡ t
-    go true e = let f : room < n + 23 = ltb-true room (n + 23) e in lt-ltb (room - 23) n (omega (arith, f, h))
-    go false e = let f : n + 23 ≤ room = ltb-false room (n + 23) e in le-ltb (room - 23) n (omega (arith, f, h))
+output-refusal-found [] device output = refl
+output-refusal-found (d ∷ ds) device output =
+    rows-found (d ∷ ds) (λ b. (13 when not (is_device (length (d ∷ ds)) device && (has_output (judged_from unjudged (d ∷ ds)).part output && b))) ∷ [])
+    ∙ ap (λ (p : Option ℕ). first (chain_rows (d ∷ ds) ++ (13 when not (is_device (length (d ∷ ds)) device && (has_output p output && all_fit (d ∷ ds)))) ∷ []))
+    (part-found d ds)
+    ∙ ap (λ (b : Bool). first (chain_rows (d ∷ ds) ++ (13 when not b) ∷ []))
+    (and_assoc (leb 1 device) (leb device (length (d ∷ ds))) (ltb output (outputs (part_of d.registers.part)) && all_fit (d ∷ ds)))

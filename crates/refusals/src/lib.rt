@@ -3,4 +3,4 @@
 
 mod refusals;
 
-pub use refusals::{fault_refusal, fresh_refusal, output_refusal, run_refusal};
+pub use refusals::{judge_fault, judge_fresh, judge_output, judge_run};

@@ -23,10 +23,10 @@ pub extern "C" fn bb_pack(values: &[u16], width: u32, out: &mut [u8], at: usize)
     of_packed(packed)
 }
 
-fn of_packed(packed: packing::Packed) -> Packed
+fn of_packed(packed: Option<usize>) -> Packed
     ensures { result ≡ of_packed packed }
 {
-    let packing::Packed::Bytes(n) = packed else {
+    let Some(n) = packed else {
         return Packed { bytes: 0, done: 0 };
     };
     Packed {

@@ -4,20 +4,19 @@ use Prim.Native.Nat.{ℕ, ◌+◌, ◌*◌, ◌≤◌}
 use native.Mathlib.Omega.{arith}
 use Rattle.bits.specs.Bits.{bytes_for}
 use Rattle.packing.specs.Packing.{packed}
-use Rattle.packing.specs.declared.packing.Packed.{Packed}
-use Rattle.packing.specs.declared.packing.Packed.TheVariants as P
+use Rattle.std.specs.Prelude.{Option, Some, None}
 use Rattle.bits.proofs.Fits.{room_fits-within}
 use Rattle.packing.proofs.Answers.{packed-room_fits}
 
-module _ (widest w n at room : ℕ) (narrow : w ≤ widest) (wide : at + bytes_for (n * w) ≤ room) {r : Packed} (e : r ≡ packed widest w n at room) where
-  put : r ≡ P.Bytes (bytes_for (n * w))
+module _ (widest w n at room : ℕ) (narrow : w ≤ widest) (wide : at + bytes_for (n * w) ≤ room) {r : Option ℕ} (e : r ≡ packed widest w n at room) where
+  put : r ≡ Some (bytes_for (n * w))
   put = e ∙ packed-room_fits widest w n at room (room_fits-within widest w n at room narrow wide)
 
-  pub packed-bytes : {k : ℕ} → r ≡ P.Bytes k → k ≡ bytes_for (n * w)
-  packed-bytes {k} f = let g : P.Bytes k ≡ P.Bytes (bytes_for (n * w)) = sym f ∙ put in cc
+  pub packed-bytes : {k : ℕ} → r ≡ Some k → k ≡ bytes_for (n * w)
+  packed-bytes {k} f = let g : Some k ≡ Some (bytes_for (n * w)) = sym f ∙ put in cc
 
-  pub packed-given : r ≡ P.Refused → ⊥
+  pub packed-given : r ≡ None → ⊥
   packed-given f =
-      let g : P.Refused ≡ P.Bytes (bytes_for (n * w)) = sym f ∙ put in
+      let g : None ≡ Some (bytes_for (n * w)) = sym f ∙ put in
       let z : ◌≡◌ {A = ℕ} 0 1 = cc in
       omega arith

@@ -2,14 +2,12 @@
 ghost use Rattle.std.specs.Prelude.{◌≡◌, ◌+◌, ◌*◌, ◌≤◌, length, replicate};
 ghost use Rattle.bits.specs.Bits.{bits, fields, bytes_of, bytes_for, over_at};
 
-use packing::Packed;
-
 // The `width` low bits of a number, with zeros up to the last byte's end.
 pub fn put_number(value: u64, width: u32, out: &mut [u8], at: usize) -> usize
     requires { (width ≤ 64) × (at + bytes_for width ≤ length out.old) }
     ensures { (out.new ≡ over_at at (bytes_of (bits width value)) out.old) × (result ≡ at + bytes_for width) }
 {
-    let Packed::Bytes(n) = packing::pack_number(value, width, out, at) else {
+    let Some(n) = packing::pack_number(value, width, out, at) else {
         return at;
     };
     at + n
@@ -21,7 +19,7 @@ pub fn put_values(values: &[u16], width: u32, out: &mut [u8], at: usize) -> usiz
     ensures { (out.new ≡ over_at at (bytes_of (fields width values.now)) out.old)
         × (result ≡ at + bytes_for (length values.now * width)) }
 {
-    let Packed::Bytes(n) = packing::pack(values, width, out, at) else {
+    let Some(n) = packing::pack(values, width, out, at) else {
         return at;
     };
     at + n

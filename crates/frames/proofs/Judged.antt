@@ -1,17 +1,16 @@
 -- What is judged of any bytes, where their length is that of the frame: the field that was asked for, and the rows without those that
--- refuse another length. Then a field by the answer of `bits`. Assumes nothing.
-use mathlib.Core.Path.{◌≡◌, refl, sym, ◌∙◌}
+-- refuse another length. Then a field by the answer of `unpacking`. Assumes nothing.
+use mathlib.Core.Path.{◌≡◌, refl}
 use mathlib.Core.Bool.{Bool, true, false, ◌&&◌, cond}
 use mathlib.Core.List.{List}
 use Prim.Native.Nat.{ℕ, ◌+◌, ◌*◌, ◌≤◌}
-use native.Mathlib.Omega.{arith}
 use lib.Dec.{leb}
 use lib.ListN.{length}
 use borrow.Author.Tests.{le-leb, le-ltb, eq-eqb}
 use Rattle.bits.specs.Bits.{fields, bytes_for}
 use Rattle.unpacking.specs.Unpacking.{number_at}
-use Rattle.unpacking.specs.declared.unpacking.Number.{Number}
-use Rattle.unpacking.specs.declared.unpacking.Number.TheVariants as N
+use Rattle.std.specs.Prelude.{Some, None}
+use Rattle.std.specs.Option.{unwrap_or}
 use Rattle.tables.specs.Refusals.{first}
 use Rattle.parts.specs.declared.command.Command.{Command}
 use Rattle.frames.specs.Frames.{field, field_at, head_rows, end_rows, head_table, end_table}
@@ -32,21 +31,12 @@ pub end-rows : (at : ℕ) (tail : Tail) (frame : List ℕ) → tail.length ≤ 6
 unfolding end_table
 end-rows at tail frame short long = rw (le-ltb 64 tail.length short, eq-eqb (length frame) (bytes_for (at + tail.length)) long)
 
--- ---- a field, by the answer of `bits`
+-- ---- a field, by the answer of `unpacking`
 
-value_of : (t : Bool) (x v : ℕ) → N.Value v ≡ cond t (N.Value x) N.Refused → v ≡ cond t x 0
-value_of true x v e = cc
-value_of false x v e = let z : ◌≡◌ {A = ℕ} 0 1 = cc in absurd (omega arith)
+value_or_zero : (t : Bool) (x : ℕ) → unwrap_or (cond t (Some x) None) 0 ≡ cond t x 0
+value_or_zero true x = refl
+value_or_zero false x = refl
 
-none_of : (t : Bool) (x : ℕ) → N.Refused ≡ cond t (N.Value x) N.Refused → 0 ≡ cond t x 0
-none_of true x e = let z : ◌≡◌ {A = ℕ} 0 1 = cc in absurd (omega arith)
-none_of false x e = refl
-
-module _ (at n : ℕ) (frame : List ℕ) {r : Number} (e : r ≡ number_at at n frame) where
-  pub number-given : {v : ℕ} → r ≡ N.Value v → v ≡ field_at at n frame
-  unfolding number_at field_at
-  number-given {v} f = value_of (leb n 64 && leb (at + n) (8 * length frame)) (field at n (fields 8 frame)) v (sym f ∙ e)
-
-  pub number-refused : r ≡ N.Refused → 0 ≡ field_at at n frame
-  unfolding number_at field_at
-  number-refused f = none_of (leb n 64 && leb (at + n) (8 * length frame)) (field at n (fields 8 frame)) (sym f ∙ e)
+pub number-or-zero : (at n : ℕ) (frame : List ℕ) → unwrap_or (number_at at n frame) 0 ≡ field_at at n frame
+unfolding number_at field_at
+number-or-zero at n frame = value_or_zero (leb n 64 && leb (at + n) (8 * length frame)) (field at n (fields 8 frame))

@@ -2,14 +2,9 @@
 ghost use Rattle.std.specs.Prelude.{◌≡◌};
 ghost use Rattle.frames.specs.Frames.{field_at};
 
-use unpacking::Number;
-
 // The number of the `width` bits from the bit `at` on: 0 where the frame does not have them.
 pub fn field_at(frame: &[u8], at: usize, width: u32) -> u64
     ensures { result ≡ field_at at width frame.now }
 {
-    let Number::Value(value) = unpacking::number_at(frame, at, width) else {
-        return 0;
-    };
-    value
+    unpacking::number_at(frame, at, width).unwrap_or(0)
 }

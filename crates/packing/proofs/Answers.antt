@@ -6,13 +6,13 @@ use Prim.Native.Nat.{ℕ, ◌*◌}
 use lib.ListN.{length}
 use Rattle.bits.specs.Bits.{fields, bytes_of, bytes_for, over_at, room_fits}
 use Rattle.packing.specs.Packing.{packed, packed_out}
-use Rattle.packing.specs.declared.packing.Packed.TheVariants as P
+use Rattle.std.specs.Prelude.{Some, None}
 
-pub packed-room_fits : (widest w n at room : ℕ) → room_fits widest w n at room ≡ true → packed widest w n at room ≡ P.Bytes (bytes_for (n * w))
+pub packed-room_fits : (widest w n at room : ℕ) → room_fits widest w n at room ≡ true → packed widest w n at room ≡ Some (bytes_for (n * w))
 unfolding packed
 packed-room_fits widest w n at room e = rw e
 
-pub packed-refused : (widest w n at room : ℕ) → room_fits widest w n at room ≡ false → packed widest w n at room ≡ P.Refused
+pub packed-refused : (widest w n at room : ℕ) → room_fits widest w n at room ≡ false → packed widest w n at room ≡ None
 unfolding packed
 packed-refused widest w n at room e = rw e
 

@@ -9,7 +9,7 @@ use lib.ListN.{length, get_or, take, drop, replicate, length-append, length-drop
 use lib.Seq.{length-take-le, take_all, drop-drop}
 use Rattle.bits.specs.Bits.{bits, fields, bytes_of, bytes_for, over, over_at, room_fits}
 use Rattle.packing.specs.Packing.{packed, packed_out}
-use Rattle.packing.specs.declared.packing.Packed.TheVariants as P
+use Rattle.std.specs.Prelude.{Some, None}
 use Rattle.packing.specs.Writing.{written_bits, Pushed}
 use Rattle.packing.specs.Blocks.{Laid}
 use Rattle.packing.specs.declared.writer.Writer.{Writer}
@@ -54,18 +54,18 @@ module _ (widest w : ℕ) (vs : List ℕ) (at : ℕ) where
       → from ≡ at + n → 8 * n + m ≡ length vs * w → cs ++ bs ≡ fields w vs → Laid old before at n (at + bytes_for (length vs * w)) cs
       → Pushed before mid (start from) q m bs → Pushed mid after q r k (bits k 0) → k < 8 → r.have ≡ 0 → length after ≡ length old
       → ((i : ℕ) → get_or old i 0 < 256) → ((i : ℕ) → get_or after i 0 < 256)
-      → (P.Bytes (r.at - at) ≡ packed widest w (length vs) at (length old)) × (after ≡ packed_out widest w vs at old)
+      → (Some (r.at - at) ≡ packed widest w (length vs) at (length old)) × (after ≡ packed_out widest w vs at old)
   packed-run {old} {before} {mid} {after} {q} {r} {n} {from} {m} {k} {cs} {bs} e here long both laid d f fewer none same b b' =
       let room = room_fits-room widest w (length vs) at (length old) e in
       let inside : at ≤ length old = omega arith in
       let end : r.at ≡ at + bytes_for (length vs * w) = omega (arith, closed-count inside here laid d f fewer none) in
       let bytes : r.at - at ≡ bytes_for (length vs * w) = omega arith in (
-        ap P.Bytes bytes ∙ sym (packed-room_fits widest w (length vs) at (length old) e),
+        ap Some bytes ∙ sym (packed-room_fits widest w (length vs) at (length old) e),
         closed inside here laid d f fewer none end (omega arith) b b' ∙ ap (λ (z : List Bool). over_at at (bytes_of z) old) both ∙ sym (packed_out-room_fits widest w vs at old e),
       )
 
   pub packed_none : (before : List ℕ) → room_fits widest w (length vs) at (length before) ≡ false
-      → (P.Refused ≡ packed widest w (length vs) at (length before)) × (before ≡ packed_out widest w vs at before)
+      → (None ≡ packed widest w (length vs) at (length before)) × (before ≡ packed_out widest w vs at before)
   packed_none before e = (sym (packed-refused widest w (length vs) at (length before) e), sym (packed_out-refused widest w vs at before e))
 
 -- ---- k values and the others

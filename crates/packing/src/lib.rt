@@ -7,4 +7,4 @@ mod groups; // four values at once
 mod packing; // the public operations
 mod writer; // bits put into bytes
 
-pub use packing::{Packed, pack, pack_number};
+pub use packing::{pack, pack_number};

@@ -5,22 +5,14 @@ ghost use Rattle.packing.specs.Packing.{packed, packed_out};
 
 use super::{blocks, groups, writer};
 
-// What packing answers.
-#[derive(Clone, Copy)]
-pub enum Packed {
-    // so many bytes are written
-    Bytes(usize),
-    // the width is too large or the bytes are too few: nothing is changed
-    Refused,
-}
-
 // The low `width` bits of each of `values` from the byte `at` of `out` on, with zeros up to the last byte's end.
-pub fn pack(values: &[u16], width: u32, out: &mut [u8], at: usize) -> Packed
+// The answer is how many bytes are written; it is none where the width is too large or the bytes are too few, and then nothing is changed.
+pub fn pack(values: &[u16], width: u32, out: &mut [u8], at: usize) -> Option<usize>
     ensures value { result ≡ packed 16 width (length values.now) at (length out.old) }
     ensures out_after { out.new ≡ packed_out 16 width values.now at out.old }
 {
     if !bits::has_room(16, width, values.len(), at, out.len()) {
-        return Packed::Refused;
+        return None;
     }
     let done = blocks::put_blocks(out, at, width, values);
     let start = writer::Writer {
@@ -30,16 +22,16 @@ pub fn pack(values: &[u16], width: u32, out: &mut [u8], at: usize) -> Packed
     };
     let last = groups::push_all(out, start, width, &values[done..]);
     let end = writer::finish(out, last);
-    Packed::Bytes(end.at - at)
+    Some(end.at - at)
 }
 
 // The same for one number of up to 64 bits.
-pub fn pack_number(value: u64, width: u32, out: &mut [u8], at: usize) -> Packed
+pub fn pack_number(value: u64, width: u32, out: &mut [u8], at: usize) -> Option<usize>
     ensures value { result ≡ packed 64 width 1 at (length out.old) }
     ensures out_after { out.new ≡ packed_out 64 width (value ∷ []) at out.old }
 {
     if !bits::has_room(64, width, 1, at, out.len()) {
-        return Packed::Refused;
+        return None;
     }
     let start = writer::Writer {
         at,
@@ -48,5 +40,5 @@ pub fn pack_number(value: u64, width: u32, out: &mut [u8], at: usize) -> Packed
     };
     let last = writer::push_wide(out, start, width, value);
     let end = writer::finish(out, last);
-    Packed::Bytes(end.at - at)
+    Some(end.at - at)
 }

@@ -7,4 +7,4 @@ mod groups; // four values at once
 mod reader; // bits taken out of bytes
 mod unpacking; // the public operations
 
-pub use unpacking::{Number, number_at, unpack};
+pub use unpacking::{number_at, unpack};

@@ -5,14 +5,6 @@ ghost use Rattle.unpacking.specs.Unpacking.{unpacked, unpacked_out, number_at};
 
 use super::{blocks, groups, reader};
 
-// What reading one number answers.
-#[derive(Clone, Copy)]
-pub enum Number {
-    Value(u64),
-    // the width is too large or the bits are too few
-    Refused,
-}
-
 // All of `values` is filled with numbers of `width` bits each, from the byte `at` of `src` on, where there are so many.
 pub fn unpack(src: &[u8], at: usize, width: u32, values: &mut [u16]) -> bool
     ensures value { result ≡ unpacked width (length values.old) at (length src.now) }
@@ -27,17 +19,17 @@ pub fn unpack(src: &[u8], at: usize, width: u32, values: &mut [u16]) -> bool
     true
 }
 
-// The number of the `width` bits, up to 64, from the bit `at` of `src` on.
-pub fn number_at(src: &[u8], at: usize, width: u32) -> Number
+// The number of the `width` bits, up to 64, from the bit `at` of `src` on; none where the width is larger or the bits are too few.
+pub fn number_at(src: &[u8], at: usize, width: u32) -> Option<u64>
     ensures { result ≡ number_at at width src.now }
 {
     if 64 < width {
-        return Number::Refused;
+        return None;
     }
     let first = at / 8;
     let skipped = (at % 8) as u32;
     if src.len() < first + ((skipped + width + 7) / 8) as usize {
-        return Number::Refused;
+        return None;
     }
     let start = reader::Reader {
         at: first,
@@ -47,5 +39,5 @@ pub fn number_at(src: &[u8], at: usize, width: u32) -> Number
     let before = reader::pull(src, start, skipped);
     let here = before.reader;
     let found = reader::pull_wide(src, here, width);
-    Number::Value(found.value)
+    Some(found.value)
 }

@@ -24,7 +24,7 @@ overflow_add-result c = let pack-number = c.pack_number in
     let s = c in
     let a = s.args in
     let room = length a.out.now in
-    omega (arith, one-mul a.width, answers.packed-bytes 64 a.width 1 a.at room s.requires.0 (omega (arith, one-mul a.width)) pack-number.ensures.value c.in-Bytes.is)
+    omega (arith, one-mul a.width, answers.packed-bytes 64 a.width 1 a.at room s.requires.0 (omega (arith, one-mul a.width)) pack-number.ensures.value c.in-Some.is)
 
 pub returns : goal.returns
 returns c = let pack-number = c.pack_number in
@@ -36,6 +36,6 @@ returns c = let pack-number = c.pack_number in
           (room_fits-within 64 a.width 1 a.at (length out) s.requires.0 (omega (arith, one-mul a.width)))
           ∙ ap (λ (z : List Bool). over_at a.at (bytes_of z) out) (bit.fields-one a.width a.value),
       ap (λ (k : ℕ). a.at + k)
-          (answers.packed-bytes 64 a.width 1 a.at (length out) s.requires.0 (omega (arith, one-mul a.width)) pack-number.ensures.value c.in-Bytes.is
+          (answers.packed-bytes 64 a.width 1 a.at (length out) s.requires.0 (omega (arith, one-mul a.width)) pack-number.ensures.value c.in-Some.is
           ∙ ap bytes_for (one-mul a.width)),
     )

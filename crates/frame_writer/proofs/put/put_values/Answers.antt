@@ -18,7 +18,7 @@ pub overflow_add-result : goal.overflow_add-result
 overflow_add-result c = let pack = c.pack in
     let s = c in
     let a = s.args in
-    omega (arith, answers.packed-bytes 16 a.width (length a.values.now) a.at (length a.out.now) s.requires.0 s.requires.1 pack.ensures.value c.in-Bytes.is)
+    omega (arith, answers.packed-bytes 16 a.width (length a.values.now) a.at (length a.out.now) s.requires.0 s.requires.1 pack.ensures.value c.in-Some.is)
 
 pub returns : goal.returns
 returns c = let pack = c.pack in
@@ -27,5 +27,5 @@ returns c = let pack = c.pack in
       pack.ensures.out_after ∙ packed_out-room_fits 16 a.width a.values.now a.at a.out.now
           (room_fits-within 16 a.width (length a.values.now) a.at (length a.out.now) s.requires.0 s.requires.1),
       ap (λ (k : ℕ). a.at + k)
-          (answers.packed-bytes 16 a.width (length a.values.now) a.at (length a.out.now) s.requires.0 s.requires.1 pack.ensures.value c.in-Bytes.is),
+          (answers.packed-bytes 16 a.width (length a.values.now) a.at (length a.out.now) s.requires.0 s.requires.1 pack.ensures.value c.in-Some.is),
     )

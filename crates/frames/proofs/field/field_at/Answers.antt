@@ -1,11 +1,9 @@
--- The answer of `bits` is a refusal exactly where the frame does not have the bits.
+-- The answer of `unpacking` is none exactly where the frame does not have the bits.
+use mathlib.Core.Path.{ap, ◌∙◌}
+use Rattle.std.specs.Option.{unwrap_or}
 use Rattle.frames.proofs.Judged as judged
 use Rattle.frames.proofs.field.field_at.Goals as goal
 
-pub returns-in_default : goal.returns-in_default
-returns-in_default c = let a = c.args in
-    judged.number-refused a.at a.width a.frame.now c.number_at.ensures c.in_default.is
-
 pub returns : goal.returns
 returns c = let a = c.args in
-    judged.number-given a.at a.width a.frame.now c.number_at.ensures c.in-Value.is
+    c.unwrap_or.ensures ∙ ap (λ r. unwrap_or r 0) c.number_at.ensures ∙ judged.number-or-zero a.at a.width a.frame.now

@@ -1,26 +1,19 @@
 -- What is judged of any bytes, where their length is that of the frame: the field that was asked for, and the rows without those that
--- refuse another length. Then a field by the answer of `unpacking`. Assumes nothing.
-use mathlib.Core.Path.{◌≡◌, refl}
-use mathlib.Core.Bool.{Bool, true, false, ◌&&◌, cond}
+-- refuse another length. Assumes nothing.
+use mathlib.Core.Path.{◌≡◌}
 use mathlib.Core.List.{List}
 use Prim.Native.Nat.{ℕ, ◌+◌, ◌*◌, ◌≤◌}
-use lib.Dec.{leb}
 use lib.ListN.{length}
 use borrow.Author.Tests.{le-leb, le-ltb, eq-eqb}
 use Rattle.bits.specs.Bits.{fields, bytes_for}
-use Rattle.unpacking.specs.Unpacking.{number_at}
-use Rattle.std.specs.Prelude.{Some, None}
-use Rattle.std.specs.Option.{unwrap_or}
 use Rattle.tables.specs.Refusals.{first}
 use Rattle.parts.specs.declared.command.Command.{Command}
 use Rattle.frames.specs.Frames.{field, field_at, head_rows, end_rows, head_table, end_table}
 use Rattle.frames.specs.declared.told.Tail.{Tail}
 
--- ---- a frame of its length
-
-pub field-within : (at n : ℕ) (frame : List ℕ) → n ≤ 64 → at + n ≤ 8 * length frame → field_at at n frame ≡ field at n (fields 8 frame)
+pub field_within : (at n : ℕ) (frame : List ℕ) → n ≤ 64 → at + n ≤ 8 * length frame → field_at at n frame ≡ field at n (fields 8 frame)
 unfolding field_at
-field-within at n frame narrow room = rw (le-leb n 64 narrow, le-leb (at + n) (8 * length frame) room)
+field_within at n frame narrow room = rw (le-leb n 64 narrow, le-leb (at + n) (8 * length frame) room)
 
 pub head_rows_lem : (c : Command) (frame : List ℕ) → 3 ≤ length frame → first (head_table c frame) ≡ first (head_rows c (fields 8 frame))
 unfolding head_table
@@ -30,13 +23,3 @@ pub end-rows : (at : ℕ) (tail : Tail) (frame : List ℕ) → tail.length ≤ 6
     → first (end_table at tail frame) ≡ first (end_rows at tail (fields 8 frame))
 unfolding end_table
 end-rows at tail frame short long = rw (le-ltb 64 tail.length short, eq-eqb (length frame) (bytes_for (at + tail.length)) long)
-
--- ---- a field, by the answer of `unpacking`
-
-value_or_zero : (t : Bool) (x : ℕ) → unwrap_or (cond t (Some x) None) 0 ≡ cond t x 0
-value_or_zero true x = refl
-value_or_zero false x = refl
-
-pub number-or-zero : (at n : ℕ) (frame : List ℕ) → unwrap_or (number_at at n frame) 0 ≡ field_at at n frame
-unfolding number_at field_at
-number-or-zero at n frame = value_or_zero (leb n 64 && leb (at + n) (8 * length frame)) (field at n (fields 8 frame))

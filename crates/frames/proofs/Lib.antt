@@ -5,5 +5,4 @@ pub mod Copies
 pub mod Lengths
 pub mod Pieces
 pub mod Judged
-pub mod Rowed
 pub mod Accepted

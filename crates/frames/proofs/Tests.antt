@@ -2,17 +2,15 @@
 use mathlib.Core.Path.{◌≡◌, refl, sym, ap, ◌∙◌}
 use mathlib.Core.Bool.{Bool, true, false, not, ◌&&◌}
 use mathlib.Core.List.{List, [], ◌∷◌}
-use Prim.Native.Nat.{ℕ, zero, suc, ◌*◌, ◌/◌, ◌^◌, ◌<◌, ◌≤◌}
-use native.Mathlib.Nat.{div-lt_iff_lt-mul, div-eq_of_lt}
+use Prim.Native.Nat.{ℕ, zero, suc, ◌%◌, ◌^◌, ◌<◌, ◌≤◌}
+use native.Mathlib.Nat.{mod-lt, mod-eq_of_lt}
 use native.Mathlib.Omega.{arith}
-use lib.Dec.{ltb, leb}
+use lib.Dec.{eqb, ltb, leb}
 use lib.Pow.{pow_pos}
 use lib.ListN.{length, get_or, replicate, length-replicate, get_or-replicate}
-use borrow.Author.Tests.{le-leb, lt-leb, lt-ltb, le-ltb, ltb-true, ltb-false}
+use borrow.Author.Tests.{le-leb, lt-leb, lt-ltb, eq-eqb, ne_eqb, ltb-true, ltb-false}
 use Rattle.tables.specs.Lists.{all_below}
 use Rattle.tables.proofs.Booleans.{and_left, and_right}
-use Rattle.frames.specs.Frames.{tail_high}
-use Rattle.frames.specs.declared.told.Tail.{Tail}
 
 pub leb-not : (a b : ℕ) → leb a b ≡ not (ltb b a)
 leb-not a b = at (ltb b a) refl where
@@ -46,22 +44,9 @@ below-replicate n b m z h i = at (ltb i n) refl where
 
 -- ---- a tail
 
--- a shift right leaves something exactly when bits stand above the length
-pub tail-high : (tail : Tail) → ltb 0 (tail.number / 2 ^ tail.length) ≡ tail_high tail
-tail-high tail = at (ltb v (2 ^ w)) refl where
-  v : ℕ
-  v = tail.number
-
-  w : ℕ
-  w = tail.length
-
-  some : (d : Bool) → ltb 0 (v / 2 ^ w) ≡ d → 2 ^ w ≤ v → d ≡ true
-  some true f l = refl
-  some false f l =
-      let z : v / 2 ^ w < 1 = omega (arith, ltb-false 0 (v / 2 ^ w) f) in
-      let u : v < 1 * 2 ^ w = (div-lt_iff_lt-mul {k = 2 ^ w} {x = v} {y = 1} (pow_pos w)).0 z in
-      absurd (omega arith)
-
-  at : (b : Bool) → ltb v (2 ^ w) ≡ b → ltb 0 (v / 2 ^ w) ≡ not (ltb v (2 ^ w))
-  at true e = le-ltb 0 (v / 2 ^ w) (omega (arith, div-eq_of_lt (ltb-true v (2 ^ w) e))) ∙ sym (ap not e)
-  at false e = some (ltb 0 (v / 2 ^ w)) refl (ltb-false v (2 ^ w) e) ∙ sym (ap not e)
+-- the low bits are another number exactly when bits stand above the length
+pub above_length : (v w : ℕ) → not (eqb (v % 2 ^ w) v) ≡ not (ltb v (2 ^ w))
+above_length v w = at (ltb v (2 ^ w)) refl where
+  at : (d : Bool) → ltb v (2 ^ w) ≡ d → not (eqb (v % 2 ^ w) v) ≡ not (ltb v (2 ^ w))
+  at true e = rw (e, mod-eq_of_lt (ltb-true v (2 ^ w) e), eq-eqb v v refl)
+  at false e = rw (e, ne_eqb (v % 2 ^ w) v (λ q. omega (arith, q, ltb-false v (2 ^ w) e, mod-lt v (pow_pos w))))

@@ -31,7 +31,7 @@ returns-then-devices-field_at c =
     let head' : let a = c.args in c.judge_head-head.result ≡ first (head_rows a.command (fields 8 a.frame.now)) = let a = c.args in
     c.judge_head-head.ensures ∙ judged.head_rows_lem a.command a.frame.now (omega (arith, c.if-frame-tail.false)) in
     let count' : c.field_at.result ≡ field 14 10 (fields 8 c.args.frame.now) = let a = c.args in
-    c.field_at.ensures ∙ judged.field-within 14 10 a.frame.now (omega arith) (omega (arith, c.if-frame-tail.false)) in
+    c.field_at.ensures ∙ judged.field_within 14 10 a.frame.now (omega arith) (omega (arith, c.if-frame-tail.false)) in
     let a = c.args in
     let bs = fields 8 a.frame.now in
     rows.no 4 (rows.agrees refl refl c.if-frame-tail.false)
@@ -44,7 +44,7 @@ returns c =
     let head' : let a = c.args in c.judge_head-head.result ≡ first (head_rows a.command (fields 8 a.frame.now)) = let a = c.args in
     c.judge_head-head.ensures ∙ judged.head_rows_lem a.command a.frame.now (omega (arith, c.if-frame-tail.false)) in
     let count' : c.field_at.result ≡ field 14 10 (fields 8 c.args.frame.now) = let a = c.args in
-    c.field_at.ensures ∙ judged.field-within 14 10 a.frame.now (omega arith) (omega (arith, c.if-frame-tail.false)) in
+    c.field_at.ensures ∙ judged.field_within 14 10 a.frame.now (omega arith) (omega (arith, c.if-frame-tail.false)) in
     let ending' : let a = c.args in c.judge_end.result ≡ first (end_rows 24 a.tail (fields 8 a.frame.now)) = let p = c in
     let s = p in
     c.judge_end.ensures ∙ judged.end-rows 24 s.args.tail s.args.frame.now s.requires p.if-frame-tail.false in

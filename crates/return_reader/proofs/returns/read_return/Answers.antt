@@ -34,7 +34,7 @@ overflow_cast-result c =
     let a = c.args in
     let f = a.frame.now in
     let h = long a.part a.devices a.command a.tail f (sym judge-return.ensures ∙ c.if-refusal-ne0.false) in
-    c.field_at.ensures ∙ judged.field-within 14 10 f (omega arith) (omega (arith, h)) in
+    c.field_at.ensures ∙ judged.field_within 14 10 f (omega arith) (omega (arith, h)) in
     let a = c.args in
     rw count' (record { fits = omega (arith, wire.number-take-lt 10 (drop 14 (fields 8 a.frame.now))) })
 
@@ -45,5 +45,5 @@ returns c =
     let a = c.args in
     let f = a.frame.now in
     let h = long a.part a.devices a.command a.tail f (sym judge-return.ensures ∙ c.if-refusal-ne0.false) in
-    c.field_at.ensures ∙ judged.field-within 14 10 f (omega arith) (omega (arith, h)) in
+    c.field_at.ensures ∙ judged.field_within 14 10 f (omega arith) (omega (arith, h)) in
     rows.accepted Refused c.judge_return-refusal.ensures c.if-refusal-ne0.false (ap Count count')

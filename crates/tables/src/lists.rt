@@ -7,12 +7,10 @@ pub fn values_below(values: &[u16], limit: u16) -> bool
     ensures { result ≡ all_below values.now limit }
 {
     let mut over: u16 = 0;
-    let mut i: usize = 0;
-    while i < values.len() {
-        if values[i] >= limit {
+    for value in values {
+        if *value >= limit {
             over = 1;
         }
-        i += 1;
     }
     over == 0
 }
@@ -22,12 +20,10 @@ pub fn bytes_below(bytes: &[u8], limit: u8) -> bool
     ensures { result ≡ all_below bytes.now limit }
 {
     let mut over: u8 = 0;
-    let mut i: usize = 0;
-    while i < bytes.len() {
-        if bytes[i] >= limit {
+    for byte in bytes {
+        if *byte >= limit {
             over = 1;
         }
-        i += 1;
     }
     over == 0
 }
@@ -37,10 +33,8 @@ pub fn or_all(values: &[u16], before: u16) -> u16
     ensures { result ≡ or_all values.now before }
 {
     let mut bits = before;
-    let mut i: usize = 0;
-    while i < values.len() {
-        bits |= values[i];
-        i += 1;
+    for value in values {
+        bits |= *value;
     }
     bits
 }

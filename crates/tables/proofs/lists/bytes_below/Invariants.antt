@@ -4,11 +4,8 @@ use lib.ListN.{length, drop}
 use lib.Dec.{eqb}
 use mathlib.Core.Bool.{◌&&◌}
 use mathlib.Core.Path.{◌≡◌}
-use Prim.Native.Nat.{◌≤◌, ◌-◌}
+use Prim.Native.Nat.{◌≤◌}
 use Rattle.tables.proofs.lists.bytes_below.Given as goal
 
-abbrev pub invariant-loop-i : goal.invariant-loop-i
-invariant-loop-i l = (l.i ≤ length l.bytes) × (all_below l.bytes l.limit ≡ (eqb l.over 0 && all_below (drop l.i l.bytes) l.limit))
-
-abbrev pub decreases-loop-i : goal.decreases-loop-i
-decreases-loop-i l = length l.bytes - l.i
+abbrev pub invariant-loop-byte : goal.invariant-loop-byte
+invariant-loop-byte l = (l.byte-index ≤ length l.bytes) × (all_below l.bytes l.limit ≡ (eqb l.over 0 && all_below (drop l.byte-index l.bytes) l.limit))

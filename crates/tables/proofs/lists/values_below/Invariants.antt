@@ -4,11 +4,8 @@ use lib.ListN.{length, drop}
 use lib.Dec.{eqb}
 use mathlib.Core.Bool.{◌&&◌}
 use mathlib.Core.Path.{◌≡◌}
-use Prim.Native.Nat.{◌≤◌, ◌-◌}
+use Prim.Native.Nat.{◌≤◌}
 use Rattle.tables.proofs.lists.values_below.Given as goal
 
-abbrev pub invariant-loop-i : goal.invariant-loop-i
-invariant-loop-i l = (l.i ≤ length l.values) × (all_below l.values l.limit ≡ (eqb l.over 0 && all_below (drop l.i l.values) l.limit))
-
-abbrev pub decreases-loop-i : goal.decreases-loop-i
-decreases-loop-i l = length l.values - l.i
+abbrev pub invariant-loop-value : goal.invariant-loop-value
+invariant-loop-value l = (l.value-index ≤ length l.values) × (all_below l.values l.limit ≡ (eqb l.over 0 && all_below (drop l.value-index l.values) l.limit))

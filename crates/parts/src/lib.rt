@@ -6,7 +6,7 @@ mod command;
 mod count;
 mod part;
 
-pub use command::{Command, command_of, number_of, pairs_of};
+pub use command::{Command, pairs_of};
 pub use count::{MOST_DEVICES, is_count};
 pub use part::{
     Constants, Max6972, Max6973, Max6974, Max6975, constants_of, frame_clocks, is_known,

@@ -3,6 +3,4 @@
 
 mod phase;
 
-pub use phase::{
-    Phase, Place, Sent, header_bit, hear, in_header, phase_of, place_of, same_place, window_of,
-};
+pub use phase::{Phase, Place, Sent, header_bit, hear, in_header, window_of};

@@ -1,6 +1,6 @@
 // Where a device stands in a frame, and how a data bit moves it on.
 ghost use Rattle.std.specs.Prelude.{◌≡◌};
-ghost use Rattle.phases.specs.Phases.{numbers, place_of, phase_of, same_place, window_of, heard, rising, opened, opening, counting, in_header, headed};
+ghost use Rattle.phases.specs.Phases.{numbers, place_of, phase_of, window_of, heard, rising, opened, opening, counting, in_header, headed};
 ghost use Rattle.phases.specs.declared.phase.Phase.TheVariants.{Counting};
 
 use parts::Command;
@@ -8,7 +8,7 @@ use parts::Command;
 // A phase as numbers, as it stands in the record: 0 hunting, 1 opening, 2 counting, 3 slice, 4 passing, 5 lost. Numbers that a phase does
 // not use are 0.
 #[repr(C)]
-#[derive(Clone, Copy)]
+#[derive(Clone, Copy, Debug, PartialEq, Eq)]
 pub struct Place {
     pub phase: u8,
     // C1 C0, while counting and in a slice.
@@ -19,7 +19,7 @@ pub struct Place {
     pub read: u16,
 }
 
-#[derive(Clone, Copy)]
+#[derive(Clone, Copy, Debug, PartialEq, Eq)]
 pub enum Phase {
     // The last nine bits of the low clocks since the last high one, as a number.
     Hunting {
@@ -45,7 +45,7 @@ pub enum Phase {
 }
 
 // What one clock sends on.
-#[derive(Clone, Copy)]
+#[derive(Clone, Copy, Debug, PartialEq, Eq)]
 pub enum Sent {
     Nothing,
     One(u8),
@@ -53,20 +53,22 @@ pub enum Sent {
 }
 
 // A phase as the record's numbers.
-pub fn place_of(phase: Phase) -> Place
-    ensures { result ≡ place_of phase }
-{
-    match phase {
-        Phase::Hunting { window } => numbered(0, 0, 0, window),
-        Phase::Opening { read } => numbered(1, 0, 0, read),
-        Phase::Counting { command, read } => numbered(2, parts::number_of(command), 0, read),
-        Phase::Slice {
-            command,
-            count,
-            taken,
-        } => numbered(3, parts::number_of(command), count, taken),
-        Phase::Passing => numbered(4, 0, 0, 0),
-        Phase::Lost => numbered(5, 0, 0, 0),
+impl From<Phase> for Place {
+    ghost from_gives = { λ phase place. place ≡ place_of phase };
+
+    fn from(phase: Phase) -> Place {
+        match phase {
+            Phase::Hunting { window } => numbered(0, 0, 0, window),
+            Phase::Opening { read } => numbered(1, 0, 0, read),
+            Phase::Counting { command, read } => numbered(2, command.into(), 0, read),
+            Phase::Slice {
+                command,
+                count,
+                taken,
+            } => numbered(3, command.into(), count, taken),
+            Phase::Passing => numbered(4, 0, 0, 0),
+            Phase::Lost => numbered(5, 0, 0, 0),
+        }
     }
 }
 
@@ -82,34 +84,27 @@ fn numbered(phase: u8, command: u8, count: u16, read: u16) -> Place
 }
 
 // The phase of the record's numbers: of a number over 5, lost.
-pub fn phase_of(place: Place) -> Phase
-    ensures { result ≡ phase_of place }
-{
-    let phase = place.phase;
-    let read = place.read;
-    match phase {
-        0 => Phase::Hunting { window: read % 512 },
-        1 => Phase::Opening { read },
-        2 => Phase::Counting {
-            command: parts::command_of(place.command),
-            read,
-        },
-        3 => Phase::Slice {
-            command: parts::command_of(place.command),
-            count: place.count,
-            taken: read,
-        },
-        4 => Phase::Passing,
-        _ => Phase::Lost,
-    }
-}
+impl From<Place> for Phase {
+    ghost from_gives = { λ place phase. phase ≡ phase_of place };
 
-// The same four numbers.
-pub fn same_place(one: Place, other: Place) -> bool
-    ensures { result ≡ same_place one other }
-{
-    one.phase == other.phase
-        && (one.command == other.command && (one.count == other.count && one.read == other.read))
+    fn from(place: Place) -> Phase {
+        let read = place.read;
+        match place.phase {
+            0 => Phase::Hunting { window: read % 512 },
+            1 => Phase::Opening { read },
+            2 => Phase::Counting {
+                command: place.command.into(),
+                read,
+            },
+            3 => Phase::Slice {
+                command: place.command.into(),
+                count: place.count,
+                taken: read,
+            },
+            4 => Phase::Passing,
+            _ => Phase::Lost,
+        }
+    }
 }
 
 // The bits of the low clocks since the last high one: none in any other phase than hunting.
@@ -126,7 +121,7 @@ pub fn window_of(phase: Phase) -> u16
 pub fn hear(phase: Phase, bit: u8) -> Phase
     ensures { result ≡ heard phase bit }
 {
-    let next = (window_of(phase) as u32) * 2 + (bit as u32);
+    let next = u32::from(window_of(phase)) * 2 + u32::from(bit);
     Phase::Hunting {
         window: (next % 512) as u16,
     }
@@ -207,12 +202,10 @@ fn more_count(command: Command, read: u16, bit: u8) -> Phase
 pub fn in_header(phase: Phase) -> bool
     ensures { result ≡ in_header phase }
 {
-    match phase {
-        Phase::Hunting { .. } => true,
-        Phase::Opening { .. } => true,
-        Phase::Counting { .. } => true,
-        _ => false,
-    }
+    matches!(
+        phase,
+        Phase::Hunting { .. } | Phase::Opening { .. } | Phase::Counting { .. }
+    )
 }
 
 // One bit at high load, to such a device. Any other phase stays.

@@ -2,7 +2,7 @@
 ghost use Rattle.std.specs.Prelude.{◌≡◌};
 ghost use Rattle.parts.specs.Parts.{part_of, multiplex, field_width, field_limit, slice_fields, slice_bits};
 
-use parts::{Command, constants_of, number_of, row_of, value_limit};
+use parts::{Command, constants_of, row_of, value_limit};
 
 // Bits of a slice, by command, part and multiplex bit: a row of eight for each command, 6972 first, nonmultiplexed first.
 const SLICE_BITS: [u16; 32] = [
@@ -14,7 +14,7 @@ const SLICE_BITS: [u16; 32] = [
 pub fn slice_bits(command: Command, part: u16, configuration: u8) -> u16
     ensures { result ≡ slice_bits (part_of part) command (multiplex configuration) }
 {
-    let at = (number_of(command) as usize) * 8 + row_of(part) * 2 + (configuration % 2) as usize;
+    let at = u8::from(command) as usize * 8 + row_of(part) * 2 + (configuration % 2) as usize;
     SLICE_BITS[at]
 }
 

@@ -1,3 +1,2 @@
 -- Laws of what a slice stores.
 pub mod Lists
-pub mod Kept

@@ -1,6 +1,8 @@
 // What the last bit of a slice stores: the individual values, the calibration, the waiting global byte or the configuration. Only the places that
 // the part uses are written.
-ghost use Rattle.std.specs.Prelude.{◌≡◌, ◌+◌, ◌*◌, ◌<◌, ◌≤◌, get_or};
+ghost use Rattle.std.specs.Prelude.{◌≡◌, ◌+◌, ◌*◌, ◌<◌, ◌≤◌, ◌==◌, get_or};
+ghost use Rattle.std.specs.List.{list_all};
+ghost use Rattle.std.specs.Bool.{then_some};
 ghost use Rattle.bits.specs.Bits.{over};
 ghost use Rattle.registers.specs.Held.{with_slice};
 ghost use Rattle.parts.specs.Parts.{part_of};
@@ -12,151 +14,109 @@ use registers::Registers;
 
 // Values of the slice, from a first one on, each a stride after the last, over the first values that a device holds. The loop goes over all
 // places, so that it is vectorised.
-fn every(
-    slice: [u16; 48],
-    first: usize,
-    stride: usize,
-    outputs: usize,
-    held: [u16; 24],
-) -> [u16; 24]
+fn store_every(held: &mut [u16; 24], slice: &[u16; 48], first: usize, stride: usize, outputs: usize)
     requires { (first + stride * 23 < 48) × (outputs ≤ 24) }
-    ensures { result ≡ over (strided slice first stride outputs) held }
+    ensures { held.new ≡ over (strided slice.now first stride outputs) held.old }
 {
-    let mut values = [0u16; 24];
-    let mut i: usize = 0;
-    while i < 24 {
+    for (i, value) in held.iter_mut().enumerate() {
         let at = first + stride * i;
-        let value = if i < outputs { slice[at] } else { held[i] };
-        values[i] = value;
-        i += 1;
+        *value = if i < outputs { slice[at] } else { *value };
     }
-    values
 }
 
 // The low bytes of the first fields of the slice, over the first bytes that a device holds.
-fn bytes_over(slice: [u16; 48], banks: usize, held: [u8; 3]) -> [u8; 3]
+fn store_bytes(held: &mut [u8; 3], slice: &[u16; 48], banks: usize)
     requires { banks ≤ 3 }
-    ensures { result ≡ over (bytes_of slice banks) held }
+    ensures { held.new ≡ over (bytes_of slice.now banks) held.old }
 {
-    let mut bytes = [0u8; 3];
-    let mut i: usize = 0;
-    while i < 3 {
-        let byte = if i < banks {
+    for (i, byte) in held.iter_mut().enumerate() {
+        *byte = if i < banks {
             (slice[i] % 256) as u8
         } else {
-            held[i]
+            *byte
         };
-        bytes[i] = byte;
-        i += 1;
     }
-    bytes
 }
 
-// The low bytes of the first fields of the slice, one for each bank, are all the same.
-fn same_copies(slice: [u16; 48], part: u16) -> bool
-    ensures { result ≡ all_same (bytes_of slice (part_of part).banks) (byte_of (get_or slice 0 0)) }
+// Each of the fields has this low byte.
+fn all_have(fields: &[u16], byte: u8) -> bool
+    ensures { result ≡ list_all (λ v. byte_of v == byte) fields.now }
 {
-    let copies = parts::constants_of(part).banks as usize;
-    let first = slice[0] % 256;
-    let mut i: usize = 0;
-    while i < copies {
-        if slice[i] % 256 != first {
-            return false;
-        }
-        i += 1;
-    }
-    true
+    fields.iter().all(|field| field % 256 == u16::from(byte))
+}
+
+// The low byte of the first fields of the slice, one for each bank, where it is the same in all of them.
+fn agreed_byte(slice: &[u16; 48], part: u16) -> Option<u8>
+    ensures { result
+        ≡ then_some (all_same (bytes_of slice.now (part_of part).banks) (byte_of (get_or slice.now 0 0))) (byte_of (get_or slice.now 0 0)) }
+{
+    let banks = parts::constants_of(part).banks as usize;
+    let first = (slice[0] % 256) as u8;
+    all_have(&slice[..banks], first).then_some(first)
 }
 
 // The values become MUX0, and MUX1 stays; multiplexed, each second value becomes MUX0, and the others MUX1.
-fn store_values(registers: Registers, slice: [u16; 48]) -> Registers
-    ensures { result ≡ stored_values (with_slice registers slice) }
+fn store_values(registers: &mut Registers)
+    ensures { registers.new ≡ stored_values registers.old }
 {
     let outputs = parts::outputs_of(registers.part);
-    let waiting0 = registers.waiting0;
-    let waiting1 = registers.waiting1;
-    let mut next = registers;
-    next.slice = slice;
-    if next.configuration % 2 == 0 {
-        let values = every(slice, 0, 1, outputs, waiting0);
-        next.waiting0 = values;
-        next
+    if registers.configuration % 2 == 0 {
+        store_every(&mut registers.waiting0, &registers.slice, 0, 1, outputs);
     } else {
-        let even = every(slice, 0, 2, outputs, waiting0);
-        let odd = every(slice, 1, 2, outputs, waiting1);
-        next.waiting0 = even;
-        next.waiting1 = odd;
-        next
+        store_every(&mut registers.waiting0, &registers.slice, 0, 2, outputs);
+        store_every(&mut registers.waiting1, &registers.slice, 1, 2, outputs);
     }
 }
 
 // The bytes become the calibration of the banks.
-fn store_calibration(registers: Registers, slice: [u16; 48]) -> Registers
-    ensures { result ≡ stored_calibration (with_slice registers slice) }
+fn store_calibration(registers: &mut Registers)
+    ensures { registers.new ≡ stored_calibration registers.old }
 {
     let banks = parts::constants_of(registers.part).banks as usize;
-    let held = registers.calibration;
-    let bytes = bytes_over(slice, banks, held);
-    let mut next = registers;
-    next.slice = slice;
-    next.calibration = bytes;
-    next
+    store_bytes(&mut registers.calibration, &registers.slice, banks);
 }
 
 // The byte becomes the waiting global byte, where its copies are the same.
-fn store_global(registers: Registers, slice: [u16; 48]) -> Registers
-    ensures { result ≡ stored_global (with_slice registers slice) }
+fn store_global(registers: &mut Registers)
+    ensures { registers.new ≡ stored_global registers.old }
 {
-    let byte = if same_copies(slice, registers.part) {
-        (slice[0] % 256) as u8
-    } else {
-        registers.waiting
-    };
-    let mut next = registers;
-    next.slice = slice;
-    next.waiting = byte;
-    next
+    if let Some(byte) = agreed_byte(&registers.slice, registers.part) {
+        registers.waiting = byte;
+    }
 }
 
 // The byte becomes the configuration, where its copies are the same.
-fn store_configuration(registers: Registers, slice: [u16; 48]) -> Registers
-    ensures { result ≡ stored_configuration (with_slice registers slice) }
+fn store_configuration(registers: &mut Registers)
+    ensures { registers.new ≡ stored_configuration registers.old }
 {
-    let byte = configuration_of(registers, slice);
-    let mut next = registers;
-    next.slice = slice;
-    next.configuration = byte;
-    next
-}
-
-// The configuration that a slice of configuration bytes leaves.
-fn configuration_of(registers: Registers, slice: [u16; 48]) -> u8
-    ensures { result ≡ (stored_configuration (with_slice registers slice)).configuration }
-{
-    if same_copies(slice, registers.part) {
-        return (slice[0] % 256) as u8;
+    if let Some(byte) = agreed_byte(&registers.slice, registers.part) {
+        registers.configuration = byte;
     }
-    registers.configuration
 }
 
 // The configuration that a slice leaves, for who must know it before the slice is stored.
 pub fn configuration_after(registers: Registers, slice: [u16; 48], command: Command) -> u8
     ensures { result ≡ (stored (with_slice registers slice) command).configuration }
 {
-    if let Command::Configuration = command {
-        return configuration_of(registers, slice);
+    match command {
+        Command::Configuration => agreed_byte(&slice, registers.part).unwrap_or(
+            registers.configuration,
+        ),
+        _ => registers.configuration,
     }
-    registers.configuration
 }
 
 // The last bit of a slice stores it. The slice is given beside the registers, whose own is the one before, so that a record is moved once.
 pub fn store(registers: Registers, slice: [u16; 48], command: Command) -> Registers
     ensures { result ≡ stored (with_slice registers slice) command }
 {
+    let mut next = registers;
+    next.slice = slice;
     match command {
-        Command::Individual => store_values(registers, slice),
-        Command::Calibration => store_calibration(registers, slice),
-        Command::Global => store_global(registers, slice),
-        Command::Configuration => store_configuration(registers, slice),
+        Command::Individual => store_values(&mut next),
+        Command::Calibration => store_calibration(&mut next),
+        Command::Global => store_global(&mut next),
+        Command::Configuration => store_configuration(&mut next),
     }
+    next
 }

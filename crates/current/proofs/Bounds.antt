@@ -11,7 +11,10 @@ use Rattle.parts.specs.Parts.{Part, subframes, phase_count, frame_clocks, period
 use Rattle.schedule.specs.Light.{total}
 use Rattle.current.specs.declared.drive.Drive.{Drive}
 use Rattle.current.specs.Closed.{inside, bank_clocks, drive_of, Driven, bank_total, closed_total, closed_at, closed_sum}
-use Rattle.schedule.proofs.Sums.{total-le}
+use Rattle.schedule.proofs.Sums.{total-none, total-next, total-le}
+
+-- a loop that adds up
+pub ruleset adding = (total-none, total-next)
 
 -- ---- of a row that can be used
 

@@ -29,8 +29,8 @@ unfolding flatten
 flatten-append [] y = append-nil y
 flatten-append (x ∷ xs) y = ap (λ (l : List ℕ). x ++ l) (flatten-append xs y) ∙ sym (append_assoc x (flatten xs) y)
 
-get_d_part : (n at : ℕ) (l : List ℕ) (i : ℕ) → i < n → get_or (take n (drop at l)) i 0 ≡ get_or l (at + i) 0
-get_d_part n at l i h = get_or-take n (drop at l) i 0 h ∙ get_or-drop at l i 0
+pub get_or-part : (n at : ℕ) (l : List ℕ) (i : ℕ) → i < n → get_or (take n (drop at l)) i 0 ≡ get_or l (at + i) 0
+get_or-part n at l i h = get_or-take n (drop at l) i 0 h ∙ get_or-drop at l i 0
 
 -- ---- a drive reads its device's part of a list only
 
@@ -48,12 +48,12 @@ module _ (d : Drive) (calibration : List ℕ) (bytes : ℕ) (individual : List �
       (λ i. inside d.edge d.end (get_or individual (values + bank * d.each + i) 0)) d.each
       (λ i k.
       ap (inside d.edge d.end)
-      (get_d_part (d.banks * d.each) values individual (0 + bank * d.each + i) (row-place d.banks d.each bank i h k)
+      (get_or-part (d.banks * d.each) values individual (0 + bank * d.each + i) (row-place d.banks d.each bank i h k)
       ∙ ap (λ (j : ℕ). get_or individual j 0) (omega arith)))
 
   byte-taken : (bank : ℕ) → bank < d.banks → get_or bytes_of (0 + bank) 0 ≡ get_or calibration (bytes + bank) 0
   byte-taken bank h =
-      ap (λ (i : ℕ). get_or bytes_of i 0) (zero-add bank) ∙ get_d_part d.banks bytes calibration bank h
+      ap (λ (i : ℕ). get_or bytes_of i 0) (zero-add bank) ∙ get_or-part d.banks bytes calibration bank h
 
   closed_total-taken : closed_total d bytes_of 0 values_of 0 ≡ closed_total d calibration bytes individual values
   closed_total-taken =

@@ -1,12 +1,12 @@
 -- The figures of the first devices in the front of a list: none, and one device more. Assumes nothing.
 use mathlib.Core.Path.{◌≡◌, refl, sym, ap, ◌∙◌}
 use mathlib.Core.List.{List}
-use Prim.Native.Nat.{ℕ, zero, suc, ◌+◌, ◌*◌, ◌≤◌}
+use Prim.Native.Nat.{ℕ, zero, suc, ◌+◌, ◌*◌}
 use native.Mathlib.Numerals.{add-one}
 use native.Mathlib.Omega.{arith}
 use lib.ListN.{length, length-append}
 use Rattle.bits.specs.Bits.{over, over_at}
-use Rattle.bits.proofs.Laws.{length_over, over-append}
+use Rattle.bits.proofs.Laws.{over-append}
 use Rattle.current.specs.declared.drive.Drive.{Drive}
 use Rattle.current.specs.Current.{figure}
 use Rattle.current.specs.Closed.{closed_at, closed_figures}
@@ -31,7 +31,3 @@ module _ (d : Drive) (calibration individual : List ℕ) where
         ap (λ (k : ℕ). over_at k last (over (closed_figures d calibration individual n) l)) (sym (length-figures n))
         ∙ over-append (closed_figures d calibration individual n) last l
         ∙ ap (λ (k : ℕ). over (closed_figures d calibration individual k) l) (sym (add-one n))
-
-    -- the list is as long as it was
-    pub figures-long : (n : ℕ) → 3 * n ≤ length l → length (over (closed_figures d calibration individual n) l) ≡ length l
-    figures-long n h = length_over (closed_figures d calibration individual n) l (omega (arith, length-figures n))

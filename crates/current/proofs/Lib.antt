@@ -1,6 +1,5 @@
 -- Laws of the closed form, of how small its numbers are, of the places that the code reads and writes, and of the most that a device draws.
 pub mod Bounds
-pub mod Places
 pub mod Front
 pub mod Closed
 pub mod Devices

@@ -52,6 +52,7 @@ fn period_frames(clocks: u32) -> u32
 }
 
 // What a device draws in the period. Its calibration bytes begin at `bytes`, and its values at `values`.
+#[tactic(auto, using(crate::proofs::Bounds::adding))]
 pub fn device_total(
     drive: Drive,
     calibration: &[u8],
@@ -62,11 +63,9 @@ pub fn device_total(
     requires { Driven drive × OwnInLists drive (length calibration.now) bytes (length individual.now) values }
     ensures { result ≡ closed_total drive calibration.now bytes individual.now values }
 {
-    let mut sum: u64 = 0;
-    let mut bank: usize = 0;
-    while bank < drive.banks {
+    let mut sum = 0;
+    for bank in 0..drive.banks {
         sum += bank_total(drive, calibration, bytes, individual, values, bank);
-        bank += 1;
     }
     (drive.repeats as u64) * sum
 }

@@ -7,14 +7,14 @@ ghost use Rattle.current.specs.Closed.{Driven, SignInLists, closed_sum, closed_f
 use crate::drive::{Drive, PERIOD, device_total};
 
 // A total, its average rounded down and its remainder, from `at` on. The total is what the sign's is added up from.
+#[tactic(auto, unfolding(bits::specs::Bits::over_at, bits::specs::Bits::over))]
 fn write_figure(figures: &mut [u64], at: usize, total: u64) -> u64
     requires { at + 3 ≤ length figures.old }
     ensures value { result ≡ total }
     ensures figures_after { figures.new ≡ over_at at (figure total) figures.old }
 {
-    figures[at] = total;
-    figures[at + 1] = total / (PERIOD as u64);
-    figures[at + 2] = total % (PERIOD as u64);
+    let period = PERIOD as u64;
+    figures[at..at + 3].copy_from_slice(&[total, total / period, total % period]);
     total
 }
 
@@ -30,14 +30,12 @@ pub fn write_figures(
     ensures value { result ≡ closed_sum drive calibration.now individual.now devices }
     ensures figures_after { figures.new ≡ over (closed_figures drive calibration.now individual.now devices) figures.old }
 {
-    let mut sum: u64 = 0;
-    let mut i: usize = 0;
-    while i < devices {
+    let mut sum = 0;
+    for i in 0..devices {
         let bytes = i * drive.banks;
         let values = i * (drive.banks * drive.each);
         let total = device_total(drive, calibration, bytes, individual, values);
         sum += write_figure(figures, 3 * i, total);
-        i += 1;
     }
     sum
 }

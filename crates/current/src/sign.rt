@@ -5,7 +5,7 @@ ghost use Rattle.current.specs.Answers.{current, current_out, drawing, refused};
 
 use crate::drive::{PERIOD, drive_for};
 use crate::figures::write_figures;
-use crate::judge::refusal_of;
+use crate::judge::judge;
 use sets::SetNumbers;
 
 // What the sign draws over 524,288 clocks, in eighths of a microamp: the total, its average rounded down and its remainder; or a refusal, beside
@@ -21,6 +21,7 @@ pub struct Current {
 
 // What a set draws: answered for the sign, and in front of `figures` for each device its total, average and remainder. The set's part, number of
 // devices, configuration, calibration bytes, global byte and individual values.
+#[tactic(auto, unfolding(crate::specs::Answers::current, crate::specs::Answers::current_out))]
 #[unsafe(no_mangle)]
 pub extern "C" fn bb_current(
     part: u16,
@@ -40,13 +41,13 @@ pub extern "C" fn bb_current(
         configuration,
         global,
     };
-    let refusal = refusal_of(given, calibration, individual, figures.len());
-    if refusal != 0 {
-        return refuse(refusal);
+    match judge(given, calibration, individual, figures.len()) {
+        Ok(()) => {
+            let drive = drive_for(given);
+            accept(write_figures(drive, devices, calibration, individual, figures))
+        }
+        Err(refusal) => refuse(u8::from(refusal)),
     }
-    let drive = drive_for(given);
-    let total = write_figures(drive, devices, calibration, individual, figures);
-    accept(total)
 }
 
 fn refuse(refusal: u8) -> Current

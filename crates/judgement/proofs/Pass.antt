@@ -3,32 +3,17 @@
 use mathlib.Core.Path.{◌≡◌, refl, ap, sym, ◌∙◌}
 use mathlib.Core.Bool.{◌&&◌}
 use mathlib.Core.List.{List, [], ◌∷◌}
-use Prim.Native.Nat.{ℕ, zero, suc, ◌<◌}
-use native.Mathlib.Nat.{not-suc-le-zero, le_of_suc-le-suc}
-use lib.ListN.{length, get_or, take}
+use Prim.Native.Nat.{ℕ}
 use Rattle.std.specs.Prelude.{Option, Some}
 use Rattle.std.specs.Option.{option_or}
 use Rattle.parts.specs.Parts.{known}
 use Rattle.tables.specs.Lists.{every}
 use Rattle.device.specs.Judgement.{fits}
 use Rattle.device.specs.declared.device.Device.{Device}
-use Rattle.calls.specs.Chain.{all_known, has_part, same_parts, all_fit, blank}
+use Rattle.calls.specs.Chain.{all_known, has_part, same_parts, all_fit}
 use Rattle.judgement.specs.declared.judging.Judged.{Judged}
 use Rattle.judgement.specs.Judging.{unjudged, is_alike, judged_with, judged_from}
 use Rattle.tables.proofs.Booleans.{and_assoc, and-true}
-
--- ---- the pass, record by record
-
-pub judged-next : (i : ℕ) (j : Judged) (ds : List Device) → i < length ds
-    → judged_with (judged_from j (take i ds)) (get_or ds i blank) ≡ judged_from j (take (suc i) ds)
-judged-next i j [] l = absurd (not-suc-le-zero l)
-judged-next zero j (d ∷ ds) l = refl
-judged-next (suc i) j (d ∷ ds) l = judged-next i (judged_with j d) ds (le_of_suc-le-suc l)
-
-pub judged-none : (j : Judged) → judged_from j [] ≡ j
-judged-none j = refl
-
--- ---- what the pass finds
 
 pub known-found : (j : Judged) (ds : List Device) → (judged_from j ds).known ≡ (j.known && all_known ds)
 known-found j [] = sym (and-true j.known)

@@ -1,24 +1,17 @@
-use mathlib.Core.Path.{◌≡◌, sym, ap, ap₂, ◌∙◌}
-use Prim.Native.Nat.{ℕ, ◌+◌}
-use native.Mathlib.Omega.{arith}
-use lib.ListN.{get_or}
-use Rattle.current.specs.Closed.{inside, bank_clocks}
-use Rattle.schedule.proofs.Sums.{total-none, total-next}
+use Rattle.std.proofs.Common.{◌∙◌, ℕ, ◌+◌, ◌-◌, ◌<◌, get_or, length-take, ap, ap₂, arith, sym}
+use Rattle.current.specs.Closed.{inside}
+use Rattle.schedule.proofs.Sums.{total-next}
+use Rattle.current.proofs.Devices.{get_or-part}
 use Rattle.current.proofs.clocks.bank_clocks.Goals as goal
 
-pub loop-i-init : goal.loop-i-init
-loop-i-init c = (omega arith, sym (total-none _), omega arith)
-
-pub loop-i-preserved : goal.loop-i-preserved
-loop-i-preserved c = let a = c.args in
-    let l = c.loop-i in (
-      omega (arith, c.loop-i-test.true),
-      ap₂ (λ (m n : ℕ). m + n) l.invariant.1 c.lit_count.ensures ∙ sym (total-next (λ k. inside a.edge a.end (get_or a.values.now (a.from + k) 0)) l.i),
-      omega (arith, l.invariant.2),
-    )
-
-pub returns : goal.returns
-returns c = let a = c.args in
-    let l = c.loop-i in
-    let all : l.i ≡ a.each = omega (arith, l.invariant.0, c.loop-i-test.false) in
-    l.invariant.1 ∙ ap (bank_clocks a.edge a.end a.values.now a.from) all
+pub loop-value-preserved : goal.loop-value-preserved
+loop-value-preserved c =
+    let a = c.args in
+    let l = c.loop-value in
+    let near : l.value-index < a.from + a.each - a.from = omega (arith, length-take {A = ℕ}) in
+    record {
+      so_far = ap₂ (λ (m n : ℕ). m + n) l.invariant.so_far
+          (c.lit_count.ensures ∙ ap (inside a.edge a.end) (get_or-part (a.from + a.each - a.from) a.from a.values.now l.value-index near))
+          ∙ sym (total-next (λ k. inside a.edge a.end (get_or a.values.now (a.from + k) 0)) l.value-index);
+      few = omega arith;
+    }

@@ -1,11 +1,7 @@
--- What is added up is the sum over the values so far. The measure is the values that are left. Assumes nothing.
-use mathlib.Core.Path.{◌≡◌}
-use Prim.Native.Nat.{◌-◌, ◌*◌, ◌≤◌}
+-- What is added up is the sum over the values so far.
+use Rattle.std.proofs.Common.{◌≡◌, ◌*◌, ◌≤◌}
 use Rattle.current.specs.Closed.{bank_clocks}
 use Rattle.current.proofs.clocks.bank_clocks.Given as goal
 
-abbrev pub invariant-loop-i : goal.invariant-loop-i
-invariant-loop-i l = (l.i ≤ l.each) × (l.sum ≡ bank_clocks l.edge l.end l.values l.from l.i) × (l.sum ≤ l.i * 65535)
-
-abbrev pub decreases-loop-i : goal.decreases-loop-i
-decreases-loop-i l = l.each - l.i
+abbrev pub invariant-loop-value : goal.invariant-loop-value
+invariant-loop-value l = record { so_far : l.sum ≡ bank_clocks l.edge l.end l.values l.from l.value-index; few : l.sum ≤ l.value-index * 65535 }

@@ -1,2 +1,0 @@
--- The records that a call changes.
-pub mod Changes

@@ -4,9 +4,11 @@ use mathlib.Core.Bool.{Bool, false}
 use mathlib.Core.List.{List, ◌++◌, append_assoc}
 use Prim.Native.Nat.{ℕ, ◌+◌, ◌*◌, ◌<◌}
 use native.Mathlib.Omega.{arith}
-use lib.ListN.{length, get_or, length-append}
+use mathlib.Core.Logic.{◌⊎◌, ⊎_elim}
+use lib.ListN.{length, get_or, replicate, length-append}
 use Rattle.bits.specs.Bits.{bits, fields, bytes_of, bytes_for, over, over_at}
 use Rattle.bits.proofs.Laws as bit
+use Rattle.parts.specs.Parts.{part_of, field_width}
 use Rattle.parts.specs.Wire.{command_count, header}
 use Rattle.parts.specs.declared.command.Command.{Command}
 use Rattle.parts.specs.declared.command.Command.TheVariants.{Individual, Calibration, Global, Configuration}
@@ -15,7 +17,7 @@ use Rattle.frames.specs.declared.told.Told.{Told}
 use Rattle.frames.specs.declared.told.Tail.{Tail}
 use Rattle.frames.proofs.Lengths.{frame-room}
 use Rattle.frames.proofs.Pieces.{length-header, length-slices, length-frame_of, frame-pieces}
-use Rattle.frame_writer.specs.Writing.{settings, slices_of, header_number, list_wrong}
+use Rattle.frame_writer.specs.Writing.{settings, settings_of, slices_of, header_number, list_wrong}
 use Rattle.frame_writer.proofs.Writable.{length-settings_of}
 
 pub bits-header : (c : Command) → bits 24 (header_number c) ≡ header c 0
@@ -69,6 +71,17 @@ module _ (t : Told) (tail : Tail) (byte : ℕ) (bytes values : List ℕ) (len : 
 
     regroup : b + bytes_for tail.length ≡ 3 + bytes_for (slices_bits t) + bytes_for tail.length
     regroup = omega (arith, p.1, q.1)
+
+-- a global or a configuration frame has one byte again and again
+pub same_byte : (t : Told) (byte : ℕ) (bytes values : List ℕ) → (t.command ≡ Global) ⊎ (t.command ≡ Configuration)
+    → (replicate (field_count t) byte ≡ settings t byte bytes values) × (8 ≡ field_bits t)
+same_byte t byte bytes values e = ⊎_elim (λ g. of Global g refl refl) (λ g. of Configuration g refl refl) e where
+  of : (c : Command) → t.command ≡ c → replicate (field_count t) byte ≡ settings_of t c byte bytes values → 8 ≡ field_width (part_of t.part) c
+      → (replicate (field_count t) byte ≡ settings t byte bytes values) × (8 ≡ field_bits t)
+  of c e f g = (
+    f ∙ sym (ap (λ (k : Command). settings_of t k byte bytes values) e),
+    g ∙ sym (ap (λ (k : Command). field_width (part_of t.part) k) e),
+  )
 
 -- what each arm of the code puts is the slices: fields vs of w bits, or whole bytes
 module _ (t : Told) (byte : ℕ) (bytes values : List ℕ) (list : list_wrong t.command (field_count t) (length bytes) (length values) ≡ false) {vs : List ℕ} {w : ℕ}

@@ -1,5 +1,5 @@
 -- What the frame writer answers, and what it leaves in the lent output, for any input.
-use Rattle.std.specs.Prelude.{ℕ, ◌+◌, ◌*◌, Bool, false, not, ◌||◌, List, [], ◌∷◌, ◌++◌, eqb, ltb, length, replicate}
+use Rattle.std.specs.Prelude.{ℕ, ◌+◌, ◌*◌, Bool, false, not, ◌||◌, List, [], ◌∷◌, ◌++◌, eqb, ltb, length, replicate, Result, Ok, Err}
 use Rattle.bits.specs.Bits.{fields, bytes_of, over}
 use Rattle.tables.specs.Lists.{all_below}
 use Rattle.tables.specs.Refusals.{Row, ◌when◌, first, answer, content}
@@ -9,8 +9,6 @@ use Rattle.parts.specs.declared.command.Command.TheVariants.{Individual, Calibra
 use Rattle.frames.specs.Frames.{field_count, frame_of, frame_length, tail_high, told_rows}
 use Rattle.frames.specs.declared.told.Told.{Told}
 use Rattle.frames.specs.declared.told.Tail.{Tail}
-use Rattle.frame_writer.specs.declared.answer.Written.{Written}
-use Rattle.frame_writer.specs.declared.answer.Written.TheVariants as W
 
 -- the fields that a command is given: its list, or one byte again and again
 abbrev pub settings_of : Told → Command → ℕ → List ℕ → List ℕ → List ℕ
@@ -62,9 +60,9 @@ unfoldable pub write_refusal : Told → Tail → ℕ → List ℕ → List ℕ �
 write_refusal t tail byte bytes values room = first (write_table t tail byte bytes values room)
 
 -- what the writer answers
-unfoldable pub written : Told → Tail → ℕ → List ℕ → List ℕ → ℕ → Written
+unfoldable pub written : Told → Tail → ℕ → List ℕ → List ℕ → ℕ → Result ℕ ℕ
 written t tail byte bytes values room =
-    answer (write_refusal t tail byte bytes values room) W.Refused (W.Bytes (length (frame_of t tail (settings t byte bytes values))))
+    answer (write_refusal t tail byte bytes values room) Err (Ok (length (frame_of t tail (settings t byte bytes values))))
 
 -- what it leaves in the output
 unfoldable pub written_out : Told → Tail → ℕ → List ℕ → List ℕ → List ℕ → List ℕ

@@ -1,18 +1,18 @@
 // The frame writer.
 ghost use Rattle.std.specs.Prelude.{◌≡◌, false, ◌+◌, ◌≤◌, length};
 ghost use Rattle.bits.specs.Bits.{bytes_for, over, over_at};
-ghost use Rattle.tables.specs.Refusals.{first};
+ghost use Rattle.tables.specs.Refusals.{first, numbered, carried};
 ghost use Rattle.parts.specs.Parts.{most_devices};
 ghost use Rattle.frames.specs.Frames.{field_count, slices_bits, frame_of};
 ghost use Rattle.frame_writer.specs.Writing.{settings, slices_of, header_number, list_wrong, value_high, write_rows, write_refusal, written, written_out};
 
-use crate::answer::Written;
 use crate::put::{put_bytes, put_number, put_same, put_values};
 use frames::{Tail, Told, is_tail_high, judge_told, told_fields, told_length};
 use parts::Command;
+use tables::Refusal;
 
-// A frame from its settings: those of its own command alone are looked at.
-#[tactic(auto, using(crate::proofs::Refused::written_refused, crate::proofs::Refused::out_kept))]
+// A frame from its settings: those of its own command alone are looked at. The answer is how many bytes it has.
+#[tactic(auto, unfolding(crate::specs::Writing::written, crate::specs::Writing::written_out))]
 pub fn write(
     told: Told,
     tail: Tail,
@@ -20,47 +20,53 @@ pub fn write(
     bytes: &[u8],
     values: &[u16],
     out: &mut [u8],
-) -> Written
-    ensures value { result ≡ written told tail byte bytes.now values.now (length out.old) }
+) -> Result<usize, Refusal>
+    ensures value { numbered result ≡ written told tail byte bytes.now values.now (length out.old) }
     ensures out_after { out.new ≡ written_out told tail byte bytes.now values.now out.old }
 {
-    let refusal = judge_write(told, tail, byte, bytes, values, out.len());
-    if refusal != 0 {
-        return Written::Refused(refusal);
-    }
-    Written::Bytes(put_frame(told, tail, byte, bytes, values, out))
+    judge_write(told, tail, byte, bytes, values, out.len())?;
+    Ok(put_frame(told, tail, byte, bytes, values, out))
 }
 
-// The lowest number that applies, or 0.
-fn judge_write(told: Told, tail: Tail, byte: u8, bytes: &[u8], values: &[u16], room: usize) -> u8
-    ensures { result ≡ write_refusal told tail byte bytes.now values.now room }
+// The first refusal that applies.
+#[tactic(auto, unfolding(crate::specs::Writing::write_refusal))]
+fn judge_write(
+    told: Told,
+    tail: Tail,
+    byte: u8,
+    bytes: &[u8],
+    values: &[u16],
+    room: usize,
+) -> Result<(), Refusal>
+    ensures { carried result ≡ write_refusal told tail byte bytes.now values.now room }
 {
-    let early = judge_told(told.part, told.devices, tail);
-    if early != 0 {
-        return early;
-    }
+    judge_told(told.part, told.devices, tail)?;
     judge_settings(told, tail, byte, bytes, values, room)
 }
 
-// Numbers 4 to 6 of a writer, or 0.
-fn judge_settings(told: Told, tail: Tail, byte: u8, bytes: &[u8], values: &[u16], room: usize) -> u8
+// Refusals 4 to 6 of a writer.
+#[tactic(auto, unfolding(frames::specs::Frames::told_fields, frames::specs::Frames::told_length))]
+fn judge_settings(
+    told: Told,
+    tail: Tail,
+    byte: u8,
+    bytes: &[u8],
+    values: &[u16],
+    room: usize,
+) -> Result<(), Refusal>
     requires { (told.devices ≤ most_devices) × (tail.length ≤ 64) }
-    ensures { result ≡ first (write_rows told tail byte bytes.now values.now room) }
+    ensures { carried result ≡ first (write_rows told tail byte bytes.now values.now room) }
 {
-    let command = told.command;
-    if is_list_wrong(command, told_fields(told), bytes.len(), values.len()) {
-        return 4;
+    if is_list_wrong(told.command, told_fields(told), bytes.len(), values.len()) {
+        return Err(Refusal::WrongLength);
     }
     if room < told_length(told, tail) {
-        return 5;
+        return Err(Refusal::NoRoom);
     }
-    if is_value_high(told, byte, values) {
-        return 6;
+    if is_value_high(told, byte, values) || is_tail_high(tail) {
+        return Err(Refusal::HighValue);
     }
-    if is_tail_high(tail) {
-        return 6;
-    }
-    0
+    Ok(())
 }
 
 // The command's settings list has not n elements.
@@ -78,11 +84,10 @@ fn is_list_wrong(command: Command, n: usize, bytes: usize, values: usize) -> boo
 fn is_value_high(told: Told, byte: u8, values: &[u16]) -> bool
     ensures { result ≡ value_high told told.command byte values.now }
 {
-    let command = told.command;
-    match command {
+    match told.command {
         Command::Individual => !tables::values_below(values, parts::value_limit(told.part)),
         Command::Calibration => false,
-        Command::Global => (byte as u16) >= parts::subframes_of(told.part, told.configuration),
+        Command::Global => byte as u16 >= parts::subframes_of(told.part, told.configuration),
         Command::Configuration => false, // any byte may be one
     }
 }
@@ -100,8 +105,7 @@ fn put_frame(
     ensures { (out.new ≡ over (frame_of told tail (settings told byte bytes.now values.now)) out.old)
         × (result ≡ length (frame_of told tail (settings told byte bytes.now values.now))) }
 {
-    let command = told.command;
-    let start = put_number(header_of(command), 24, out, 0);
+    let start = put_number(header_of(told.command), 24, out, 0);
     let end = put_slices(told, byte, bytes, values, out, start);
     put_number(tail.number, tail.length, out, end)
 }
@@ -110,7 +114,7 @@ fn put_frame(
 fn header_of(command: Command) -> u64
     ensures { result ≡ header_number command }
 {
-    0xE8_0000 + (parts::pairs_of(command) as u64) * 1024
+    0xE8_0000 + parts::pairs_of(command) as u64 * 1024
 }
 
 // The slices from the byte `at` on. The answer is the byte behind them.
@@ -129,13 +133,11 @@ fn put_slices(
         ≡ over_at at (slices_of told told.command byte bytes.now values.now) out.old)
         × (result ≡ at + bytes_for (slices_bits told)) }
 {
-    let command = told.command;
     let n = told_fields(told);
-    let width = slices::field_width(command, told.part);
-    match command {
+    let width = slices::field_width(told.command, told.part);
+    match told.command {
         Command::Individual => put_values(values, width, out, at),
         Command::Calibration => put_bytes(bytes, out, at),
-        Command::Global => put_same(byte, n, out, at),
-        Command::Configuration => put_same(byte, n, out, at),
+        Command::Global | Command::Configuration => put_same(byte, n, out, at),
     }
 }

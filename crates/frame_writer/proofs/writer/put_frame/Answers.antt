@@ -1,39 +1,28 @@
 -- Header and slices are whole bytes, so three pieces put one behind the other are the frame.
-use native.Mathlib.Omega.{arith}
-use lib.ListN.{length}
+use Rattle.std.proofs.Common.{length, arith}
+use Rattle.frames.proofs.Lengths.{frame-room}
 use Rattle.frame_writer.proofs.Writable as accepted
-use Rattle.frames.proofs.Lengths as lengths
 use Rattle.frame_writer.proofs.Pieces as pieces
 use Rattle.frame_writer.proofs.writer.put_frame.Goals as goal
 
 pub put_number-start-requires : goal.put_number-start-requires
-put_number-start-requires c = let s = c in
-    let a = s.args in
-    let w = accepted.writable a.told a.tail a.byte a.bytes.now a.values.now (length a.out.now) s.requires in
-    (omega arith, omega (arith, w.wide, lengths.frame-room a.told a.tail))
+put_number-start-requires c = let a = c.args in
+    let w = accepted.writable a.told a.tail a.byte a.bytes.now a.values.now (length a.out.now) c.requires in
+    (omega arith, omega (arith, w.wide, frame-room a.told a.tail))
 
 pub put_slices-end-requires : goal.put_slices-end-requires
-put_slices-end-requires c = let s = c in
-    let a = s.args in
-    let w = accepted.writable a.told a.tail a.byte a.bytes.now a.values.now (length a.out.now) s.requires in
-    (w.told.few, w.list, omega (arith, w.wide, lengths.frame-room a.told a.tail, c.put_number-start.ensures.1))
+put_slices-end-requires c = let a = c.args in
+    let w = accepted.writable a.told a.tail a.byte a.bytes.now a.values.now (length a.out.now) c.requires in
+    (w.told.few, w.list, omega (arith, w.wide, frame-room a.told a.tail, c.put_number-start.ensures.1))
 
 pub put_number-requires : goal.put_number-requires
-put_number-requires c = let put-number = c.put_number-start in
-    let put-slices = c.put_slices-end in
-    let s = c in
-    let a = s.args in
-    let w = accepted.writable a.told a.tail a.byte a.bytes.now a.values.now (length a.out.now) s.requires in
-    (w.told.short, omega (arith, w.wide, lengths.frame-room a.told a.tail, put-number.ensures.1, put-slices.ensures.1))
+put_number-requires c = let a = c.args in
+    let w = accepted.writable a.told a.tail a.byte a.bytes.now a.values.now (length a.out.now) c.requires in
+    (w.told.short, omega (arith, w.wide, frame-room a.told a.tail, c.put_number-start.ensures.1, c.put_slices-end.ensures.1))
 
 pub returns : goal.returns
-returns c = let header_of = c.header_of in
-    let put-number = c.put_number-start in
-    let put-slices = c.put_slices-end in
-    let put-number2 = c.put_number in
-    let s = c in
-    let a = s.args in
-    let w = accepted.writable a.told a.tail a.byte a.bytes.now a.values.now (length a.out.now) s.requires in
-    pieces.put-together a.told a.tail a.byte a.bytes.now a.values.now
-    (accepted.length-settings_of a.told a.told.command a.byte a.bytes.now a.values.now w.list) a.out.now header_of.ensures
-    put-number.ensures put-slices.ensures put-number2.ensures
+returns c = let a = c.args in
+    let w = accepted.writable a.told a.tail a.byte a.bytes.now a.values.now (length a.out.now) c.requires in
+    let long = accepted.length-settings_of a.told a.told.command a.byte a.bytes.now a.values.now w.list in
+    pieces.put-together a.told a.tail a.byte a.bytes.now a.values.now long a.out.now c.header_of.ensures c.put_number-start.ensures
+    c.put_slices-end.ensures c.put_number.ensures

@@ -1,121 +1,45 @@
 -- By cases over the command: fields at their width, or whole bytes.
-use Prim.Native.Nat.{ℕ, ◌+◌}
-use mathlib.Core.Path.{◌≡◌, refl, sym, ap, ◌∙◌}
-use native.Mathlib.Omega.{arith}
-use lib.ListN.{replicate, length-replicate}
+use Rattle.std.proofs.Common.{◌≡◌, refl, sym, ap, ◌∙◌, arith}
+use lib.ListN.{length-replicate}
 use Rattle.parts.specs.Parts.{part_of, field_width}
 use Rattle.parts.specs.declared.command.Command.{Command}
 use Rattle.frames.specs.Frames.{field_count, field_bits}
+use Rattle.frames.proofs.Tests.{below-replicate}
+use Rattle.frames.proofs.Lengths.{told-fields}
 use Rattle.frame_writer.specs.Writing.{settings_of, settings}
-use Rattle.frames.proofs.Tests as tests
-use Rattle.frames.proofs.Lengths as lengths
 use Rattle.frame_writer.proofs.Pieces as pieces
 use Rattle.frame_writer.proofs.writer.put_slices.Goals as goal
 
-pub put_values-requires : goal.put_values-requires
-put_values-requires c = let entry = c in
-    let a = entry.args in
-    let t = a.told in
-    let list = entry.requires.1 in
-    let e = c.in-Individual.is in
-    let ew = c.field_width-width.ensures in
-    let ev : a.values.now ≡ settings t a.byte a.bytes.now a.values.now = sym (ap (λ (k : Command). settings_of t k a.byte a.bytes.now a.values.now) e) in
-    (omega (arith, ew, lengths.width_narrow t), omega (arith, entry.requires.2, pieces.length-settings t a.byte a.bytes.now a.values.now list ev ew))
-
-pub put_bytes-requires : goal.put_bytes-requires
-put_bytes-requires c = let entry = c in
-    let a = entry.args in
-    let t = a.told in
-    let list = entry.requires.1 in
-    let e = c.in-Calibration.is in
-    let ew : 8 ≡ field_bits t = sym (ap (λ (k : Command). field_width (part_of t.part) k) e) in
-    let ev : a.bytes.now ≡ settings t a.byte a.bytes.now a.values.now = sym (ap (λ (k : Command). settings_of t k a.byte a.bytes.now a.values.now) e) in
-    omega (arith, entry.requires.2, pieces.length-settings t a.byte a.bytes.now a.values.now list ev ew)
-
 pub put_same-requires : goal.put_same-requires
 put_same-requires c =
-    let count' : c.told_fields-n.result ≡ field_count c.args.told = let entry = c in
-    c.told_fields-n.ensures ∙ lengths.told-fields entry.args.told entry.requires.0 in
-    let entry = c in
-    let a = entry.args in
+    let a = c.args in
     let t = a.told in
-    let list = entry.requires.1 in
-    let e = c.in-Global.is in
-    let ew : 8 ≡ field_bits t = sym (ap (λ (k : Command). field_width (part_of t.part) k) e) in
-    let n = c.told_fields-n.result in
-    let ev : replicate n a.byte ≡ settings t a.byte a.bytes.now a.values.now
-    = ap (λ (k : ℕ). replicate k a.byte) count' ∙ sym (ap (λ (k : Command). settings_of t k a.byte a.bytes.now a.values.now) e) in
-    omega (arith, entry.requires.2, pieces.length-settings t a.byte a.bytes.now a.values.now list ev ew, length-replicate n a.byte)
-
-pub put_same-requires-in-Configuration : goal.put_same-requires-in-Configuration
-put_same-requires-in-Configuration c =
-    let count' : c.told_fields-n.result ≡ field_count c.args.told = let entry = c in
-    c.told_fields-n.ensures ∙ lengths.told-fields entry.args.told entry.requires.0 in
-    let entry = c in
-    let a = entry.args in
-    let t = a.told in
-    let list = entry.requires.1 in
-    let e = c.in-Configuration.is in
-    let ew : 8 ≡ field_bits t = sym (ap (λ (k : Command). field_width (part_of t.part) k) e) in
-    let n = c.told_fields-n.result in
-    let ev : replicate n a.byte ≡ settings t a.byte a.bytes.now a.values.now
-    = ap (λ (k : ℕ). replicate k a.byte) count' ∙ sym (ap (λ (k : Command). settings_of t k a.byte a.bytes.now a.values.now) e) in
-    omega (arith, entry.requires.2, pieces.length-settings t a.byte a.bytes.now a.values.now list ev ew, length-replicate n a.byte)
+    let count : c.told_fields-n.result ≡ field_count t = c.told_fields-n.ensures ∙ told-fields t c.requires.0 in
+    let same = pieces.same_byte t a.byte a.bytes.now a.values.now c.in-Global.is in
+    omega (arith, count, c.requires.2, pieces.length-settings t a.byte a.bytes.now a.values.now c.requires.1 same.0 same.1, length-replicate (field_count t) a.byte)
 
 pub returns-in-Individual : goal.returns-in-Individual
-returns-in-Individual c = let entry = c in
-    let a = entry.args in
+returns-in-Individual c =
+    let a = c.args in
     let t = a.told in
-    let list = entry.requires.1 in
-    let e = c.in-Individual.is in
-    let ew = c.field_width-width.ensures in
-    let ev : a.values.now ≡ settings t a.byte a.bytes.now a.values.now = sym (ap (λ (k : Command). settings_of t k a.byte a.bytes.now a.values.now) e) in
-    pieces.put-fields t a.byte a.bytes.now a.values.now list ev ew a.at a.out.now c.put_values.ensures
+    let values : a.values.now ≡ settings t a.byte a.bytes.now a.values.now = sym (ap (λ (k : Command). settings_of t k a.byte a.bytes.now a.values.now) c.in-Individual.is) in
+    pieces.put-fields t a.byte a.bytes.now a.values.now c.requires.1 values c.field_width-width.ensures a.at a.out.now c.put_values.ensures
 
 pub returns-in-Calibration : goal.returns-in-Calibration
-returns-in-Calibration c = let entry = c in
-    let put-bytes = c.put_bytes in
-    let entry = c in
-    let a = entry.args in
+returns-in-Calibration c =
+    let a = c.args in
     let t = a.told in
-    let list = entry.requires.1 in
-    let e = c.in-Calibration.is in
-    let ew : 8 ≡ field_bits t = sym (ap (λ (k : Command). field_width (part_of t.part) k) e) in
-    let ev : a.bytes.now ≡ settings t a.byte a.bytes.now a.values.now = sym (ap (λ (k : Command). settings_of t k a.byte a.bytes.now a.values.now) e) in
-    pieces.put_whole t a.byte a.bytes.now a.values.now list ev ew refl (λ i. (c.type_inv.bytes i).fits) a.at a.out.now put-bytes.ensures
+    let whole : 8 ≡ field_bits t = sym (ap (λ (k : Command). field_width (part_of t.part) k) c.in-Calibration.is) in
+    let bytes : a.bytes.now ≡ settings t a.byte a.bytes.now a.values.now = sym (ap (λ (k : Command). settings_of t k a.byte a.bytes.now a.values.now) c.in-Calibration.is) in
+    pieces.put_whole t a.byte a.bytes.now a.values.now c.requires.1 bytes whole refl (λ i. (c.type_inv.bytes i).fits) a.at a.out.now c.put_bytes.ensures
 
 pub returns-in-Global : goal.returns-in-Global
 returns-in-Global c =
-    let count' : c.told_fields-n.result ≡ field_count c.args.told = let entry = c in
-    c.told_fields-n.ensures ∙ lengths.told-fields entry.args.told entry.requires.0 in
-    let entry = c in
-    let a = entry.args in
+    let a = c.args in
     let t = a.told in
-    let list = entry.requires.1 in
-    let e = c.in-Global.is in
-    let ew : 8 ≡ field_bits t = sym (ap (λ (k : Command). field_width (part_of t.part) k) e) in
-    let n = c.told_fields-n.result in
-    let ev : replicate n a.byte ≡ settings t a.byte a.bytes.now a.values.now
-    = ap (λ (k : ℕ). replicate k a.byte) count'
-    ∙ sym (ap (λ (k : Command). settings_of t k a.byte a.bytes.now a.values.now) e) in
-    let small = tests.below-replicate n a.byte 256 (omega arith) (omega arith) in
-    pieces.put_whole t a.byte a.bytes.now a.values.now list ev ew refl small a.at a.out.now
-    (c.put_same.ensures.0, c.put_same.ensures.1 ∙ ap (λ (k : ℕ). a.at + k) (sym (length-replicate n a.byte)))
-
-pub returns-in-Configuration : goal.returns-in-Configuration
-returns-in-Configuration c =
-    let count' : c.told_fields-n.result ≡ field_count c.args.told = let entry = c in
-    c.told_fields-n.ensures ∙ lengths.told-fields entry.args.told entry.requires.0 in
-    let entry = c in
-    let a = entry.args in
-    let t = a.told in
-    let list = entry.requires.1 in
-    let e = c.in-Configuration.is in
-    let ew : 8 ≡ field_bits t = sym (ap (λ (k : Command). field_width (part_of t.part) k) e) in
-    let n = c.told_fields-n.result in
-    let ev : replicate n a.byte ≡ settings t a.byte a.bytes.now a.values.now
-    = ap (λ (k : ℕ). replicate k a.byte) count'
-    ∙ sym (ap (λ (k : Command). settings_of t k a.byte a.bytes.now a.values.now) e) in
-    let small = tests.below-replicate n a.byte 256 (omega arith) (omega arith) in
-    pieces.put_whole t a.byte a.bytes.now a.values.now list ev ew refl small a.at a.out.now
-    (c.put_same-in-Configuration.ensures.0, c.put_same-in-Configuration.ensures.1 ∙ ap (λ (k : ℕ). a.at + k) (sym (length-replicate n a.byte)))
+    let count : c.told_fields-n.result ≡ field_count t = c.told_fields-n.ensures ∙ told-fields t c.requires.0 in
+    let same = pieces.same_byte t a.byte a.bytes.now a.values.now c.in-Global.is in
+    let small = below-replicate (field_count t) a.byte 256 (omega arith) (omega arith) in
+    let long = length-replicate (field_count t) a.byte in
+    pieces.put_whole t a.byte a.bytes.now a.values.now c.requires.1 same.0 same.1 refl small a.at a.out.now
+    (rw count at c.put_same.ensures.0, omega (arith, c.put_same.ensures.1, count, long))

@@ -8,13 +8,17 @@ use lib.Dec.{eqb}
 use Rattle.tables.specs.Refusals.{first, answer}
 use Rattle.tables.proofs.Rows.{clear, none, accepted}
 use Rattle.parts.specs.Parts.{Part, part_of, subframes}
-use Rattle.subframes.specs.declared.answer.Asked.TheVariants as asked
+use Rattle.std.specs.Prelude.{Result, Ok, Err}
 use Rattle.subframes.specs.Subframes.{how_many_from, level, is_on}
 use Rattle.subframes.proofs.Claims.{frame_on_lem}
-use Rattle.schedule.specs.declared.answer.Clocks.TheVariants as clocks
+use Rattle.schedule.specs.declared.output.Clocks.{Clocks}
 use Rattle.schedule.specs.Light.{total, is_even, is_lit, in_run, lit_from, lit_to, lit_count, lit_first, lit_end}
 use Rattle.schedule.specs.Answers.{lit_rows, lit_answer, lit_clocks_answer}
 use Rattle.schedule.proofs.Lit.{lit-run, lit-first-end, run-empty, total-lit, lit-on, position-zero}
+
+-- clocks from the first on and before the end
+abbrev pub run : ℕ → ℕ → Clocks
+run f e = record { first = f; end = e }
 
 -- an accepted question about an ON subframe says: lit in one run of clocks, and no others
 pub lit-in-run :
@@ -22,12 +26,12 @@ pub lit-in-run :
     → first (lit_rows part configuration value output subframe clock phase) ≡ 0
     → is_on (part_of part) configuration global subframe ≡ true
     → lit_answer part configuration global value output subframe clock phase
-    ≡ asked.Is (in_run (lit_from (part_of part) value (is_even output)) (lit_to (part_of part) value (is_even output)) clock)
+    ≡ Ok (in_run (lit_from (part_of part) value (is_even output)) (lit_to (part_of part) value (is_even output)) clock)
 unfolding lit_answer
 lit-in-run part configuration global value output subframe clock phase a e =
     sym
-    (accepted asked.Refused refl a
-    (ap asked.Is
+    (accepted Err refl a
+    (ap Ok
     (sym (lit-run (part_of part) value output clock) ∙ sym (lit-on (part_of part) configuration global value output subframe clock e))))
 
 -- the same of the outputs of a parity
@@ -37,10 +41,10 @@ pub lights :
     → is_on (part_of part) configuration global subframe ≡ true
     → is_even output ≡ even
     → lit_answer part configuration global value output subframe clock phase
-    ≡ asked.Is (in_run (lit_from (part_of part) value even) (lit_to (part_of part) value even) clock)
+    ≡ Ok (in_run (lit_from (part_of part) value even) (lit_to (part_of part) value even) clock)
 lights part value even configuration global output subframe clock phase a e q =
     lit-in-run part configuration global value output subframe clock phase a e
-    ∙ ap (λ (t : Bool). asked.Is (in_run (lit_from (part_of part) value t) (lit_to (part_of part) value t) clock)) q
+    ∙ ap (λ (t : Bool). Ok (in_run (lit_from (part_of part) value t) (lit_to (part_of part) value t) clock)) q
 
 -- where their run is empty: not lit
 pub dark :
@@ -50,32 +54,37 @@ pub dark :
     → first (lit_rows part configuration value output subframe clock phase) ≡ 0
     → is_on (part_of part) configuration global subframe ≡ true
     → is_even output ≡ even
-    → lit_answer part configuration global value output subframe clock phase ≡ asked.Is false
+    → lit_answer part configuration global value output subframe clock phase ≡ Ok false
 dark part value even h configuration global output subframe clock phase a e q =
     lights part value even configuration global output subframe clock phase a e q
-    ∙ ap asked.Is (run-empty (lit_from (part_of part) value even) (lit_to (part_of part) value even) clock h)
+    ∙ ap Ok (run-empty (lit_from (part_of part) value even) (lit_to (part_of part) value even) clock h)
+
+-- the clocks of an accepted answer
+abbrev clocks_in : Result Clocks ℕ → Clocks
+clocks_in (Ok c) = c
+clocks_in (Err n) = run 0 0
 
 -- what an accepted answer gives as first and end clock
-pub run-given : (n g h f e : ℕ) → answer n clocks.Refused (clocks.Run g h) ≡ clocks.Run f e → (g ≡ f) × (h ≡ e)
+pub run-given : (n g h f e : ℕ) → answer n Err (Ok (run g h)) ≡ Ok (run f e) → (g ≡ f) × (h ≡ e)
 run-given n g h f e q = at (eqb n 0) q where
-  at : (t : Bool) → cond t (clocks.Run g h) (clocks.Refused n) ≡ clocks.Run f e → (g ≡ f) × (h ≡ e)
-  at true r = (cc, cc)
+  at : (t : Bool) → cond t (Ok (run g h)) (Err n) ≡ Ok (run f e) → (g ≡ f) × (h ≡ e)
+  at true r = (ap (λ (x : Result Clocks ℕ). (clocks_in x).first) r, ap (λ (x : Result Clocks ℕ). (clocks_in x).end) r)
   at false r = let z : ◌≡◌ {A = ℕ} 0 1 = cc in absurd (omega arith)
 
 -- the run that is answered for a subframe has the clocks at which the output is said to be lit, and no others
 pub lit-clocks :
     (part configuration global value output subframe clock phase f e : ℕ)
-    → lit_clocks_answer part configuration global value output subframe phase ≡ clocks.Run f e
+    → lit_clocks_answer part configuration global value output subframe phase ≡ Ok (run f e)
     → first (lit_rows part configuration value output subframe clock phase) ≡ 0
-    → lit_answer part configuration global value output subframe clock phase ≡ asked.Is (in_run f e clock)
+    → lit_answer part configuration global value output subframe clock phase ≡ Ok (in_run f e clock)
 unfolding lit_answer lit_clocks_answer
 lit-clocks part configuration global value output subframe clock phase f e q a =
     let p = part_of part in
     let refusal : ℕ = first (lit_rows part configuration value output subframe 0 phase) in
     let g = run-given refusal (lit_first p configuration global value output subframe) (lit_end p configuration global value output subframe) f e q in
     sym
-    (accepted asked.Refused refl a
-    (ap asked.Is
+    (accepted Err refl a
+    (ap Ok
     (sym (lit-first-end p configuration global value output subframe clock ∙ ap₂ (λ (m n : ℕ). in_run m n clock) g.0 g.1))))
 
 -- it is answered wherever the question about one clock is: every part has a clock 0

@@ -1,12 +1,9 @@
 -- What the questions about light answer, for any input: the refusal of their table, or the answer of Light.
-use Rattle.std.specs.Prelude.{ℕ, Bool, not, ◌||◌, List, [], ◌∷◌, ltb, leb}
+use Rattle.std.specs.Prelude.{ℕ, Bool, not, ◌||◌, List, [], ◌∷◌, ltb, leb, Result, Ok, Err}
 use Rattle.tables.specs.Refusals.{Row, ◌when◌, first, answer}
 use Rattle.parts.specs.Parts.{Part, known, part_of, multiplex, subframes, limit, outputs}
-use Rattle.subframes.specs.declared.answer.Asked.{Asked}
-use Rattle.subframes.specs.declared.answer.Asked.TheVariants as asked
 use Rattle.schedule.specs.Light.{is_lit, lit_first, lit_end}
-use Rattle.schedule.specs.declared.answer.Clocks.{Clocks}
-use Rattle.schedule.specs.declared.answer.Clocks.TheVariants as clocks
+use Rattle.schedule.specs.declared.output.Clocks.{Clocks}
 
 -- an output, a subframe, a clock or a phase that the part and its configuration do not have: MUX1 only where multiplexed
 unfoldable pub position_over : Part → ℕ → ℕ → ℕ → ℕ → ℕ → Bool
@@ -23,18 +20,18 @@ lit_rows part configuration value output subframe clock phase =
 -- ---- the answers
 
 -- is an output with a value lit at a clock of a subframe, in a phase
-unfoldable pub lit_answer : ℕ → ℕ → ℕ → ℕ → ℕ → ℕ → ℕ → ℕ → Asked
+unfoldable pub lit_answer : ℕ → ℕ → ℕ → ℕ → ℕ → ℕ → ℕ → ℕ → Result Bool ℕ
 lit_answer part configuration global value output subframe clock phase =
-    answer (first (lit_rows part configuration value output subframe clock phase)) asked.Refused
-    (asked.Is (is_lit (part_of part) configuration global value output subframe clock))
+    answer (first (lit_rows part configuration value output subframe clock phase)) Err
+    (Ok (is_lit (part_of part) configuration global value output subframe clock))
 
 -- the first and the end clock of an output with a value in a subframe
 abbrev pub lit_run : Part → ℕ → ℕ → ℕ → ℕ → ℕ → Clocks
 lit_run p configuration global value output subframe =
-    clocks.Run (lit_first p configuration global value output subframe) (lit_end p configuration global value output subframe)
+    record { first = lit_first p configuration global value output subframe; end = lit_end p configuration global value output subframe }
 
 -- at which clocks of a subframe is it lit, in a phase: refused as the question about clock 0, which every part has
-unfoldable pub lit_clocks_answer : ℕ → ℕ → ℕ → ℕ → ℕ → ℕ → ℕ → Clocks
+unfoldable pub lit_clocks_answer : ℕ → ℕ → ℕ → ℕ → ℕ → ℕ → ℕ → Result Clocks ℕ
 lit_clocks_answer part configuration global value output subframe phase =
-    answer (first (lit_rows part configuration value output subframe 0 phase)) clocks.Refused
-    (lit_run (part_of part) configuration global value output subframe)
+    answer (first (lit_rows part configuration value output subframe 0 phase)) Err
+    (Ok (lit_run (part_of part) configuration global value output subframe))

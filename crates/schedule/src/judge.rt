@@ -1,53 +1,43 @@
-// The refusals: the first number of their table, or 0.
+// The refusals: the first of their table.
 ghost use Rattle.std.specs.Prelude.{◌≡◌};
-ghost use Rattle.tables.specs.Refusals.{first};
+ghost use Rattle.tables.specs.Refusals.{first, carried};
 ghost use Rattle.parts.specs.Parts.{part_of};
 ghost use Rattle.schedule.specs.Answers.{lit_rows, position_over};
 
+use crate::moments::Moment;
+use crate::output::Output;
 use parts::{constants_of, is_known, outputs_of, subframes_of, value_limit};
+use tables::Refusal;
 
-pub fn judge_lit(
-    part: u16,
-    configuration: u8,
-    value: u16,
-    output: u32,
-    subframe: u32,
-    clock: u32,
-    phase: u32,
-) -> u8
-    ensures { result ≡ first (lit_rows part configuration value output subframe clock phase) }
+pub fn judge_lit(output: Output, moment: Moment) -> Result<(), Refusal>
+    ensures { carried result
+        ≡ first
+        (lit_rows output.intensity.part output.intensity.configuration output.value output.number moment.subframe
+        moment.clock moment.phase) }
 {
-    if !is_known(part) {
-        return 1;
+    if !is_known(output.intensity.part) {
+        return Err(Refusal::UnknownPart);
     }
-    if value >= value_limit(part) {
-        return 6;
+    if output.value >= value_limit(output.intensity.part) {
+        return Err(Refusal::HighValue);
     }
-    if is_position_over(part, configuration, output, subframe, clock, phase) {
-        return 13;
+    if is_position_over(output, moment) {
+        return Err(Refusal::OutOfRange);
     }
-    0
+    Ok(())
 }
 
 // The part and its configuration do not have the position.
-fn is_position_over(
-    part: u16,
-    configuration: u8,
-    output: u32,
-    subframe: u32,
-    clock: u32,
-    phase: u32,
-) -> bool
-    ensures { result ≡ position_over (part_of part) configuration output subframe clock phase }
+#[tactic(auto, unfolding(crate::specs::Answers::position_over))]
+fn is_position_over(output: Output, moment: Moment) -> bool
+    ensures { result
+        ≡ position_over (part_of output.intensity.part) output.intensity.configuration output.number moment.subframe
+        moment.clock moment.phase }
 {
-    if output as usize >= outputs_of(part) {
-        return true;
-    }
-    if subframe >= subframes_of(part, configuration) as u32 {
-        return true;
-    }
-    if clock >= constants_of(part).clocks as u32 {
-        return true;
-    }
-    phase > (configuration % 2) as u32
+    let part = output.intensity.part;
+    let configuration = output.intensity.configuration;
+    output.number as usize >= outputs_of(part)
+        || moment.subframe >= u32::from(subframes_of(part, configuration))
+        || moment.clock >= u32::from(constants_of(part).clocks)
+        || moment.phase > u32::from(configuration % 2)
 }

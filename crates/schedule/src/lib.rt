@@ -2,13 +2,11 @@
 // specs/Answers. Then where a clock of a frame stands in the schedule: specs/Moments.
 #![tactic(auto)]
 
-mod answer;
 mod clocks;
 mod judge;
 mod moments;
-mod questions;
+mod output;
 mod run;
 
-pub use answer::Clocks;
 pub use moments::{Moment, moment_at};
-pub use questions::{is_lit, lit_clocks};
+pub use output::{Clocks, Output};

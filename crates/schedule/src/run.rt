@@ -1,66 +1,52 @@
 // The clocks at which an output is lit, as one run: no walk over the clocks.
-ghost use Rattle.std.specs.Prelude.{◌≡◌, ◌<◌};
-ghost use Rattle.parts.specs.Parts.{part_of, limit};
+ghost use Rattle.std.specs.Prelude.{◌≡◌};
+ghost use Rattle.parts.specs.Parts.{part_of};
 ghost use Rattle.schedule.specs.Light.{is_even, lit_from, lit_to};
 ghost use Rattle.schedule.specs.Answers.{lit_run};
 
-use crate::answer::Clocks;
-use crate::clocks::is_output_even;
+use crate::output::{Clocks, Output};
 use parts::constants_of;
-use subframes::is_subframe_on;
 
-// In an OFF subframe, and with a value within the edge zone, at none.
-pub fn lit_run(
-    part: u16,
-    configuration: u8,
-    global: u8,
-    value: u16,
-    output: u32,
-    subframe: u32,
-) -> Clocks
-    requires { value < limit (part_of part) }
-    ensures { result ≡ lit_run (part_of part) configuration global value output subframe }
-{
-    if !is_subframe_on(part, configuration, global, subframe) {
-        return Clocks::Run(0, 0);
+impl Output {
+    // In an OFF subframe, and with a value within the edge zone, at none.
+    pub fn lit_run(self, subframe: u32) -> Clocks
+        ensures { result
+            ≡ lit_run (part_of self.intensity.part) self.intensity.configuration self.intensity.global self.value
+            self.number subframe }
+    {
+        if !self.intensity.is_subframe_on(subframe) {
+            return Clocks { first: 0, end: 0 };
+        }
+        let first = self.lit_from();
+        let end = self.lit_to();
+        if first >= end {
+            return Clocks { first: 0, end: 0 };
+        }
+        Clocks { first, end }
     }
-    let from = lit_from(part, value, output);
-    let to = lit_to(part, value, output);
-    if from >= to {
-        return Clocks::Run(0, 0);
-    }
-    Clocks::Run(from, to)
-}
 
-// The first clock: an even output's is the one after the edge zone, an odd one's goes by its value and is not before that.
-fn lit_from(part: u16, value: u16, output: u32) -> u32
-    requires { value < limit (part_of part) }
-    ensures { result ≡ lit_from (part_of part) value (is_even output) }
-{
-    let constants = constants_of(part);
-    let edge = constants.edge as u32;
-    let by_value = constants.clocks as u32 - value as u32;
-    if is_output_even(output) {
-        return edge;
+    // The first clock: an even output's is the one after the edge zone, an odd one's goes by its value and is not before that.
+    fn lit_from(self) -> u32
+        ensures { result ≡ lit_from (part_of self.intensity.part) self.value (is_even self.number) }
+    {
+        let constants = constants_of(self.intensity.part);
+        let edge = u32::from(constants.edge);
+        if self.is_even() {
+            return edge;
+        }
+        edge.max(u32::from(constants.clocks).saturating_sub(self.value.into()))
     }
-    if by_value < edge {
-        return edge;
-    }
-    by_value
-}
 
-// The clock after the last: an odd output's is the first of the other edge zone, an even one's goes by its value and is not after that.
-fn lit_to(part: u16, value: u16, output: u32) -> u32
-    ensures { result ≡ lit_to (part_of part) value (is_even output) }
-{
-    let constants = constants_of(part);
-    let other_edge = constants.clocks as u32 - constants.edge as u32;
-    let by_value = value as u32;
-    if !is_output_even(output) {
-        return other_edge;
+    // The clock after the last: an odd output's is the first of the other edge zone, an even one's goes by its value and is not after that.
+    fn lit_to(self) -> u32
+        ensures { result ≡ lit_to (part_of self.intensity.part) self.value (is_even self.number) }
+    {
+        let constants = constants_of(self.intensity.part);
+        let other_edge = u32::from(constants.clocks) - u32::from(constants.edge);
+        if self.is_even() {
+            other_edge.min(self.value.into())
+        } else {
+            other_edge
+        }
     }
-    if by_value > other_edge {
-        return other_edge;
-    }
-    by_value
 }

@@ -1,12 +1,8 @@
 -- What the questions about subframes answer, for any input: the refusal of their table, or the answer of Subframes.
-use Rattle.std.specs.Prelude.{ℕ, ◌+◌, Bool, not, List, [], ◌∷◌, ltb, leb}
+use Rattle.std.specs.Prelude.{ℕ, ◌+◌, Bool, not, List, [], ◌∷◌, ltb, leb, ℤ, Result, Ok, Err}
 use Rattle.tables.specs.Refusals.{Row, ◌when◌, first, answer}
 use Rattle.parts.specs.Parts.{Part, known, part_of, subframes}
 use Rattle.subframes.specs.Subframes.{is_on, lead_of}
-use Rattle.subframes.specs.declared.answer.Asked.{Asked}
-use Rattle.subframes.specs.declared.answer.Asked.TheVariants as asked
-use Rattle.subframes.specs.declared.answer.Lead.{Lead}
-use Rattle.subframes.specs.declared.answer.Lead.TheVariants as lead
 
 -- a window of w subframes does not end within the frame
 abbrev pub window_over : Part → ℕ → ℕ → ℕ → Bool
@@ -25,11 +21,11 @@ lead_rows part configuration from w = (1 when not (known part)) ∷ (13 when win
 -- ---- the answers
 
 -- is a subframe ON
-unfoldable pub on_answer : ℕ → ℕ → ℕ → ℕ → Asked
+unfoldable pub on_answer : ℕ → ℕ → ℕ → ℕ → Result Bool ℕ
 on_answer part configuration global subframe =
-    answer (first (on_rows part configuration subframe)) asked.Refused (asked.Is (is_on (part_of part) configuration global subframe))
+    answer (first (on_rows part configuration subframe)) Err (Ok (is_on (part_of part) configuration global subframe))
 
 -- the lead of a window
-unfoldable pub lead_answer : ℕ → ℕ → ℕ → ℕ → ℕ → Lead
+unfoldable pub lead_answer : ℕ → ℕ → ℕ → ℕ → ℕ → Result ℤ ℕ
 lead_answer part configuration global from w =
-    answer (first (lead_rows part configuration from w)) lead.Refused (lead.By (lead_of (part_of part) configuration global from w))
+    answer (first (lead_rows part configuration from w)) Err (Ok (lead_of (part_of part) configuration global from w))

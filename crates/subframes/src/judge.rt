@@ -1,36 +1,35 @@
-// The refusals: each gives the first number of its table, or 0.
+// The refusals: each gives the first of its table.
 ghost use Rattle.std.specs.Prelude.{◌≡◌};
-ghost use Rattle.tables.specs.Refusals.{first};
+ghost use Rattle.tables.specs.Refusals.{first, carried};
 ghost use Rattle.subframes.specs.Answers.{on_rows, lead_rows};
 
+use crate::intensity::Intensity;
 use parts::{is_known, subframes_of};
+use tables::Refusal;
 
-pub fn judge_subframe(part: u16, configuration: u8, subframe: u32) -> u8
-    ensures { result ≡ first (on_rows part configuration subframe) }
+pub fn judge_subframe(intensity: Intensity, subframe: u32) -> Result<(), Refusal>
+    ensures { carried result ≡ first (on_rows intensity.part intensity.configuration subframe) }
 {
-    if !is_known(part) {
-        return 1;
+    if !is_known(intensity.part) {
+        return Err(Refusal::UnknownPart);
     }
-    let subframes = subframes_of(part, configuration) as u32;
+    let subframes = u32::from(subframes_of(intensity.part, intensity.configuration));
     if subframe >= subframes {
-        return 13;
+        return Err(Refusal::OutOfRange);
     }
-    0
+    Ok(())
 }
 
 // A window of no subframes may stand at the frame's end.
-pub fn judge_window(part: u16, configuration: u8, from: u32, w: u32) -> u8
-    ensures { result ≡ first (lead_rows part configuration from w) }
+pub fn judge_window(intensity: Intensity, from: u32, w: u32) -> Result<(), Refusal>
+    ensures { carried result ≡ first (lead_rows intensity.part intensity.configuration from w) }
 {
-    if !is_known(part) {
-        return 1;
+    if !is_known(intensity.part) {
+        return Err(Refusal::UnknownPart);
     }
-    let subframes = subframes_of(part, configuration) as u32;
-    if w > subframes {
-        return 13;
+    let subframes = u32::from(subframes_of(intensity.part, intensity.configuration));
+    if w > subframes || from > subframes - w {
+        return Err(Refusal::OutOfRange);
     }
-    if from > subframes - w {
-        return 13;
-    }
-    0
+    Ok(())
 }

@@ -2,11 +2,8 @@
 // included, is in specs/Answers.
 #![tactic(auto)]
 
-mod answer;
+mod intensity;
 mod judge;
-mod questions;
 mod subframe;
 
-pub use answer::{Asked, Lead};
-pub use questions::{is_on, lead_of};
-pub use subframe::is_subframe_on;
+pub use intensity::Intensity;

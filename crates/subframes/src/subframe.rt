@@ -3,33 +3,37 @@ ghost use Rattle.std.specs.Prelude.{◌≡◌, ◌+◌, ◌≤◌, ◌<◌, pos,
 ghost use Rattle.parts.specs.Parts.{part_of, subframes};
 ghost use Rattle.subframes.specs.Subframes.{on_first, level, is_on, lead_of};
 
+use crate::intensity::Intensity;
 use parts::subframes_of;
 
-// Any number as subframe.
-pub fn is_subframe_on(part: u16, configuration: u8, global: u8, subframe: u32) -> bool
-    ensures { result ≡ is_on (part_of part) configuration global subframe }
-{
-    let subframes = subframes_of(part, configuration) as u64;
-    let level = level_of(part, configuration, global);
-    on_first(subframes, level, subframe as u64) < on_first(subframes, level, subframe as u64 + 1)
+impl Intensity {
+    // Any number as subframe.
+    pub fn is_subframe_on(self, subframe: u32) -> bool
+        ensures { result ≡ is_on (part_of self.part) self.configuration self.global subframe }
+    {
+        let subframes = subframes_of(self.part, self.configuration).into();
+        let level = self.level();
+        let subframe = u64::from(subframe);
+        on_first(subframes, level, subframe) < on_first(subframes, level, subframe + 1)
+    }
+
+    // Any byte, modulo the subframes.
+    fn level(self) -> u64
+        ensures { result ≡ level (part_of self.part) self.configuration self.global }
+    {
+        u64::from(self.global) % u64::from(subframes_of(self.part, self.configuration))
+    }
 }
 
 // S times the ON count, a difference of two quotients, less what the window is due.
-pub fn window_lead(part: u16, configuration: u8, global: u8, from: u64, w: u64) -> i32
-    requires { from + w ≤ subframes (part_of part) configuration }
-    ensures { result ≡ lead_of (part_of part) configuration global from w }
+pub fn window_lead(intensity: Intensity, from: u64, w: u64) -> i32
+    requires { from + w ≤ subframes (part_of intensity.part) intensity.configuration }
+    ensures { result ≡ lead_of (part_of intensity.part) intensity.configuration intensity.global from w }
 {
-    let subframes = subframes_of(part, configuration) as u64;
-    let level = level_of(part, configuration, global);
+    let subframes = u64::from(subframes_of(intensity.part, intensity.configuration));
+    let level = intensity.level();
     let count = on_first(subframes, level, from + w) - on_first(subframes, level, from);
     difference(subframes * count, w * (level + 1))
-}
-
-// Any byte, modulo the subframes.
-fn level_of(part: u16, configuration: u8, global: u8) -> u64
-    ensures { result ≡ level (part_of part) configuration global }
-{
-    (global as u64) % (subframes_of(part, configuration) as u64)
 }
 
 // The ON subframes before subframe s of a frame of n, at level g.

@@ -4,10 +4,11 @@
 
 ghost use Rattle.std.specs.Prelude.{◌≤◌, length};
 
-use arguments::Asked;
+use arguments::Chain;
 use std::env::Env;
 use std::io;
 use std::io::Read;
+use tables::Refusal;
 
 fn main(rt: HostRuntime) -> io::Result<()> {
     // Linux hands over no argument that is longer.
@@ -16,9 +17,9 @@ fn main(rt: HostRuntime) -> io::Result<()> {
     let first = argument(&rt, 1, &mut part);
     let second = argument(&rt, 2, &mut devices);
     let asked = arguments::ask(&part[..first], &devices[..second]);
-    let Asked::Chain(_, _) = asked else {
+    if asked.is_err() {
         return print(&rt, asked, b"");
-    };
+    }
     // The frames of 512 multiplexed devices of the part with the longest slices, and one byte by which left-over input is seen.
     let mut input = [0u8; 47629];
     let got = read_full(&mut rt.stdin(), &mut input);
@@ -29,39 +30,26 @@ fn main(rt: HostRuntime) -> io::Result<()> {
 fn argument(rt: &impl Env, place: usize, text: &mut [u8]) -> usize
     ensures { result ≤ length text.new }
 {
-    match rt.arg(place, text) {
-        Ok(long) => long,
-        Err(_) => 0,
-    }
+    rt.arg(place, text).unwrap_or(0)
 }
 
 // Reads until `input` is full, the input ends or a read fails, and answers how many bytes it put at the start of `input`.
 fn read_full(from: &mut impl Read, input: &mut [u8]) -> usize
     ensures { result ≤ length input.new }
 {
-    let mut got: usize = 0;
+    let mut got = 0;
     while got < input.len() {
-        let more = read_some(from, &mut input[got..]);
+        let more = from.read(&mut input[got..]).unwrap_or(0);
         if more == 0 {
-            return got;
+            break;
         }
         got += more;
     }
     got
 }
 
-// What one read put at the start of `input`: 0 at the end of the input, and where the read fails.
-fn read_some(from: &mut impl Read, input: &mut [u8]) -> usize
-    ensures { result ≤ length input.new }
-{
-    match from.read(input) {
-        Ok(more) => more,
-        Err(_) => 0,
-    }
-}
-
-fn print(rt: &impl Print, asked: Asked, input: &[u8]) -> io::Result<()> {
-    let mut lines = [0u8; 640];
+fn print(rt: &impl Print, asked: Result<Chain, Refusal>, input: &[u8]) -> io::Result<()> {
+    let mut lines = [0; 640];
     let length = report::report(asked, input, &mut lines);
     rt.write_all(&lines[..length])
 }

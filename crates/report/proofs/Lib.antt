@@ -1,3 +1,3 @@
 -- The laws behind the proofs of the functions.
-mod Putting
-pub mod Restoring
+mod Decimals
+mod Restoring

@@ -1,6 +1,5 @@
 -- The lines of the bench program, as the bytes of their text (ASCII), and a text in a lent buffer. docs/RULES.md, "The bench program".
-use Rattle.std.specs.Prelude.{ℕ, zero, suc, ◌+◌, ◌/◌, ◌%◌, cond, List, [], ◌∷◌, ◌++◌, ◌≡◌, ltb, length}
-use Rattle.bits.specs.Bits.{over_at}
+use Rattle.std.specs.Prelude.{ℕ, zero, suc, ◌+◌, ◌/◌, ◌%◌, cond, List, [], ◌∷◌, ◌++◌, ltb}
 use Rattle.parts.specs.declared.command.Command.{Command}
 use Rattle.parts.specs.declared.command.Command.TheVariants.{Individual, Calibration, Global, Configuration}
 use Rattle.frame_reader.specs.declared.answer.Read.{Read}
@@ -75,10 +74,3 @@ ending (R.Values n) = accepted_text
 -- a frame's line, with the bits that it should have: configuration bits 48 accepted
 abbrev pub frame_line : Command → ℕ → Read → List ℕ
 frame_line c bits answer = labelled (name_text c) bits ++ ending answer
-
--- ---- in a lent buffer
-
--- a text was put into a buffer from `at` on, and r is the place behind it
-pub record Put (text : List ℕ) (at : ℕ) (before : List ℕ) (r : ℕ) (after : List ℕ) : Type 0 where
-  pub behind : r ≡ at + length text
-  pub content : after ≡ over_at at text before

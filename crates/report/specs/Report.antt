@@ -1,7 +1,7 @@
 -- The whole report: what the bench program writes for what its arguments ask and for its standard input, which is four frames without
 -- tails back to back in restore order. Each frame is what stands at the front of the input, at the length that it should have, and is
 -- read by the frame reader. docs/RULES.md, "The bench program".
-use Rattle.std.specs.Prelude.{ℕ, ◌+◌, Bool, true, false, cond, List, [], ◌∷◌, ◌++◌, eqb, length, take, drop}
+use Rattle.std.specs.Prelude.{ℕ, ◌+◌, Bool, true, false, cond, List, [], ◌∷◌, ◌++◌, Result, Ok, Err, eqb, length, take, drop}
 use Rattle.bits.specs.Bits.{bytes_for}
 use Rattle.parts.specs.Parts.{multiplex, restore_order}
 use Rattle.parts.specs.declared.command.Command.{Command}
@@ -11,8 +11,7 @@ use Rattle.frame_reader.specs.Reading.{read}
 use Rattle.frames.specs.declared.told.Told.{Told}
 use Rattle.frame_reader.specs.declared.answer.Read.{Read}
 use Rattle.frame_reader.specs.declared.answer.Read.TheVariants as R
-use Rattle.arguments.specs.declared.judging.Asked.{Asked}
-use Rattle.arguments.specs.declared.judging.Asked.TheVariants as A
+use Rattle.arguments.specs.declared.judging.Chain.{Chain}
 use Rattle.report.specs.Lines.{refused_line, trailing_line, part_line, frame_line}
 
 -- the bits that a frame should have: header and slices
@@ -70,6 +69,6 @@ all_lines part devices input (R.Values n) = line_of (configuration_of part devic
 all_lines part devices input (R.Refused number) = line_of (configuration_of part devices) (R.Refused number)
 
 -- the report
-unfoldable pub report_of : Asked → List ℕ → List ℕ
-report_of (A.Refused number) input = refused_line number
-report_of (A.Chain part devices) input = all_lines part devices input (answer_of (configuration_of part devices) input)
+unfoldable pub report_of : Result Chain ℕ → List ℕ → List ℕ
+report_of (Err number) input = refused_line number
+report_of (Ok chain) input = all_lines chain.part chain.devices input (answer_of (configuration_of chain.part chain.devices) input)

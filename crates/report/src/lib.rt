@@ -4,7 +4,7 @@
 
 mod lines; // the lines
 mod reading; // one frame of the input
-mod text; // bytes and numbers put into a lent buffer
+mod text; // bytes and numbers, gathered
 mod whole; // the whole report
 
 pub use whole::report;

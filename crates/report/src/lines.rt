@@ -1,69 +1,67 @@
-// The lines, each put into a lent buffer with room for the longest. Every answer is the place behind the line.
-ghost use Rattle.std.specs.Prelude.{◌+◌, ◌≤◌, length};
-ghost use Rattle.report.specs.Lines.{name_text, labelled, refused_line, trailing_line, part_line, ending, frame_line, Put};
+// The lines. Each takes at most 96 bytes.
+ghost use Rattle.std.specs.Prelude.{◌≡◌, ◌+◌, ◌≤◌, ◌++◌};
+ghost use Rattle.arrayvec.specs.ArrayVec.{array_vec_len};
+ghost use Rattle.report.specs.Lines.{refused_line, trailing_line, part_line, ending, frame_line};
 
-use crate::text::{put, put_labelled};
+use crate::text::{Lines, put, put_labelled};
+use arguments::Chain;
 use frame_reader::Read;
 use parts::Command;
 
 // The line of the chain.
-pub fn put_part(part: u16, devices: u16, multiplexed: u8, out: &mut [u8], at: usize) -> usize
-    requires { at + 96 ≤ length out.old }
-    ensures { Put (part_line part devices multiplexed) at out.old result out.new }
+pub fn put_part(lines: &mut Lines, chain: Chain, multiplexed: u8)
+    requires { array_vec_len lines.old + 96 ≤ 640 }
+    ensures text { lines.new.items ≡ lines.old.items ++ part_line chain.part chain.devices multiplexed }
+    ensures room { array_vec_len lines.new ≤ array_vec_len lines.old + 96 }
 {
-    let first = put_labelled(b"part ", part as usize, out, at);
-    let second = put_labelled(b" devices ", devices as usize, out, first);
-    let third = put_labelled(b" multiplexed ", multiplexed as usize, out, second);
-    put(b"\n", out, third)
+    put_labelled(lines, b"part ", u64::from(chain.part));
+    put_labelled(lines, b" devices ", u64::from(chain.devices));
+    put_labelled(lines, b" multiplexed ", u64::from(multiplexed));
+    put(lines, b"\n");
 }
 
 // A frame's line.
-pub fn put_frame(command: Command, bits: usize, answer: Read, out: &mut [u8], at: usize) -> usize
-    requires { at + 96 ≤ length out.old }
-    ensures { Put (frame_line command bits answer) at out.old result out.new }
+pub fn put_frame(lines: &mut Lines, command: Command, bits: usize, answer: Read)
+    requires { array_vec_len lines.old + 96 ≤ 640 }
+    ensures text { lines.new.items ≡ lines.old.items ++ frame_line command bits answer }
+    ensures room { array_vec_len lines.new ≤ array_vec_len lines.old + 96 }
 {
-    let end = put_name(command, bits, out, at);
-    put_ending(answer, out, end)
-}
-
-// The line of refused arguments.
-pub fn put_refused(number: u8, out: &mut [u8], at: usize) -> usize
-    requires { at + 96 ≤ length out.old }
-    ensures { Put (refused_line number) at out.old result out.new }
-{
-    let end = put_labelled(b"refused ", number as usize, out, at);
-    put(b"\n", out, end)
-}
-
-// The line of left-over input.
-pub fn put_trailing(out: &mut [u8], at: usize) -> usize
-    requires { at + 96 ≤ length out.old }
-    ensures { Put trailing_line at out.old result out.new }
-{
-    put(b"trailing refused 4\n", out, at)
-}
-
-// How a frame's line begins.
-fn put_name(command: Command, bits: usize, out: &mut [u8], at: usize) -> usize
-    requires { at + 40 ≤ length out.old }
-    ensures { Put (labelled (name_text command) bits) at out.old result out.new }
-{
-    match command {
-        Command::Individual => put_labelled(b"individual bits ", bits, out, at),
-        Command::Calibration => put_labelled(b"calibration bits ", bits, out, at),
-        Command::Global => put_labelled(b"global bits ", bits, out, at),
-        Command::Configuration => put_labelled(b"configuration bits ", bits, out, at),
-    }
+    let name = match command {
+        Command::Individual => b"individual bits ".as_slice(),
+        Command::Calibration => b"calibration bits ".as_slice(),
+        Command::Global => b"global bits ".as_slice(),
+        Command::Configuration => b"configuration bits ".as_slice(),
+    };
+    put_labelled(lines, name, bits as u64);
+    put_ending(lines, answer);
 }
 
 // How it ends.
-fn put_ending(answer: Read, out: &mut [u8], at: usize) -> usize
-    requires { at + 40 ≤ length out.old }
-    ensures { Put (ending answer) at out.old result out.new }
+fn put_ending(lines: &mut Lines, answer: Read)
+    requires { array_vec_len lines.old + 40 ≤ 640 }
+    ensures text { lines.new.items ≡ lines.old.items ++ ending answer }
+    ensures room { array_vec_len lines.new ≤ array_vec_len lines.old + 40 }
 {
     let Read::Refused(number) = answer else {
-        return put(b" accepted\n", out, at);
+        return put(lines, b" accepted\n");
     };
-    let end = put_labelled(b" refused ", number as usize, out, at);
-    put(b"\n", out, end)
+    put_labelled(lines, b" refused ", u64::from(number));
+    put(lines, b"\n");
+}
+
+// The line of refused arguments.
+pub fn put_refused(lines: &mut Lines, number: u8)
+    requires { array_vec_len lines.old + 96 ≤ 640 }
+    ensures { lines.new.items ≡ lines.old.items ++ refused_line number }
+{
+    put_labelled(lines, b"refused ", u64::from(number));
+    put(lines, b"\n");
+}
+
+// The line of left-over input.
+pub fn put_trailing(lines: &mut Lines)
+    requires { array_vec_len lines.old + 96 ≤ 640 }
+    ensures { lines.new.items ≡ lines.old.items ++ trailing_line }
+{
+    put(lines, b"trailing refused 4\n");
 }

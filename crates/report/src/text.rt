@@ -1,42 +1,28 @@
-// Bytes and numbers put into a lent buffer. Every answer is the place behind them.
-ghost use Rattle.std.specs.Prelude.{◌+◌, ◌≤◌, length};
-ghost use Rattle.report.specs.Lines.{decimal, labelled, Put};
+// The lines as they are gathered. What is put stands behind what was put before.
+ghost use Rattle.std.specs.Prelude.{◌≡◌, ◌+◌, ◌≤◌, ◌++◌, length};
+ghost use Rattle.arrayvec.specs.ArrayVec.{array_vec_len};
+ghost use Rattle.report.specs.Lines.{labelled};
+
+use arrayvec::ArrayVec;
+use itoa::Buffer;
+
+// Room for the longest report.
+pub type Lines = ArrayVec<u8, 640>;
 
 // A text.
-pub fn put(text: &[u8], out: &mut [u8], at: usize) -> usize
-    requires { at + length text.now ≤ length out.old }
-    ensures { Put text.now at out.old result out.new }
+pub fn put(lines: &mut Lines, text: &[u8])
+    requires { array_vec_len lines.old + length text.now ≤ 640 }
+    ensures { lines.new.items ≡ lines.old.items ++ text.now }
 {
-    let mut i: usize = 0;
-    while i < text.len() {
-        out[at + i] = text[i];
-        i += 1;
-    }
-    at + i
+    lines.try_extend_from_slice(text).unwrap();
 }
 
-// A number in decimal. Its digits are found from the last to the first.
-pub fn put_number(number: usize, out: &mut [u8], at: usize) -> usize
-    requires { at + 20 ≤ length out.old }
-    ensures { Put (decimal number) at out.old result out.new }
+// A text and a number behind it, in decimal.
+pub fn put_labelled(lines: &mut Lines, text: &[u8], number: u64)
+    requires { array_vec_len lines.old + length text.now + 20 ≤ 640 }
+    ensures text { lines.new.items ≡ lines.old.items ++ labelled text.now number }
+    ensures room { array_vec_len lines.new ≤ array_vec_len lines.old + length text.now + 20 }
 {
-    let mut digits = [0u8; 20];
-    let mut start: usize = 19;
-    let mut rest = number;
-    while 10 <= rest {
-        digits[start] = b'0' + (rest % 10) as u8;
-        rest /= 10;
-        start -= 1;
-    }
-    digits[start] = b'0' + rest as u8;
-    put(&digits[start..], out, at)
-}
-
-// A text and a number behind it.
-pub fn put_labelled(text: &[u8], number: usize, out: &mut [u8], at: usize) -> usize
-    requires { at + length text.now + 20 ≤ length out.old }
-    ensures { Put (labelled text.now number) at out.old result out.new }
-{
-    let end = put(text, out, at);
-    put_number(number, out, end)
+    put(lines, text);
+    put(lines, Buffer::new().format(number).as_bytes());
 }

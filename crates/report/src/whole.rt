@@ -1,89 +1,91 @@
 // The whole report.
-ghost use Rattle.std.specs.Prelude.{◌≡◌, ◌+◌, ◌≤◌, length};
+ghost use Rattle.std.specs.Prelude.{◌≡◌, ◌+◌, ◌≤◌, ◌++◌, length};
+ghost use Rattle.arrayvec.specs.ArrayVec.{array_vec_len};
+ghost use Rattle.tables.specs.Refusals.{numbered};
 ghost use Rattle.bits.specs.Bits.{over};
-ghost use Rattle.report.specs.Lines.{Put};
+ghost use Rattle.frames.specs.Frames.{told_of};
 ghost use Rattle.report.specs.Report.{lines_of, later_commands, all_lines, configuration_of, answer_of, report_of};
 
 use crate::lines::{put_frame, put_part, put_refused, put_trailing};
-use crate::reading::{back, command_at, frame_size, is_refused, read_front};
-use arguments::Asked;
+use crate::reading::{back, frame_size, is_refused, read_front};
+use crate::text::Lines;
+use arguments::Chain;
 use frame_reader::Read;
 use frames::Told;
 use parts::Command;
+use tables::Refusal;
 
 // Puts the lines into `out`, and answers how many bytes they are.
-pub fn report(asked: Asked, input: &[u8], out: &mut [u8; 640]) -> usize
-    ensures value { result ≡ length (report_of asked input.now) }
-    ensures out_after { out.new ≡ over (report_of asked input.now) out.old }
+#[tactic(auto, unfolding(bits::specs::Bits::over))]
+pub fn report(asked: Result<Chain, Refusal>, input: &[u8], out: &mut [u8; 640]) -> usize
+    ensures value { result ≡ length (report_of (numbered asked) input.now) }
+    ensures out_after { out.new ≡ over (report_of (numbered asked) input.now) out.old }
+    ensures room { result ≤ 640 }
 {
+    let lines = gathered(asked, input);
+    out[..lines.len()].copy_from_slice(lines.as_slice());
+    lines.len()
+}
+
+// The lines for what is asked.
+#[tactic(auto, unfolding(crate::specs::Report::report_of))]
+fn gathered(asked: Result<Chain, Refusal>, input: &[u8]) -> Lines
+    ensures { result.items ≡ report_of (numbered asked) input.now }
+{
+    let mut lines = Lines::new();
     match asked {
-        Asked::Refused(number) => put_refused(number, out, 0),
-        Asked::Chain(part, devices) => put_all(part, devices, input, out),
+        Ok(chain) => put_all(&mut lines, chain, input),
+        Err(refusal) => put_refused(&mut lines, u8::from(refusal)),
     }
+    lines
 }
 
 // The lines of all four frames.
-fn put_all(part: u16, devices: u16, input: &[u8], out: &mut [u8]) -> usize
-    requires { 640 ≤ length out.old }
-    ensures { Put (all_lines part devices input.now (answer_of (configuration_of part devices) input.now)) 0 out.old result out.new }
+fn put_all(lines: &mut Lines, chain: Chain, input: &[u8])
+    requires { array_vec_len lines.old + 640 ≤ 640 }
+    ensures { lines.new.items ≡ lines.old.items
+        ++ all_lines chain.part chain.devices input.now (answer_of (configuration_of chain.part chain.devices) input.now) }
 {
-    let told = Told {
-        part,
-        devices: devices as usize,
-        command: Command::Configuration,
-        configuration: 0,
-    };
+    let told = told_of(chain, Command::Configuration, 0);
     let bits = frame_size(told);
     let answer = read_front(told, input);
     let Read::Byte(configuration) = answer else {
-        return put_frame(Command::Configuration, bits, answer, out, 0);
+        return put_frame(lines, Command::Configuration, bits, answer);
     };
-    let first = put_part(part, devices, configuration % 2, out, 0);
-    let second = put_frame(Command::Configuration, bits, answer, out, first);
-    put_rest(
-        part,
-        devices,
-        configuration,
-        back(input, (bits + 7) / 8),
-        out,
-        second,
-    )
+    put_part(lines, chain, configuration % 2);
+    put_frame(lines, Command::Configuration, bits, answer);
+    put_rest(lines, chain, configuration, back(input, bits.div_ceil(8)));
 }
 
-// The lines of the frames behind the configuration frame.
-fn put_rest(
-    part: u16,
-    devices: u16,
-    configuration: u8,
-    input: &[u8],
-    out: &mut [u8],
-    at: usize,
-) -> usize
-    requires { at + 448 ≤ length out.old }
-    ensures { Put (lines_of part devices configuration later_commands input.now) at out.old result out.new }
+// The lines of the frames behind the configuration frame, in restore order.
+fn put_rest(lines: &mut Lines, chain: Chain, configuration: u8, input: &[u8])
+    requires { array_vec_len lines.old + 448 ≤ 640 }
+    ensures { lines.new.items ≡ lines.old.items ++ lines_of chain.part chain.devices configuration later_commands input.now }
 {
-    let mut from: usize = 0;
-    let mut end = at;
-    let mut place: usize = 0;
-    while place < 3 {
-        let command = command_at(place);
-        let told = Told {
-            part,
-            devices: devices as usize,
-            command,
-            configuration,
-        };
+    let mut rest = input;
+    for command in [Command::Calibration, Command::Global, Command::Individual] {
+        let told = told_of(chain, command, configuration);
         let bits = frame_size(told);
-        let answer = read_front(told, back(input, from));
-        end = put_frame(command, bits, answer, out, end);
+        let answer = read_front(told, rest);
+        put_frame(lines, command, bits, answer);
         if is_refused(answer) {
-            return end;
+            return;
         }
-        from += (bits + 7) / 8;
-        place += 1;
+        rest = back(rest, bits.div_ceil(8));
     }
-    if from < input.len() {
-        return put_trailing(out, end);
+    if !rest.is_empty() {
+        put_trailing(lines);
     }
-    end
+}
+
+// What a frame of the chain is told by.
+fn told_of(chain: Chain, command: Command, configuration: u8) -> Told
+    ensures { result ≡ told_of chain.part chain.devices command configuration }
+{
+    Told {
+        part: chain.part,
+        devices: usize::from(chain.devices),
+        command,
+        configuration,
+    }
 }

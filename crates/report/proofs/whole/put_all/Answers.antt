@@ -1,72 +1,49 @@
--- `report::put_all` meets its contract: where the reader gives a byte, the line of the chain, that of the configuration frame and the
--- rest stand behind one another. Assumes nothing.
-use mathlib.Core.Path.{◌≡◌, refl, sym, ap, ◌∙◌}
-use mathlib.Core.List.{[], ◌∷◌}
-use Prim.Native.Nat.{ℕ, ◌%◌}
-use types.Run.{OneOf}
-use denote.Enum.Declared.{tag_of}
-use Rattle.frame_reader.specs.declared.answer.Read.{Read}
-use Rattle.frame_reader.specs.contracts.answer.Read.{the_type}
-use native.Mathlib.Omega.{arith}
+use Rattle.std.proofs.Common.{◌≡◌, ℕ, List, ◌++◌, ◌%◌, drop, refl, ap, ◌∙◌, arith, append_assoc}
+use Rattle.bits.specs.Bits.{bytes_for}
 use Rattle.parts.specs.declared.command.Command.TheVariants.{Configuration}
+use Rattle.frames.specs.declared.told.Told.{Told}
+use Rattle.frame_reader.specs.declared.answer.Read.{Read}
 use Rattle.frame_reader.specs.declared.answer.Read.TheVariants as R
-use Rattle.report.specs.Lines.{frame_line, part_line}
-use Rattle.report.specs.Report.{all_lines}
-use Rattle.report.proofs.Putting as put
-use Rattle.report.proofs.Restoring as laws
-use borrow.Author.Rules.{rules}
+use Rattle.report.specs.Lines.{part_line, frame_line}
+use Rattle.report.specs.Report.{frame_size, answer_of, later_commands, lines_of, configuration_of, all_lines}
 use Rattle.report.proofs.whole.put_all.Goals as goal
 
--- an answer that is no byte is one of the other three
-other : (answer : Read) → ((b : ℕ) → answer ≡ R.Byte b → ⊥) → OneOf (1 ∷ 2 ∷ 3 ∷ []) (tag_of the_type answer)
-other (R.Byte b) h = absurd (h b refl)
-other (R.Bytes n) h = search rules
-other (R.Values n) h = search rules
-other (R.Refused n) h = search rules
+-- an answer that is no byte has its line alone
+other : (part devices n : ℕ) (input : List ℕ) (answer : Read) → n ≡ frame_size (configuration_of part devices) → ((b : ℕ) → answer ≡ R.Byte b → ⊥)
+    → frame_line Configuration n answer ≡ all_lines part devices input answer
+unfolding all_lines
+other part devices n input (R.Byte b) size h = absurd (h b refl)
+other part devices n input (R.Bytes m) size h = rw size
+other part devices n input (R.Values m) size h = rw size
+other part devices n input (R.Refused m) size h = rw size
+
+-- behind a byte stand the other frames
+byte : (part devices n b : ℕ) (input rest : List ℕ) → n ≡ frame_size (configuration_of part devices) → rest ≡ drop (bytes_for n) input
+    → part_line part devices (b % 2) ++ (frame_line Configuration n (R.Byte b) ++ lines_of part devices b later_commands rest)
+    ≡ all_lines part devices input (R.Byte b)
+unfolding all_lines
+byte part devices n b input rest size behind = rw (behind, size)
+
+-- three texts, each put behind the one before
+three : (o a b c : List ℕ) {p q r : List ℕ} → p ≡ o ++ a → q ≡ p ++ b → r ≡ q ++ c → r ≡ o ++ (a ++ (b ++ c))
+three o a b c first second third =
+    third ∙ ap (λ (l : List ℕ). l ++ c) (second ∙ ap (λ (l : List ℕ). l ++ b) first) ∙ simp append_assoc
 
 pub returns-in_default : goal.returns-in_default
-returns-in_default c = let a = c.args in
-    let n = c.frame_size-bits in
-    let r = c.read_front-answer in
-    put.put_same
-    (laws.all-refused a.part a.devices a.input.now r.result n.result n.ensures.value (other r.result c.in_default.not-Byte)
-    ∙ ap (all_lines a.part a.devices a.input.now) r.ensures)
-    c.put_frame.ensures
-
-pub put_frame-second-requires : goal.put_frame-second-requires
-put_frame-second-requires c = let p = c in
-    let k = p in
-    let a = k.args in
-    omega (arith, p.put_part-first.ensures.behind, put.length-part_line a.part a.devices (k.in-Byte.configuration % 2))
-
-pub put_rest-requires : goal.put_rest-requires
-put_rest-requires c = let f = c in
-    let p = f in
-    let k = p in
-    let r = k in
-    let n = r in
-    let a = n.args in
-    omega (
-      arith,
-      p.put_part-first.ensures.behind,
-      put.length-part_line a.part a.devices (k.in-Byte.configuration % 2),
-      f.put_frame-second.ensures.behind,
-      put.length-frame_line Configuration n.frame_size-bits.result (R.Byte k.in-Byte.configuration),
-    )
+returns-in_default c = let chain = c.args.chain in
+    let input = c.args.input.now in
+    c.put_frame.ensures.text
+    ∙ ap (λ (text : List ℕ). c.args.lines.now.items ++ text)
+    (other chain.part chain.devices _ input _ (c.frame_size-bits.ensures.value ∙ ap frame_size c.told_of-told.ensures) c.in_default.not-Byte
+    ∙ ap (all_lines chain.part chain.devices input) (c.read_front-answer.ensures ∙ ap (λ (told : Told). answer_of told input) c.told_of-told.ensures))
 
 pub returns : goal.returns
-returns c = let d = c in
-    let e = d in
-    let f = e in
-    let p = f in
-    let k = p in
-    let r = k in
-    let n = r in
-    let a = n.args in
-    let b = k.in-Byte.configuration in
-    let first = put.length-part_line a.part a.devices (b % 2) in
-    put.put_same
-    (laws.all-accepted a.part a.devices a.input.now b n.frame_size-bits.result e.back.result.now n.frame_size-bits.ensures.value e.back.ensures
-    ∙ ap (all_lines a.part a.devices a.input.now) (sym k.in-Byte.is ∙ r.read_front-answer.ensures))
-    (put.put-append {s = part_line a.part a.devices (b % 2)} (omega arith) p.put_part-first.ensures
-    (put.put-append {s = frame_line Configuration n.frame_size-bits.result (R.Byte b)} (omega (arith, p.put_part-first.ensures.behind)) f.put_frame-second.ensures d.put_rest.ensures))
+returns c = let chain = c.args.chain in
+    let input = c.args.input.now in
+    let read = c.read_front-answer.ensures ∙ ap (λ (told : Told). answer_of told input) c.told_of-told.ensures in
+    three _ _ _ _ c.put_part.ensures.text c.put_frame-2.ensures.text c.put_rest.ensures
+    ∙ ap (λ (text : List ℕ). c.args.lines.now.items ++ text)
+    (rw (← c.in-Byte.is) at
+    (byte chain.part chain.devices _ c.in-Byte.configuration input c.back.result.now (c.frame_size-bits.ensures.value ∙ ap frame_size c.told_of-told.ensures)
+    (c.back.ensures ∙ ap (λ (n : ℕ). drop n input) (omega (arith, c.div_ceil.ensures))))
+    ∙ ap (all_lines chain.part chain.devices input) read)

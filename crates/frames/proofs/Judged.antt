@@ -2,8 +2,12 @@
 -- refuse another length. Assumes nothing.
 use mathlib.Core.Path.{◌≡◌}
 use mathlib.Core.List.{List}
-use Prim.Native.Nat.{ℕ, ◌+◌, ◌*◌, ◌≤◌}
-use lib.ListN.{length}
+use Prim.Native.Nat.{ℕ, ◌+◌, ◌*◌, ◌^◌, ◌<◌, ◌≤◌}
+use lib.ListN.{length, drop}
+use lib.Pow.{pow_pos}
+use lib.Dec.{leb}
+use mathlib.Core.Bool.{Bool, true, false, ◌&&◌, cond}
+use Rattle.bits.proofs.Laws.{number-take-lt}
 use borrow.Author.Tests.{le-leb, le-ltb, eq-eqb}
 use Rattle.bits.specs.Bits.{fields, bytes_for}
 use Rattle.tables.specs.Refusals.{first}
@@ -19,7 +23,15 @@ pub head_rows_lem : (c : Command) (frame : List ℕ) → 3 ≤ length frame → 
 unfolding head_table
 head_rows_lem c frame long = rw (le-ltb (length frame) 3 long)
 
-pub end-rows : (at : ℕ) (tail : Tail) (frame : List ℕ) → tail.length ≤ 64 → length frame ≡ bytes_for (at + tail.length)
+pub end_rows_lem : (at : ℕ) (tail : Tail) (frame : List ℕ) → tail.length ≤ 64 → length frame ≡ bytes_for (at + tail.length)
     → first (end_table at tail frame) ≡ first (end_rows at tail (fields 8 frame))
 unfolding end_table
-end-rows at tail frame short long = rw (le-ltb 64 tail.length short, eq-eqb (length frame) (bytes_for (at + tail.length)) long)
+end_rows_lem at tail frame short long = rw (le-ltb 64 tail.length short, eq-eqb (length frame) (bytes_for (at + tail.length)) long)
+
+-- a field has no more bits than were asked for, also where the frame has not so many
+pub field_at_small : (at n : ℕ) (frame : List ℕ) → field_at at n frame < 2 ^ n
+unfolding field_at
+field_at_small at n frame = by (leb n 64 && leb (at + n) (8 * length frame)) where
+  by : (held : Bool) → cond held (field at n (fields 8 frame)) 0 < 2 ^ n
+  by true = number-take-lt n (drop at (fields 8 frame))
+  by false = pow_pos n

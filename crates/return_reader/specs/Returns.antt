@@ -1,12 +1,10 @@
 -- What the return reader answers, for any input. A return, packed as a frame is, has 24 bits and the tail.
-use Rattle.std.specs.Prelude.{ℕ, ◌+◌, Bool, not, List, ◌∷◌, ◌++◌, eqb, ltb, length}
+use Rattle.std.specs.Prelude.{ℕ, ◌+◌, Bool, not, List, ◌∷◌, ◌++◌, eqb, ltb, length, Result, Ok, Err}
 use Rattle.bits.specs.Bits.{fields, bytes_for}
 use Rattle.tables.specs.Refusals.{Row, ◌when◌, first, answer}
 use Rattle.parts.specs.declared.command.Command.{Command}
 use Rattle.frames.specs.Frames.{field, tail_high, told_rows, head_rows, end_rows}
 use Rattle.frames.specs.declared.told.Tail.{Tail}
-use Rattle.return_reader.specs.declared.answer.ReturnRead.{ReturnRead}
-use Rattle.return_reader.specs.declared.answer.ReturnRead.TheVariants as B
 
 -- the count that a return carries
 abbrev pub count_of : List Bool → ℕ
@@ -32,6 +30,6 @@ unfoldable pub return_refusal : ℕ → ℕ → Command → Tail → List ℕ �
 return_refusal part devices c tail frame = first (return_table part devices c tail frame)
 
 -- what the return reader answers
-unfoldable pub return_read : ℕ → ℕ → Command → Tail → List ℕ → ReturnRead
+unfoldable pub return_read : ℕ → ℕ → Command → Tail → List ℕ → Result ℕ ℕ
 return_read part devices c tail frame =
-    answer (return_refusal part devices c tail frame) B.Refused (B.Count (count_of (fields 8 frame)))
+    answer (return_refusal part devices c tail frame) Err (Ok (count_of (fields 8 frame)))

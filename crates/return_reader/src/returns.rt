@@ -1,57 +1,57 @@
 // The return reader.
 ghost use Rattle.std.specs.Prelude.{◌≡◌, ◌≤◌};
-ghost use Rattle.tables.specs.Refusals.{first};
+ghost use Rattle.tables.specs.Refusals.{first, numbered, carried};
 ghost use Rattle.return_reader.specs.Returns.{return_rows, return_refusal, return_read};
 
-use crate::answer::ReturnRead;
 use frames::{Tail, field_at, is_tail_high, judge_end, judge_head, judge_told};
 use parts::Command;
+use tables::Refusal;
 
 // The count of a return.
+#[tactic(auto, using(frames::proofs::Judged::field_within, frames::proofs::Judged::field_at_small), unfolding(crate::specs::Returns::return_refusal, crate::specs::Returns::return_read))]
 pub fn read_return(
     part: u16,
     devices: usize,
     command: Command,
     tail: Tail,
     frame: &[u8],
-) -> ReturnRead
-    ensures { result ≡ return_read part devices command tail frame.now }
+) -> Result<u16, Refusal>
+    ensures { numbered result ≡ return_read part devices command tail frame.now }
 {
-    let refusal = judge_return(part, devices, command, tail, frame);
-    if refusal != 0 {
-        return ReturnRead::Refused(refusal);
-    }
-    ReturnRead::Count(field_at(frame, 14, 10) as u16)
+    judge_return(part, devices, command, tail, frame)?;
+    Ok(field_at(frame, 14, 10) as u16)
 }
 
-// The lowest number that applies, or 0.
-fn judge_return(part: u16, devices: usize, command: Command, tail: Tail, frame: &[u8]) -> u8
-    ensures { result ≡ return_refusal part devices command tail frame.now }
+// The first refusal that applies.
+#[tactic(auto, unfolding(crate::specs::Returns::return_refusal))]
+fn judge_return(
+    part: u16,
+    devices: usize,
+    command: Command,
+    tail: Tail,
+    frame: &[u8],
+) -> Result<(), Refusal>
+    ensures { carried result ≡ return_refusal part devices command tail frame.now }
 {
-    let early = judge_told(part, devices, tail);
-    if early != 0 {
-        return early;
-    }
+    judge_told(part, devices, tail)?;
     judge_back(devices, command, tail, frame)
 }
 
-// Numbers 4 to 12 of a return, or 0.
-fn judge_back(devices: usize, command: Command, tail: Tail, frame: &[u8]) -> u8
+// Refusals 4 to 12 of a return.
+#[tactic(auto, using(frames::proofs::Judged::field_within), unfolding(frames::specs::Frames::head_table, frames::specs::Frames::end_table))]
+fn judge_back(devices: usize, command: Command, tail: Tail, frame: &[u8]) -> Result<(), Refusal>
     requires { tail.length ≤ 64 }
-    ensures { result ≡ first (return_rows devices command tail frame.now) }
+    ensures { carried result ≡ first (return_rows devices command tail frame.now) }
 {
-    if frame.len() != (24 + (tail.length as usize) + 7) / 8 {
-        return 4;
+    if frame.len() != (24 + tail.length as usize).div_ceil(8) {
+        return Err(Refusal::WrongLength);
     }
     if is_tail_high(tail) {
-        return 6;
+        return Err(Refusal::HighValue);
     }
-    let head = judge_head(frame, command);
-    if head != 0 {
-        return head;
-    }
+    judge_head(frame, command)?;
     if (devices as u64) < field_at(frame, 14, 10) {
-        return 9;
+        return Err(Refusal::WrongCount);
     }
     judge_end(frame, 24, tail)
 }

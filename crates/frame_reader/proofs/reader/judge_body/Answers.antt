@@ -78,7 +78,7 @@ returns c =
     c.told_bits.ensures ∙ lengths.told-bits s.args.told s.requires.1 in
     let ending' : let a = c.args in c.judge_end.result ≡ first (end_rows (24 + slices_bits a.told) a.tail (fields 8 a.frame.now)) = let s = c in
     let a = s.args in
-    (rw bits' at c.judge_end.ensures) ∙ judged.end-rows (24 + slices_bits a.told) a.tail a.frame.now s.requires.2 s.requires.3 in
+    (rw bits' at c.judge_end.ensures) ∙ judged.end_rows_lem (24 + slices_bits a.told) a.tail a.frame.now s.requires.2 s.requires.3 in
     let s = c in
     let t = s.args.told in
     let f = s.args.frame.now in

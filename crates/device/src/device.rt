@@ -3,12 +3,13 @@ ghost use Rattle.std.specs.Prelude.{◌≡◌, ◌&&◌};
 ghost use Rattle.watch.specs.Watch.{watch_fits};
 ghost use Rattle.positions.specs.Positions.{position_fits};
 ghost use Rattle.device.specs.Step.{sending, collected, step_high, step, single_step, faulted, fresh_device};
-ghost use Rattle.tables.specs.Refusals.{first};
-ghost use Rattle.device.specs.Judgement.{contents_fit, fits, judgement, refused_with, step_answer};
+ghost use Rattle.tables.specs.Refusals.{first, carried};
+ghost use Rattle.device.specs.Judgement.{contents_fit, fits, judgement, step_refusals, refused_with, step_answer};
 
 use parts::Command;
 use phases::{Phase, Place, Sent};
 use registers::Registers;
+use tables::Refusal;
 
 #[repr(C)]
 #[derive(Clone, Copy)]
@@ -24,7 +25,8 @@ pub struct Stepped {
     pub sent: Sent,
 }
 
-// The refusal number, 0 where the step was taken. A refused device comes back as it came in, and nothing is sent.
+// The refusal's number, 0 where the step was taken. A refused device comes back as it came in, and nothing is sent: that is what
+// `step_answer` says, so this is no Result, in whose error there would be no device.
 #[derive(Clone, Copy)]
 pub struct Answer {
     pub refusal: u8,
@@ -34,20 +36,13 @@ pub struct Answer {
 
 impl Device {
     // One line state.
-    #[tactic(auto, using(crate::proofs::Taken::record_refused, crate::proofs::Taken::state_refused, crate::proofs::Taken::step_taken))]
     pub fn step(self, state: u8) -> Answer
         ensures { result ≡ step_answer self state }
     {
-        let judged = judge(self);
-        if judged != 0 {
-            return refused_with(self, judged);
+        if let Err(refusal) = self.judge_step(state) {
+            return refused_with(self, refusal.into());
         }
-        if state >= 4 {
-            return refused_with(self, 13);
-        }
-        let next = self.single_step(state);
-        let device = next.device;
-        let sent = next.sent;
+        let Stepped { device, sent } = self.single_step(state);
         Answer {
             refusal: 0,
             device,
@@ -55,19 +50,26 @@ impl Device {
         }
     }
 
+    // The refusals of a step: its record's, and a line state over 3.
+    fn judge_step(self, state: u8) -> Result<(), Refusal>
+        ensures { carried result ≡ first (step_refusals self state) }
+    {
+        if !parts::is_known(self.registers.part) {
+            return Err(Refusal::UnknownPart);
+        }
+        if !(self.fits() && state < 4) {
+            return Err(Refusal::OutOfRange);
+        }
+        Ok(())
+    }
+
     // The step of any record: what `step` does once nothing is refused.
     fn single_step(self, state: u8) -> Stepped
         ensures { result ≡ single_step self state }
     {
-        let before = self.registers;
-        let next = self.act(state);
-        let sent = next.sent;
-        let place = next.device.place;
-        let registers = positions::refit(before, next.device.registers);
-        Stepped {
-            device: Device { registers, place },
-            sent,
-        }
+        let mut next = self.act(state);
+        next.device.registers = positions::refit(self.registers, next.device.registers);
+        next
     }
 
     // Number 13 does not apply to the record.
@@ -81,22 +83,19 @@ impl Device {
     fn contents_fit(self) -> bool
         ensures { result ≡ contents_fit self }
     {
-        let registers = self.registers;
-        let place = self.place;
-        crate::judgement::place_fits(place, registers) && widths::registers_fit(registers)
+        crate::judgement::place_fits(self.place, self.registers)
+            && widths::registers_fit(self.registers)
     }
 
     // What a line state does to any record, at its position.
     pub fn act(self, state: u8) -> Stepped
         ensures { result ≡ step self state }
     {
-        let registers = self.registers;
-        let place = self.place;
-        let phase = phases::phase_of(place);
+        let phase = Phase::from(self.place);
         if state < 2 {
-            sending(registers, phases::hear(phase, state), Sent::Nothing)
+            sending(self.registers, phases::hear(phase, state), Sent::Nothing)
         } else {
-            high(registers, phase, state)
+            high(self.registers, phase, state)
         }
     }
 
@@ -104,11 +103,9 @@ impl Device {
     pub fn set_fault(self, kind: u8, flag: u8) -> Device
         ensures { result ≡ faulted self kind flag }
     {
-        let registers = self.registers;
-        let place = self.place;
         Device {
-            registers: registers.flag(kind, flag),
-            place,
+            registers: self.registers.flag(kind, flag),
+            ..self
         }
     }
 
@@ -118,7 +115,7 @@ impl Device {
     {
         Device {
             registers: Registers::zero(part, watch::fresh(bit, limit)),
-            place: phases::place_of(Phase::Hunting { window: 0 }),
+            place: Phase::Hunting { window: 0 }.into(),
         }
     }
 }
@@ -166,7 +163,7 @@ fn collect(registers: Registers, command: Command, count: u16, taken: u16, bit: 
 {
     let length = slices::slice_bits(command, registers.part, registers.configuration);
     let next = registers.take_bit(command, taken, bit);
-    if (taken as u32) + 1 < (length as u32) {
+    if u32::from(taken) + 1 < u32::from(length) {
         let more = Phase::Slice {
             command,
             count,
@@ -187,18 +184,21 @@ fn sending(registers: Registers, phase: Phase, sent: Sent) -> Stepped
     Stepped {
         device: Device {
             registers,
-            place: phases::place_of(phase),
+            place: phase.into(),
         },
         sent,
     }
 }
 
-// The number under which a record is refused, or 0.
-pub fn judge(device: Device) -> u8
-    ensures { result ≡ first (judgement device) }
+// The refusals of a record.
+pub fn judge(device: Device) -> Result<(), Refusal>
+    ensures { carried result ≡ first (judgement device) }
 {
     if !parts::is_known(device.registers.part) {
-        return 1;
+        return Err(Refusal::UnknownPart);
     }
-    if device.fits() { 0 } else { 13 }
+    if !device.fits() {
+        return Err(Refusal::OutOfRange);
+    }
+    Ok(())
 }

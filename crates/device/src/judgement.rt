@@ -9,8 +9,8 @@ use registers::Registers;
 pub fn place_fits(place: Place, registers: Registers) -> bool
     ensures { result ≡ place_fits place registers }
 {
-    let phase = phases::phase_of(place);
-    phases::same_place(phases::place_of(phase), place) && phase_fits(phase, registers)
+    let phase = Phase::from(place);
+    Place::from(phase) == place && phase_fits(phase, registers)
 }
 
 // A phase's numbers are ones that a device can come to.

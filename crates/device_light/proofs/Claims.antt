@@ -9,20 +9,19 @@ use Rattle.tables.proofs.Booleans.{or-second, or-none}
 use Rattle.tables.proofs.Rows.{clear, none, accepted}
 use Rattle.device.specs.declared.device.Device.{Device}
 use Rattle.device.specs.Judgement.{fits}
-use Rattle.subframes.specs.declared.answer.Asked.TheVariants as asked
-use Rattle.schedule.specs.declared.answer.Clocks.TheVariants as clocks
+use Rattle.std.specs.Prelude.{Ok, Err}
 use Rattle.schedule.specs.Light.{in_run, lit_first, lit_end}
 use Rattle.schedule.specs.Answers.{position_over}
 use Rattle.schedule.proofs.Lit.{lit-first-end, position-zero}
-use Rattle.schedule.proofs.Claims.{run-given}
+use Rattle.schedule.proofs.Claims.{run, run-given}
 use Rattle.device_light.specs.OfDevice.{active_value, device_rows, device_answer, device_clocks_answer}
 
 -- the run that is answered for a subframe has the clocks at which the output is said to be lit, and no others
 pub device-clocks :
     (d : Device) (output subframe clock phase f e : ℕ)
-    → device_clocks_answer d output subframe phase ≡ clocks.Run f e
+    → device_clocks_answer d output subframe phase ≡ Ok (run f e)
     → first (device_rows d output subframe clock phase) ≡ 0
-    → device_answer d output subframe clock phase ≡ asked.Is (in_run f e clock)
+    → device_answer d output subframe clock phase ≡ Ok (in_run f e clock)
 unfolding device_answer device_clocks_answer
 device-clocks d output subframe clock phase f e q a =
     let r = d.registers in
@@ -30,8 +29,8 @@ device-clocks d output subframe clock phase f e q a =
     let v = active_value r output phase in
     let g = run-given (first (device_rows d output subframe 0 phase)) (lit_first p r.configuration r.active v output subframe) (lit_end p r.configuration r.active v output subframe) f e q in
     sym
-    (accepted asked.Refused refl a
-    (ap asked.Is
+    (accepted Err refl a
+    (ap Ok
     (sym (lit-first-end p r.configuration r.active v output subframe clock ∙ ap₂ (λ (m n : ℕ). in_run m n clock) g.0 g.1))))
 
 -- it is answered wherever the question about one clock is

@@ -8,9 +8,10 @@ use Prim.Native.Nat.{ℕ, ◌<◌}
 use lib.Dec.{eqb, leb}
 use lib.ListN.{get_or}
 use borrow.Author.Tests.{not-false, lt-leb}
-use Rattle.tables.specs.Refusals.{◌when◌, first, answer}
+use Rattle.tables.specs.Refusals.{◌when◌, first, answer, number_of}
+use Rattle.tables.specs.declared.refusal.Refusal.{Refusal}
 use Rattle.parts.specs.Parts.{known, part_of, limit}
-use Rattle.tables.proofs.Rows.{clear}
+use Rattle.tables.proofs.Rows.{clear, refused, named}
 use Rattle.tables.proofs.Booleans.{and_both, cond_both}
 use Rattle.widths.specs.Widths.{flags_fit, values_fit}
 use Rattle.parts.proofs.Rows.{limit-pos}
@@ -18,8 +19,7 @@ use Rattle.widths.proofs.Below.{below_at, below_of}
 use Rattle.device.specs.declared.device.Device.{Device}
 use Rattle.device.specs.Judgement.{place_fits, fits, judgement}
 use Rattle.device.proofs.Kept.{parts-of}
-use Rattle.subframes.specs.declared.answer.Asked.TheVariants as asked
-use Rattle.schedule.specs.declared.answer.Clocks.TheVariants as clocks
+use Rattle.std.specs.Prelude.{Ok, Err}
 use Rattle.schedule.specs.Answers.{position_over, lit_rows, lit_answer, lit_clocks_answer}
 use Rattle.device_light.specs.OfDevice.{active_value, is_shown, shown_run, device_rows, device_answer, device_clocks_answer}
 
@@ -34,6 +34,22 @@ pub first-record :
 first-record d output subframe clock phase =
     let r = d.registers in
     sooner-or (not (known r.part)) (not (fits d)) (position_over (part_of r.part) r.configuration output subframe clock phase)
+
+pub lit_refused :
+    (d : Device) (output subframe clock phase : ℕ) (r : Refusal)
+    → number_of r ≡ first (judgement d)
+    → Err (number_of r) ≡ device_answer d output subframe clock phase
+unfolding device_answer
+lit_refused d output subframe clock phase r e =
+    refused Err (Ok (is_shown d.registers output subframe clock phase)) (first-record d output subframe clock phase e (named r)) (named r)
+
+pub run_refused :
+    (d : Device) (output subframe phase : ℕ) (r : Refusal)
+    → number_of r ≡ first (judgement d)
+    → Err (number_of r) ≡ device_clocks_answer d output subframe phase
+unfolding device_clocks_answer
+run_refused d output subframe phase r e =
+    refused Err (Ok (shown_run d.registers output subframe phase)) (first-record d output subframe 0 phase e (named r)) (named r)
 
 active_value-lt : (d : Device) (output phase : ℕ) → fits d ≡ true → active_value d.registers output phase < limit (part_of d.registers.part)
 active_value-lt d output phase h =
@@ -62,20 +78,20 @@ rows_same d output subframe clock phase e =
     position-alone (not (known r.part)) (not (fits d)) (leb m v) (position_over (part_of r.part) r.configuration output subframe clock phase)
     n.0 n.1.0 (lt-leb m v (active_value-lt d output phase (not-false (fits d) n.1.0)))
 
-pub device-lit :
+pub device_lit :
     (d : Device) (output subframe clock phase : ℕ)
     → first (judgement d) ≡ 0
     → lit_answer d.registers.part d.registers.configuration d.registers.active (active_value d.registers output phase) output subframe clock phase
     ≡ device_answer d output subframe clock phase
 unfolding device_answer lit_answer
-device-lit d output subframe clock phase e =
-    ap (λ (n : ℕ). answer n asked.Refused (asked.Is (is_shown d.registers output subframe clock phase))) (rows_same d output subframe clock phase e)
+device_lit d output subframe clock phase e =
+    ap (λ (n : ℕ). answer n Err (Ok (is_shown d.registers output subframe clock phase))) (rows_same d output subframe clock phase e)
 
-pub device-run :
+pub device_run :
     (d : Device) (output subframe phase : ℕ)
     → first (judgement d) ≡ 0
     → lit_clocks_answer d.registers.part d.registers.configuration d.registers.active (active_value d.registers output phase) output subframe phase
     ≡ device_clocks_answer d output subframe phase
 unfolding device_clocks_answer lit_clocks_answer
-device-run d output subframe phase e =
-    ap (λ (n : ℕ). answer n clocks.Refused (shown_run d.registers output subframe phase)) (rows_same d output subframe 0 phase e)
+device_run d output subframe phase e =
+    ap (λ (n : ℕ). answer n Err (Ok (shown_run d.registers output subframe phase))) (rows_same d output subframe 0 phase e)

@@ -23,7 +23,7 @@ use Rattle.device.specs.declared.device.Device.{Device}
 use Rattle.device.specs.Judgement.{fits, judgement}
 use Rattle.device.proofs.Kept.{parts-of}
 use Rattle.device_light.specs.OfDevice.{device_rows, device_answer}
-use Rattle.device_light.proofs.Records.{device-lit}
+use Rattle.device_light.proofs.Records.{device_lit}
 use Rattle.judgement.specs.declared.judging.Judged.{Judged}
 use Rattle.judgement.specs.Judging.{unjudged, judged_from}
 use Rattle.refusals.specs.Rows.{output_rows}
@@ -103,7 +103,7 @@ module _ (d : Device) (output : ℕ) (k : known d.registers.part ≡ true) (h : 
       record {
         within = moment-in d h;
         holds = is_lit_now r output;
-        asked = device-lit d output m.subframe m.clock m.phase (none (judgement d) (ap not k, (ap not h, tt))) ∙ device-asked;
+        asked = device_lit d output m.subframe m.clock m.phase (none (judgement d) (ap not k, (ap not h, tt))) ∙ device-asked;
         told = refl;
       }
 

@@ -8,7 +8,9 @@ use mathlib.Core.Logic.{inl, inr, ⊎_elim}
 use lib.Dec.{ltb, eqb}
 use borrow.Author.Tests.{ltb-true, eqb-true, eqb-false, eq-eqb, ne_eqb}
 use Rattle.tables.proofs.Booleans.{and_left, and_right}
-use Rattle.tables.specs.Refusals.{Row, ◌when◌, first, Applies, answer, content, Lowest}
+use Rattle.tables.specs.Refusals.{Row, ◌when◌, first, Applies, answer, content, Lowest, number_of}
+use Rattle.tables.specs.declared.refusal.Refusal.{Refusal}
+use Rattle.tables.specs.declared.refusal.Refusal.TheVariants as R
 
 -- no row's test holds
 abbrev pub Clear : List Row → Type 0
@@ -114,3 +116,19 @@ none-given rows a h = at (eqb (first rows) 0) refl where
   at : (b : Bool) → eqb (first rows) 0 ≡ b → first rows ≡ 0
   at true e = eqb-true (first rows) 0 e
   at false e = absurd (h (first rows) (lowest rows a (eqb-false (first rows) 0 e)).applies)
+
+-- 0 is no refusal's number
+pub named : (r : Refusal) → number_of r ≡ 0 → ⊥
+named R.UnknownPart e = absurd (omega (arith, e))
+named R.WrongDeviceCount e = absurd (omega (arith, e))
+named R.LongTail e = absurd (omega (arith, e))
+named R.WrongLength e = absurd (omega (arith, e))
+named R.NoRoom e = absurd (omega (arith, e))
+named R.HighValue e = absurd (omega (arith, e))
+named R.WrongSync e = absurd (omega (arith, e))
+named R.WrongCommand e = absurd (omega (arith, e))
+named R.WrongCount e = absurd (omega (arith, e))
+named R.UnequalCopies e = absurd (omega (arith, e))
+named R.UnusedBitSet e = absurd (omega (arith, e))
+named R.WrongTail e = absurd (omega (arith, e))
+named R.OutOfRange e = absurd (omega (arith, e))

@@ -25,7 +25,7 @@ pub struct Stepped {
 pub extern "C" fn bb_judge(device: Device) -> u8
     ensures { result ≡ first (judgement device) }
 {
-    judge(device)
+    tables::carried_number(judge(device))
 }
 
 // One line state.
@@ -34,9 +34,7 @@ pub extern "C" fn bb_step(device: Device, state: u8) -> Stepped
     ensures { result ≡ of_step (step_answer device state) }
 {
     let answer = device.step(state);
-    let next = answer.device;
-    let sent = answer.sent;
-    of_sent(next, sent, answer.refusal)
+    of_sent(answer.device, answer.sent, answer.refusal)
 }
 
 fn of_sent(device: Device, sent: Sent, refusal: u8) -> Stepped
@@ -45,14 +43,7 @@ fn of_sent(device: Device, sent: Sent, refusal: u8) -> Stepped
     match sent {
         Sent::Nothing => numbers(device, 0, 0, 0, 0, refusal),
         Sent::One(state) => numbers(device, 0, 0, state, 1, refusal),
-        Sent::Header { command, count } => numbers(
-            device,
-            count,
-            parts::number_of(command),
-            0,
-            24,
-            refusal,
-        ),
+        Sent::Header { command, count } => numbers(device, count, command.into(), 0, 24, refusal),
     }
 }
 

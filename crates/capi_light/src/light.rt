@@ -1,5 +1,6 @@
 // The questions about light.
 ghost use Rattle.std.specs.Prelude.{◌≡◌};
+ghost use Rattle.tables.specs.Refusals.{numbered};
 ghost use Rattle.subframes.specs.Answers.{on_answer, lead_answer};
 ghost use Rattle.schedule.specs.Answers.{lit_answer, lit_clocks_answer};
 ghost use Rattle.device_light.specs.OfDevice.{device_answer, device_clocks_answer};
@@ -7,7 +8,9 @@ ghost use Rattle.capi_light.specs.LightAnswers.{of_asked, of_lead, of_clocks};
 
 use answers::{Answer, accept, refuse};
 use device::Device;
-use subframes::{Asked, Lead};
+use schedule::{Moment, Output};
+use subframes::Intensity;
+use tables::Refusal;
 
 // A signed number, or a refusal. The number is 0 where refused, and the refusal 0 where accepted.
 #[repr(C)]
@@ -31,7 +34,12 @@ pub struct Clocks {
 pub extern "C" fn bb_on(part: u16, configuration: u8, global: u8, subframe: u32) -> Answer
     ensures { result ≡ of_asked (on_answer part configuration global subframe) }
 {
-    of_asked(subframes::is_on(part, configuration, global, subframe))
+    let intensity = Intensity {
+        part,
+        configuration,
+        global,
+    };
+    of_asked(intensity.is_on(subframe))
 }
 
 // How far does a window of subframes lead?
@@ -39,7 +47,12 @@ pub extern "C" fn bb_on(part: u16, configuration: u8, global: u8, subframe: u32)
 pub extern "C" fn bb_lead(part: u16, configuration: u8, global: u8, from: u32, w: u32) -> Signed
     ensures { result ≡ of_lead (lead_answer part configuration global from w) }
 {
-    of_lead(subframes::lead_of(part, configuration, global, from, w))
+    let intensity = Intensity {
+        part,
+        configuration,
+        global,
+    };
+    of_lead(intensity.lead_of(from, w))
 }
 
 // Is an output with a value lit at a clock of a subframe, in a phase?
@@ -56,16 +69,20 @@ pub extern "C" fn bb_lit(
 ) -> Answer
     ensures { result ≡ of_asked (lit_answer part configuration global value output subframe clock phase) }
 {
-    of_asked(schedule::is_lit(
-        part,
-        configuration,
-        global,
+    let output = Output {
+        intensity: Intensity {
+            part,
+            configuration,
+            global,
+        },
         value,
-        output,
+        number: output,
+    };
+    of_asked(output.is_lit(Moment {
         subframe,
         clock,
         phase,
-    ))
+    }))
 }
 
 // The same of a device, by its active values.
@@ -79,7 +96,12 @@ pub extern "C" fn bb_device_lit(
 ) -> Answer
     ensures { result ≡ of_asked (device_answer device output subframe clock phase) }
 {
-    of_asked(device_light::is_device_lit(device, output, subframe, clock, phase))
+    let moment = Moment {
+        subframe,
+        clock,
+        phase,
+    };
+    of_asked(device_light::is_device_lit(device, output, moment))
 }
 
 // At which clocks of a subframe is an output with a value lit, in a phase?
@@ -95,7 +117,16 @@ pub extern "C" fn bb_lit_clocks(
 ) -> Clocks
     ensures { result ≡ of_clocks (lit_clocks_answer part configuration global value output subframe phase) }
 {
-    of_clocks(schedule::lit_clocks(part, configuration, global, value, output, subframe, phase))
+    let output = Output {
+        intensity: Intensity {
+            part,
+            configuration,
+            global,
+        },
+        value,
+        number: output,
+    };
+    of_clocks(output.lit_clocks(subframe, phase))
 }
 
 // The same of a device, by its active values.
@@ -111,43 +142,40 @@ pub extern "C" fn bb_device_lit_clocks(
     of_clocks(device_light::device_lit_clocks(device, output, subframe, phase))
 }
 
-fn of_asked(asked: Asked) -> Answer
-    ensures { result ≡ of_asked asked }
+fn of_asked(asked: Result<bool, Refusal>) -> Answer
+    ensures { result ≡ of_asked (numbered asked) }
 {
     match asked {
-        Asked::Is(yes) => if yes { accept(1) } else { accept(0) },
-        Asked::Refused(number) => refuse(number),
+        Ok(holds) => accept(holds.into()),
+        Err(refusal) => refuse(refusal.into()),
     }
 }
 
-fn of_lead(lead: Lead) -> Signed
-    ensures { result ≡ of_lead lead }
+fn of_lead(lead: Result<i32, Refusal>) -> Signed
+    ensures { result ≡ of_lead (numbered lead) }
 {
     match lead {
-        Lead::By(by) => Signed {
-            value: by,
-            refusal: 0,
-        },
-        Lead::Refused(number) => Signed {
+        Ok(value) => Signed { value, refusal: 0 },
+        Err(refusal) => Signed {
             value: 0,
-            refusal: number,
+            refusal: refusal.into(),
         },
     }
 }
 
-fn of_clocks(clocks: schedule::Clocks) -> Clocks
-    ensures { result ≡ of_clocks clocks }
+fn of_clocks(clocks: Result<schedule::Clocks, Refusal>) -> Clocks
+    ensures { result ≡ of_clocks (numbered clocks) }
 {
     match clocks {
-        schedule::Clocks::Run(first, end) => Clocks {
+        Ok(schedule::Clocks { first, end }) => Clocks {
             first,
             end,
             refusal: 0,
         },
-        schedule::Clocks::Refused(number) => Clocks {
+        Err(refusal) => Clocks {
             first: 0,
             end: 0,
-            refusal: number,
+            refusal: refusal.into(),
         },
     }
 }

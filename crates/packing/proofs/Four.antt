@@ -1,15 +1,13 @@
 -- Four values moved together, at any width up to 16: side by side under a mask, then two and two, then all four. The number is that of
 -- their fields. Assumes nothing.
-use mathlib.Core.Path.{◌≡◌, sym, ap, ap₂, ◌∙◌, subst}
+use mathlib.Core.Path.{◌≡◌, refl, sym, ap, ap₂, ◌∙◌, subst}
 use mathlib.Core.Bool.{Bool}
 use mathlib.Core.List.{List, [], ◌∷◌, ◌++◌}
 use Prim.Native.Nat.{ℕ, ◌+◌, ◌-◌, ◌*◌, ◌/◌, ◌%◌, ◌^◌, ◌≤◌, ◌<◌}
 use native.Mathlib.Nat.{mod-lt, mod-eq_of_lt, lt_of_lt_of_le, add-mul, mul_comm, mul_assoc}
-use native.Mathlib.Numerals.{add-one}
 use native.Mathlib.Omega.{arith}
 use lib.Arith.{digits_lt}
-use lib.ListN.{length, get_or, take, drop}
-use lib.Seq.{drop-cons}
+use lib.ListN.{length, get_or}
 use lib.Bits.{bit_or, bit_and, and_mask, and_block, or_block, or_shifted, or_shifted_r}
 use lib.Pow.{pow-add, pow_pos, pow_mono, shl_exact, high, low, ones_lt}
 use Rattle.bits.specs.Bits.{bits, number, fields}
@@ -146,22 +144,19 @@ side-masked w {a} {b} {c} {d} h la lb lc ld =
     ∙ and_block 32 (d * 2 ^ 16 + c) (m * 2 ^ 16 + m) (b * 2 ^ 16 + a) (m * 2 ^ 16 + m) lo ms
     ∙ ap₂ (λ (x y : ℕ). x * 2 ^ 32 + y) (masked w c d h lc) (masked w a b h la)
 
-four-of : (vs : List ℕ) (i : ℕ) → i + 4 ≤ length vs → take 4 (drop i vs) ≡ get_or vs i 0 ∷ get_or vs (i + 1) 0 ∷ get_or vs (i + 2) 0 ∷ get_or vs (i + 3) 0 ∷ []
-four-of vs i l =
-    let next : (k : ℕ) → k < length vs → drop k vs ≡ get_or vs k 0 ∷ drop (k + 1) vs
-    = λ k m. drop-cons vs k 0 m ∙ ap (λ (n : ℕ). get_or vs k 0 ∷ drop n vs) (sym (add-one k)) in
-    let e : i + 1 + 1 ≡ i + 2 = omega arith in
-    let f : i + 2 + 1 ≡ i + 3 = omega arith in
-    ap (take 4) (next i (omega arith))
-    ∙ ap (λ (z : List ℕ). get_or vs i 0 ∷ take 3 z) (next (i + 1) (omega arith) ∙ ap (λ (n : ℕ). get_or vs (i + 1) 0 ∷ drop n vs) e)
-    ∙ ap (λ (z : List ℕ). get_or vs i 0 ∷ get_or vs (i + 1) 0 ∷ take 2 z) (next (i + 2) (omega arith) ∙ ap (λ (n : ℕ). get_or vs (i + 2) 0 ∷ drop n vs) f)
-    ∙ ap (λ (z : List ℕ). get_or vs i 0 ∷ get_or vs (i + 1) 0 ∷ get_or vs (i + 2) 0 ∷ take 1 z) (next (i + 3) (omega arith))
+four-of : (vs : List ℕ) → length vs ≡ 4 → vs ≡ get_or vs 0 0 ∷ get_or vs 1 0 ∷ get_or vs 2 0 ∷ get_or vs 3 0 ∷ []
+four-of [] l = absurd (omega arith)
+four-of (a ∷ []) l = absurd (omega arith)
+four-of (a ∷ b ∷ []) l = absurd (omega arith)
+four-of (a ∷ b ∷ c ∷ []) l = absurd (omega arith)
+four-of (a ∷ b ∷ c ∷ d ∷ []) l = refl
+four-of (a ∷ b ∷ c ∷ d ∷ e ∷ vs) l = absurd (omega arith)
 
--- from the element i on, moved together
-pub group-number : (w : ℕ) (vs : List ℕ) (i mask : ℕ) → w ≤ 16 → mask ≡ four_masks w → i + 4 ≤ length vs → ((k : ℕ) → get_or vs k 0 < 2 ^ 16)
-    → moved w (bit_and (besides (get_or vs i 0) (get_or vs (i + 1) 0) (get_or vs (i + 2) 0) (get_or vs (i + 3) 0)) mask) ≡ number (fields w (take 4 (drop i vs)))
-group-number w vs i mask h m l b =
+-- moved together
+pub group-number : (w : ℕ) (vs : List ℕ) (mask : ℕ) → w ≤ 16 → mask ≡ four_masks w → length vs ≡ 4 → ((k : ℕ) → get_or vs k 0 < 2 ^ 16)
+    → moved w (bit_and (besides (get_or vs 0 0) (get_or vs 1 0) (get_or vs 2 0) (get_or vs 3 0)) mask) ≡ number (fields w vs)
+group-number w vs mask h m l b =
     let below : (k : ℕ) → get_or vs k 0 % 2 ^ w < 2 ^ w = λ k. mod-lt (get_or vs k 0) (pow_pos w) in
-    ap (moved w) (ap (bit_and (besides (get_or vs i 0) (get_or vs (i + 1) 0) (get_or vs (i + 2) 0) (get_or vs (i + 3) 0))) m ∙ side-masked w h (b i) (b (i + 1)) (b (i + 2)) (b (i + 3)))
-    ∙ together w h (below i) (below (i + 1)) (below (i + 2)) (below (i + 3))
-    ∙ sym (ap (λ (z : List ℕ). number (fields w z)) (four-of vs i l) ∙ four-number w (get_or vs i 0) (get_or vs (i + 1) 0) (get_or vs (i + 2) 0) (get_or vs (i + 3) 0))
+    ap (moved w) (ap (bit_and (besides (get_or vs 0 0) (get_or vs 1 0) (get_or vs 2 0) (get_or vs 3 0))) m ∙ side-masked w h (b 0) (b 1) (b 2) (b 3))
+    ∙ together w h (below 0) (below 1) (below 2) (below 3)
+    ∙ sym (ap (λ (z : List ℕ). number (fields w z)) (four-of vs l) ∙ four-number w (get_or vs 0 0) (get_or vs 1 0) (get_or vs 2 0) (get_or vs 3 0))

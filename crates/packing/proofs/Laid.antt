@@ -7,6 +7,7 @@ use Prim.Native.Nat.{ℕ, zero, suc, ◌+◌, ◌-◌, ◌*◌, ◌/◌, ◌%◌
 use native.Mathlib.Nat.{add-zero, add-mul, zero-mul, mul_assoc}
 use native.Mathlib.Omega.{arith}
 use lib.ListN.{length, get_or, take, drop, length-append, length-drop, length-map, drop_of_length-le}
+use Rattle.std.proofs.lemmas.List.{get_or-take, get_or-drop}
 use lib.Seq.{length-take-le, take-append-add, take_at, take-take, take_all, drop-drop, paste}
 use lib.Pow.{shl-shr, shl_exact}
 use Rattle.bits.specs.Bits.{bits, number, fields}
@@ -81,38 +82,41 @@ unfolding fields
 words-none k ws a from end = subst (λ (n : ℕ). Laid a a from n end []) (sym (zero-mul k)) (laid_none a from end)
 
 -- the next word, behind j of them
-words-next : (k j i : ℕ) (ws : List ℕ) {a b c : List ℕ} {from at end : ℕ} → i ≡ j + 1 → k ≤ 8 → j < length ws → at ≡ from + j * k → at ≤ length b → at + 8 ≤ end
-    → Laid a b from (j * k) end (fields (8 * k) (take j (high_bits (8 * k) ws))) → Stored b c at 8 (bits 64 (get_or ws j 0))
+words-next : (k j i : ℕ) (ws : List ℕ) {a b c : List ℕ} {from at end x : ℕ} → i ≡ j + 1 → k ≤ 8 → j < length ws → x ≡ get_or ws j 0 → at ≡ from + j * k
+    → at ≤ length b → at + 8 ≤ end → Laid a b from (j * k) end (fields (8 * k) (take j (high_bits (8 * k) ws))) → Stored b c at 8 (bits 64 x)
     → Laid a c from (i * k) end (fields (8 * k) (take i (high_bits (8 * k) ws)))
 unfolding high_bits
-words-next k j i ws {a} {b} {c} {from} {at} {end} f h l q room inside d e =
+words-next k j i ws {a} {b} {c} {from} {at} {end} {x} f h l v q room inside d e =
     let hs : List ℕ = high_bits (8 * k) ws in
     let n : j * k + k ≡ i * k = omega (arith, ap (λ (m : ℕ). m * k) f, add-mul j 1 k) in
     let m : j < length hs = omega (arith, length-high_bits (8 * k) ws) in
-    let bs : fields (8 * k) (take j hs) ++ bits (8 * k) (get_or ws j 0 / 2 ^ (64 - 8 * k)) ≡ fields (8 * k) (take i hs)
-    = ap (λ (z : List Bool). fields (8 * k) (take j hs) ++ z) (sym (fields_at (8 * k) j hs m ∙ ap (bits (8 * k)) (get_d_map (λ (x : ℕ). x / 2 ^ (64 - 8 * k)) ws j l)))
+    let bs : fields (8 * k) (take j hs) ++ bits (8 * k) (x / 2 ^ (64 - 8 * k)) ≡ fields (8 * k) (take i hs)
+    = ap (λ (z : List Bool). fields (8 * k) (take j hs) ++ z) (ap (λ (y : ℕ). bits (8 * k) (y / 2 ^ (64 - 8 * k))) v
+    ∙ sym (fields_at (8 * k) j hs m ∙ ap (bits (8 * k)) (get_d_map (λ (y : ℕ). y / 2 ^ (64 - 8 * k)) ws j l)))
     ∙ fields-more (8 * k) j 1 hs ∙ ap (λ (m : ℕ). fields (8 * k) (take m hs)) (sym f) in
-    subst₂ (λ (m : ℕ) (z : List Bool). Laid a c from m end z) n bs (laid_then q inside d (laid_word k (get_or ws j 0) h room e))
+    subst₂ (λ (m : ℕ) (z : List Bool). Laid a c from m end z) n bs (laid_then q inside d (laid_word k x h room e))
 
 -- the next four words, stored k bytes apart
-pub words-four : (k j : ℕ) (ws : List ℕ) {a b c d e f : List ℕ} {from at end : ℕ} → k ≤ 8 → j + 4 ≤ length ws → at ≡ from + j * k → at + 3 * k + 8 ≤ end
-    → at + 3 * k ≤ length b → length c ≡ length b → length d ≡ length b → length e ≡ length b
+pub words-four : (k j : ℕ) (ws four : List ℕ) {a b c d e f : List ℕ} {from at end : ℕ} → k ≤ 8 → j + 4 ≤ length ws → four ≡ take 4 (drop j ws) → at ≡ from + j * k
+    → at + 3 * k + 8 ≤ end → at + 3 * k ≤ length b → length c ≡ length b → length d ≡ length b → length e ≡ length b
     → Laid a b from (j * k) end (fields (8 * k) (take j (high_bits (8 * k) ws)))
-    → Stored b c at 8 (bits 64 (get_or ws j 0)) → Stored c d (at + k) 8 (bits 64 (get_or ws (j + 1) 0))
-    → Stored d e (at + 2 * k) 8 (bits 64 (get_or ws (j + 2) 0)) → Stored e f (at + 3 * k) 8 (bits 64 (get_or ws (j + 3) 0))
+    → Stored b c at 8 (bits 64 (get_or four 0 0)) → Stored c d (at + k) 8 (bits 64 (get_or four 1 0))
+    → Stored d e (at + 2 * k) 8 (bits 64 (get_or four 2 0)) → Stored e f (at + 3 * k) 8 (bits 64 (get_or four 3 0))
     → Laid a f from ((j + 4) * k) end (fields (8 * k) (take (j + 4) (high_bits (8 * k) ws)))
-words-four k j ws h l q inside room m n o laid s t u v =
-    words-next k (j + 3) (j + 4) ws (omega arith) h (omega arith) (omega (arith, add-mul j 3 k)) (omega arith) (omega arith)
-    (words-next k (j + 2) (j + 3) ws (omega arith) h (omega arith) (omega (arith, add-mul j 2 k)) (omega arith) (omega arith)
-    (words-next k (j + 1) (j + 2) ws (omega arith) h (omega arith) (omega (arith, add-mul j 1 k)) (omega arith) (omega arith)
-    (words-next k j (j + 1) ws (omega arith) h (omega arith) q (omega arith) (omega arith) laid s) t) u) v
+words-four k j ws four h l cut q inside room m n o laid s t u v =
+    let word : (i : ℕ) → i < 4 → get_or four i 0 ≡ get_or ws (j + i) 0
+    = λ i less. ap (λ (z : List ℕ). get_or z i 0) cut ∙ get_or-take 4 (drop j ws) i 0 less ∙ get_or-drop j ws i 0 in
+    words-next k (j + 3) (j + 4) ws (omega arith) h (omega arith) (word 3 (omega arith)) (omega (arith, add-mul j 3 k)) (omega arith) (omega arith)
+    (words-next k (j + 2) (j + 3) ws (omega arith) h (omega arith) (word 2 (omega arith)) (omega (arith, add-mul j 2 k)) (omega arith) (omega arith)
+    (words-next k (j + 1) (j + 2) ws (omega arith) h (omega arith) (word 1 (omega arith)) (omega (arith, add-mul j 1 k)) (omega arith) (omega arith)
+    (words-next k j (j + 1) ws (omega arith) h (omega arith) (word 0 (omega arith) ∙ ap (λ (i : ℕ). get_or ws i 0) (add-zero j)) q (omega arith) (omega arith) laid s) t) u) v
 
--- all of them, where k bytes are n bits
+-- all of them
 pub words-all : (k j n : ℕ) (ws : List ℕ) {a b : List ℕ} {from end : ℕ} → 8 * k ≡ n → j ≡ length ws
-    → Laid a b from (j * k) end (fields (8 * k) (take j (high_bits (8 * k) ws))) → Laid a b from (length ws * k) end (fields n (high_bits n ws))
+    → Laid a b from (j * k) end (fields (8 * k) (take j (high_bits (8 * k) ws))) → Laid a b from (j * k) end (fields n (high_bits n ws))
 words-all k j n ws {a} {b} {from} {end} e f d =
     let l : length (high_bits n ws) ≤ j = omega (arith, length-high_bits n ws) in
-    subst₂ (λ (m : ℕ) (z : List Bool). Laid a b from (m * k) end z) f
+    subst (λ (z : List Bool). Laid a b from (j * k) end z)
     (ap (λ (m : ℕ). fields m (take j (high_bits m ws))) e ∙ ap (fields n) (take_all j (high_bits n ws) l)) d
 
 -- ---- the words of groups
@@ -121,15 +125,12 @@ pub length-words : (w k : ℕ) (vs : List ℕ) → length (group_words w k vs) �
 unfolding group_words
 length-words w k vs = length-map (group_numbers w (groups 4 k vs)) (λ g. g * 2 ^ (64 - 4 * w)) ∙ length-groups 4 w k vs
 
--- the word of the group that begins at the value `from` + 4 j
-pub get_d_words : (w k j from : ℕ) (vs : List ℕ) → j < k
-    → get_or (group_words w k (drop from vs)) j 0 ≡ number (fields w (take 4 (drop (from + 4 * j) vs))) * 2 ^ (64 - 4 * w)
+-- the word of the group that begins at the value 4 j
+pub get_d_words : (w k j : ℕ) (vs : List ℕ) → j < k → get_or (group_words w k vs) j 0 ≡ number (fields w (take 4 (drop (j * 4) vs))) * 2 ^ (64 - 4 * w)
 unfolding group_words
-get_d_words w k j from vs l =
-    let e : from + j * 4 ≡ from + 4 * j = omega arith in
-    get_d_map (λ (x : ℕ). x * 2 ^ (64 - 4 * w)) (group_numbers w (groups 4 k (drop from vs))) j (omega (arith, length-groups 4 w k (drop from vs)))
-    ∙ ap (λ (x : ℕ). x * 2 ^ (64 - 4 * w)) (get_d-groups 4 w k j (drop from vs) l
-    ∙ ap (λ (z : List ℕ). number (fields w (take 4 z))) (drop-drop (j * 4) from vs ∙ ap (λ (n : ℕ). drop n vs) e))
+get_d_words w k j vs l =
+    get_d_map (λ (x : ℕ). x * 2 ^ (64 - 4 * w)) (group_numbers w (groups 4 k vs)) j (omega (arith, length-groups 4 w k vs))
+    ∙ ap (λ (x : ℕ). x * 2 ^ (64 - 4 * w)) (get_d-groups 4 w k j vs l)
 
 -- a group's number has its bits, so that it is not cut by the shift
 pub word-exact : (w : ℕ) (g : List ℕ) → 4 * w ≤ 64 → length g ≡ 4 → (number (fields w g) * 2 ^ (64 - 4 * w)) % 2 ^ 64 ≡ number (fields w g) * 2 ^ (64 - 4 * w)
@@ -159,14 +160,14 @@ unfolding fields
 blocks-none w vs a at end = subst (λ (n : ℕ). Laid a a at n end []) (sym (zero-mul w)) (laid_none a at end)
 
 -- a block behind i values
-pub block-next : (w i : ℕ) (vs ws : List ℕ) {a b c : List ℕ} {at to stop end : ℕ} → w % 2 ≡ 0 → i % 8 ≡ 0 → i + 128 ≤ length vs → to ≡ at + i / 8 * w → stop ≤ end
-    → ws ≡ group_words w 32 (drop i vs) → Laid a b at (i / 8 * w) end (fields w (take i vs))
-    → Laid b c to (length ws * (w / 2)) stop (fields (4 * w) (high_bits (4 * w) ws)) → Laid a c at ((i + 128) / 8 * w) end (fields w (take (i + 128) vs))
-block-next w i vs ws {a} {b} {c} {at} {to} {stop} {end} even whole inside q h e d f =
-    let long : length ws ≡ 32 = ap length e ∙ length-words w 32 (drop i vs) in
-    let n : length ws * (w / 2) ≡ 16 * w = ap (λ (m : ℕ). m * (w / 2)) long ∙ omega arith in
+pub block-next : (w i : ℕ) (vs block ws : List ℕ) {a b c : List ℕ} {at to stop end : ℕ} → w % 2 ≡ 0 → i % 8 ≡ 0 → i + 128 ≤ length vs → to ≡ at + i / 8 * w → stop ≤ end
+    → block ≡ take 128 (drop i vs) → ws ≡ group_words w 32 block → Laid a b at (i / 8 * w) end (fields w (take i vs))
+    → Laid b c to (32 * (w / 2)) stop (fields (4 * w) (high_bits (4 * w) ws)) → Laid a c at ((i + 128) / 8 * w) end (fields w (take (i + 128) vs))
+block-next w i vs block ws {a} {b} {c} {at} {to} {stop} {end} even whole inside q h cut e d f =
+    let long : length block ≡ 128 = ap length cut ∙ length-take-le 128 (drop i vs) (omega (arith, length-drop i vs)) in
+    let n : 32 * (w / 2) ≡ 16 * w = omega arith in
     let bs : fields (4 * w) (high_bits (4 * w) ws) ≡ fields w (take 128 (drop i vs))
-    = ap (λ (z : List ℕ). fields (4 * w) (high_bits (4 * w) z)) e ∙ words-fields w 32 (drop i vs) (omega (arith, length-drop i vs)) in
+    = ap (λ (z : List ℕ). fields (4 * w) (high_bits (4 * w) z)) e ∙ words-fields w 32 block (omega arith) ∙ ap (fields w) (take_all 128 block (omega arith) ∙ cut) in
     let m : i / 8 + 16 ≡ (i + 128) / 8 = omega arith in
     subst₂ (λ (k : ℕ) (z : List Bool). Laid a c at k end z) (sym (add-mul (i / 8) 16 w) ∙ ap (λ (k : ℕ). k * w) m) (fields-more w i 128 vs)
     (laid_then q h d (subst₂ (λ (k : ℕ) (z : List Bool). Laid b c to k stop z) n bs f))

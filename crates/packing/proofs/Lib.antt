@@ -2,6 +2,7 @@
 -- Four, Laid and Whole.
 pub mod Answers
 mod Writing
+mod Chunks
 mod Four
 mod Laid
 mod Whole

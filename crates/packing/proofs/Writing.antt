@@ -6,7 +6,7 @@ use mathlib.Core.List.{List, [], ◌∷◌, ◌++◌, append_assoc, append-nil}
 use Prim.Native.Nat.{ℕ, suc, ◌+◌, ◌-◌, ◌*◌, ◌/◌, ◌%◌, ◌^◌, ◌≤◌, ◌<◌}
 use native.Mathlib.Nat.{add-zero, mod-lt, add-mul, zero-mul, one-mul}
 use native.Mathlib.Omega.{arith}
-use lib.ListN.{length, get_or, take, drop, set, length-drop}
+use lib.ListN.{length, get_or, take, drop, set, length-drop, take-append-drop}
 use lib.Seq.{length-take-le, take_all, take-suc-set, drop-drop, drop-set-lt}
 use lib.Pow.{pow_pos, shr-shr}
 use lib.Bits.{bit_or, bit_and, and_mask}
@@ -95,20 +95,19 @@ byte-written_bits out at h acc l =
 
 -- ---- one push, whole: the bits wait, or 32 of them are stored
 
-pub pushed-kept : (v : ℕ) {a : List ℕ} {p : Writer} {k v' : ℕ} → p.have + k < 32 → v' ≡ v % 2 ^ k
-    → Pushed a a p (record { at = p.at; acc = bit_or ((p.acc * 2 ^ k) % 2 ^ 64) v'; have = p.have + k }) k (bits k v)
+pub pushed-kept : (v : ℕ) {a : List ℕ} {p : Writer} {k v' : ℕ} (l : p.have + k < 32) → v' ≡ v % 2 ^ k
+    → Pushed a a p (record { at = p.at; acc = bit_or ((p.acc * 2 ^ k) % 2 ^ 64) v'; have = p.have + k; few = l }) k (bits k v)
 pushed-kept v {a} {p} {k} {v'} l f =
     record {
       said = push a p.at p.have k p.acc v v' (omega arith) f;
       rest = refl;
-      small = l;
       forward = omega arith;
       count = omega arith;
     }
 
-pub pushed-stored : (v : ℕ) {a b : List ℕ} {p : Writer} {k v' : ℕ} → 32 ≤ p.have + k → p.have + k < 64 → v' ≡ v % 2 ^ k
+pub pushed-stored : (v : ℕ) {a b : List ℕ} {p : Writer} {k v' : ℕ} → 32 ≤ p.have + k → (m : p.have + k - 32 < 32) → v' ≡ v % 2 ^ k
     → Stored a b p.at 4 (bits 32 (bit_or ((p.acc * 2 ^ k) % 2 ^ 64) v' / 2 ^ (p.have + k - 32)))
-    → Pushed a b p (record { at = p.at + 4; acc = bit_or ((p.acc * 2 ^ k) % 2 ^ 64) v'; have = p.have + k - 32 }) k (bits k v)
+    → Pushed a b p (record { at = p.at + 4; acc = bit_or ((p.acc * 2 ^ k) % 2 ^ 64) v'; have = p.have + k - 32; few = m }) k (bits k v)
 pushed-stored v {a} {b} {p} {k} {v'} l m f d =
     let acc : ℕ = bit_or ((p.acc * 2 ^ k) % 2 ^ 64) v' in
     let e : 32 + (p.have + k - 32) ≡ p.have + k = omega arith in
@@ -117,7 +116,6 @@ pushed-stored v {a} {b} {p} {k} {v'} l m f d =
           stored-written_bits 32 (p.have + k - 32) acc d ∙ ap (λ (n : ℕ). written_bits a p.at n acc) e
           ∙ push a p.at p.have k p.acc v v' (omega arith) f;
       rest = d.rest;
-      small = omega arith;
       forward = omega arith;
       count = omega arith;
     }
@@ -133,7 +131,6 @@ module _ {a b c : List ℕ} {p q r : Writer} {m n : ℕ} {bs cs : List Bool} (d 
       record {
         said = e.said ∙ ap (λ (z : List Bool). z ++ cs) d.said ∙ append_assoc (written_bits a p.at p.have p.acc) bs cs;
         rest = e.rest ∙ later;
-        small = e.small;
         forward = omega (arith, d.forward, e.forward);
         count = omega (arith, d.count, e.count);
       }
@@ -151,13 +148,12 @@ then-low w v {a} {b} {c} {p} {q} {r} h d e =
 
 -- ---- a run over a list of values: none of them yet, one more, all
 
-pub pushed_none : (w : ℕ) {a : List ℕ} {p : Writer} → p.have < 32 → Pushed a a p p (0 * w) (fields w [])
+pub pushed_none : (w : ℕ) {a : List ℕ} {p : Writer} → Pushed a a p p (0 * w) (fields w [])
 unfolding fields
-pushed_none w {a} {p} h =
+pushed_none w {a} {p} =
     record {
       said = sym (append-nil (written_bits a p.at p.have p.acc));
       rest = refl;
-      small = h;
       forward = omega arith;
       count = omega (arith, zero-mul w);
     }
@@ -169,9 +165,10 @@ pushed_more w n vs i {a} {b} {c} {p} {q} {r} d e =
     subst₂ (λ (k : ℕ) (z : List Bool). Pushed a c p r k z) (sym (add-mul i n w)) (fields-more w i n vs) (then d e)
 
 -- the value i
-pub pushed_at : (w : ℕ) (vs : List ℕ) (i : ℕ) {a b : List ℕ} {p q : Writer} → i < length vs → Pushed a b p q w (bits w (get_or vs i 0))
+pub pushed_at : (w : ℕ) (vs : List ℕ) (i : ℕ) {v : ℕ} {a b : List ℕ} {p q : Writer} → i < length vs → v ≡ get_or vs i 0 → Pushed a b p q w (bits w v)
     → Pushed a b p q (1 * w) (fields w (take 1 (drop i vs)))
-pushed_at w vs i {a} {b} {p} {q} l d = subst₂ (λ (k : ℕ) (z : List Bool). Pushed a b p q k z) (sym (one-mul w)) (sym (fields_at w i vs l)) d
+pushed_at w vs i {v} {a} {b} {p} {q} l e d =
+    subst₂ (λ (k : ℕ) (z : List Bool). Pushed a b p q k z) (sym (one-mul w)) (sym (fields_at w i vs l ∙ ap (bits w) (sym e))) d
 
 -- the n values from the value i on, as one number
 pub pushed-group : (w n : ℕ) (vs : List ℕ) (i : ℕ) {x : ℕ} {a b : List ℕ} {p q : Writer} → i + n ≤ length vs → x ≡ number (fields w (take n (drop i vs)))
@@ -186,20 +183,17 @@ pushed-all w vs i {a} {b} {p} {q} h l d =
     let e : i ≡ length vs = omega arith in
     subst₂ (λ (n : ℕ) (z : List ℕ). Pushed a b p q (n * w) (fields w z)) e (take_all i vs l) d
 
--- k of them, and then the others: how long they are, and both
-rest-long : (vs : List ℕ) (k : ℕ) → length (take (length vs - k) (drop k vs)) ≡ length vs - k
-rest-long vs k = length-take-le (length vs - k) (drop k vs) (omega (arith, length-drop k vs))
+-- k of them, and then the others: how much room they take, and both
+pub rest-room : (w : ℕ) (vs ys : List ℕ) (k : ℕ) → k ≤ length vs → ys ≡ drop k vs → k * w + length ys * w ≡ length vs * w
+rest-room w vs ys k h e =
+    let long : k + length ys ≡ length vs = omega (arith, ap length e, length-drop k vs) in
+    sym (add-mul k (length ys) w) ∙ ap (λ (n : ℕ). n * w) long
 
-pub rest-room : (w : ℕ) (vs : List ℕ) (k : ℕ) → k ≤ length vs → k * w + length (take (length vs - k) (drop k vs)) * w ≡ length vs * w
-rest-room w vs k h =
-    let e : k + (length vs - k) ≡ length vs = omega arith in
-    ap (λ (n : ℕ). k * w + n * w) (rest-long vs k) ∙ sym (add-mul k (length vs - k) w) ∙ ap (λ (n : ℕ). n * w) e
-
-pub pushed-rest : (w : ℕ) (vs : List ℕ) (k : ℕ) {a b c : List ℕ} {p q r : Writer} → k ≤ length vs → Pushed a b p q (k * w) (fields w (take k vs))
-    → Pushed b c q r (length (take (length vs - k) (drop k vs)) * w) (fields w (take (length vs - k) (drop k vs))) → Pushed a c p r (length vs * w) (fields w vs)
-pushed-rest w vs k {a} {b} {c} {p} {q} {r} h d e =
-    pushed-all w vs (k + (length vs - k)) (omega arith) (omega arith)
-    (pushed_more w (length vs - k) vs k d (subst (λ (n : ℕ). Pushed b c q r (n * w) (fields w (take (length vs - k) (drop k vs)))) (rest-long vs k) e))
+pub pushed-rest : (w : ℕ) (vs ys : List ℕ) (k : ℕ) {a b c : List ℕ} {p q r : Writer} → k ≤ length vs → ys ≡ drop k vs → Pushed a b p q (k * w) (fields w (take k vs))
+    → Pushed b c q r (length ys * w) (fields w ys) → Pushed a c p r (length vs * w) (fields w vs)
+pushed-rest w vs ys k {a} {b} {c} {p} {q} {r} h e d f =
+    subst₂ (λ (n : ℕ) (z : List Bool). Pushed a c p r n z) (rest-room w vs ys k h e)
+    (sym (fields-append w (take k vs) ys) ∙ ap (fields w) (ap (λ (z : List ℕ). take k vs ++ z) e ∙ take-append-drop k vs)) (then d f)
 
 pub pushed-one : (w v : ℕ) {a b : List ℕ} {p q : Writer} → Pushed a b p q w (bits w v) → Pushed a b p q (1 * w) (fields w (v ∷ []))
 pushed-one w v {a} {b} {p} {q} d = subst₂ (λ (n : ℕ) (z : List Bool). Pushed a b p q n z) (sym (one-mul w)) (sym (fields-one w v)) d

@@ -1,5 +1,5 @@
 -- Inside: what the writer's private functions promise: how much further the bits reach that stand in the lent bytes and in the accumulator.
-use Rattle.std.specs.Prelude.{◌≡◌, ℕ, ◌+◌, ◌*◌, ◌≤◌, ◌<◌, Bool, List, ◌++◌, take, drop}
+use Rattle.std.specs.Prelude.{◌≡◌, ℕ, ◌+◌, ◌*◌, ◌≤◌, Bool, List, ◌++◌, take, drop}
 use Rattle.bits.specs.Bits.{bits, fields}
 use Rattle.packing.specs.declared.writer.Writer.{Writer}
 
@@ -11,7 +11,6 @@ written_bits out at have acc = fields 8 (take at out) ++ bits have acc
 pub record Pushed (before after : List ℕ) (p r : Writer) (n : ℕ) (bs : List Bool) : Type 0 where
   pub said : written_bits after r.at r.have r.acc ≡ written_bits before p.at p.have p.acc ++ bs
   pub rest : drop r.at after ≡ drop r.at before
-  pub small : r.have < 32
   pub forward : p.at ≤ r.at
   pub count : 8 * r.at + r.have ≡ 8 * p.at + p.have + n
 

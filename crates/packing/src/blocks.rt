@@ -1,11 +1,11 @@
 // Blocks of groups. The words of a block are made before any is stored, so that several are made at a time.
-ghost use Rattle.std.specs.Prelude.{◌≡◌, ◌+◌, ◌*◌, ◌-◌, ◌/◌, ◌%◌, ◌<◌, ◌≤◌, length, take, drop};
+ghost use Rattle.std.specs.Prelude.{◌≡◌, ◌+◌, ◌*◌, ◌-◌, ◌/◌, ◌%◌, ◌<◌, ◌≤◌, length, take};
 ghost use Rattle.bits.specs.Bits.{fields, bytes_for};
 ghost use Rattle.bits.specs.Words.{high_bits};
-ghost use Rattle.packing.specs.Blocks.{four_masks, group_words, Laid};
+ghost use Rattle.packing.specs.Blocks.{group_words, Laid};
 
-use crate::groups::{four_at, four_masks};
-use crate::writer::store_long;
+use crate::groups::Lanes;
+use crate::store::store_long;
 
 // Blocks of 128 values at 12 and 14 bits, from the byte `at` on, as long as more values are behind them; none at another width. The
 // answer is how many values they are.
@@ -16,67 +16,75 @@ pub fn put_blocks(out: &mut [u8], at: usize, width: u32, values: &[u16]) -> usiz
         × (result % 8 ≡ 0)
         × (result ≤ length values.now) }
 {
-    let mask = four_masks(width); // before the test, so that the loops take it as it comes: they are shorter then
+    let lanes = Lanes::new(width); // before the test, so that the loops take its mask as it comes: they are shorter then
     if width != 12 && width != 14 {
         return 0;
     }
-    let block = 16 * width as usize;
-    let mut words: [u64; 32] = [0; 32];
+    let (blocks, _) = values[..values.len().saturating_sub(1)].as_chunks::<128>();
+    let mut words = [0; 32];
     let mut to = at;
-    let mut i: usize = 0;
-    while 128 < values.len() - i {
-        make_words(values, i, width, mask, &mut words);
+    for block in blocks {
+        make_words(block, lanes, &mut words);
         put_words(out, to, width, &words);
-        to += block;
-        i += 128;
+        to += 16 * width as usize;
     }
-    i
+    128 * blocks.len()
 }
 
-// The words of the next groups, from the value `from` on. The two widths have a loop each, which knows its width.
-fn make_words(values: &[u16], from: usize, width: u32, mask: u64, words: &mut [u64])
-    requires le_width { (12 ≤ width) × (width ≤ 14) × (width % 2 ≡ 0) × (mask ≡ four_masks width) }
-    requires words_in_bounds { from + 4 * length words.old ≤ length values.now }
-    ensures { words.new ≡ group_words width (length words.old) (drop from values.now) }
+// The words of a block's groups. The two widths have a loop each, which knows its width.
+fn make_words(block: &[u16; 128], lanes: Lanes, words: &mut [u64; 32])
+    requires { (12 ≤ lanes.width) × (lanes.width ≤ 14) × (lanes.width % 2 ≡ 0) }
+    ensures { words.new ≡ group_words lanes.width 32 block.now }
 {
-    if width == 14 {
-        make_words_of(values, from, 14, mask, words);
+    if lanes.width == 14 {
+        make_words_of(
+            block,
+            Lanes {
+                width: 14,
+                mask: lanes.mask,
+            },
+            words,
+        );
     } else {
-        make_words_of(values, from, 12, mask, words);
+        make_words_of(
+            block,
+            Lanes {
+                width: 12,
+                mask: lanes.mask,
+            },
+            words,
+        );
     }
 }
 
-// The same at any width.
-fn make_words_of(values: &[u16], from: usize, width: u32, mask: u64, words: &mut [u64])
-    requires width_nonzero { (0 < width) × (width ≤ 16) × (mask ≡ four_masks width) }
-    requires words_in_bounds { from + 4 * length words.old ≤ length values.now }
-    ensures { words.new ≡ group_words width (length words.old) (drop from values.now) }
+// The same at any width. By index: of what is written through a `zip` with `iter_mut` a proof knows nothing.
+fn make_words_of(block: &[u16; 128], lanes: Lanes, words: &mut [u64; 32])
+    requires { 0 < lanes.width }
+    ensures { words.new ≡ group_words lanes.width 32 block.now }
 {
-    let mut j: usize = 0;
-    while j < words.len() {
-        words[j] = four_at(values, from + 4 * j, width, mask) << (64 - 4 * width);
-        j += 1;
+    let (fours, _) = block.as_chunks::<4>();
+    for (j, word) in words.iter_mut().enumerate() {
+        *word = lanes.number_of(&fours[j]) << (64 - 4 * lanes.width);
     }
 }
 
 // The high bits of each word, four times `width`, from the byte `from` on with no gap. A word is stored as eight bytes, and the next one is
-// stored over those that it has too many.
-fn put_words(out: &mut [u8], from: usize, width: u32, words: &[u64])
-    requires le_width { (12 ≤ width) × (width ≤ 14) × (width % 2 ≡ 0) × (length words.now % 4 ≡ 0) }
-    requires width_in_bounds { from + length words.now * (width / 2) + (8 - width / 2) ≤ length out.old }
-    ensures { Laid out.old out.new from (length words.now * (width / 2))
-        (from + length words.now * (width / 2) + (8 - width / 2))
+// stored over those that it has too many. They are stored by fours: one by one takes a fifth longer.
+fn put_words(out: &mut [u8], from: usize, width: u32, words: &[u64; 32])
+    requires le_width { (12 ≤ width) × (width ≤ 14) × (width % 2 ≡ 0) }
+    requires width_in_bounds { from + 32 * (width / 2) + (8 - width / 2) ≤ length out.old }
+    ensures { Laid out.old out.new from (32 * (width / 2))
+        (from + 32 * (width / 2) + (8 - width / 2))
         (fields (4 * width) (high_bits (4 * width) words.now)) }
 {
+    let (fours, _) = words.as_chunks::<4>();
     let step = (width / 2) as usize;
     let mut at = from;
-    let mut j: usize = 0;
-    while j < words.len() {
-        store_long(out, at, words[j]);
-        store_long(out, at + step, words[j + 1]);
-        store_long(out, at + 2 * step, words[j + 2]);
-        store_long(out, at + 3 * step, words[j + 3]);
+    for four in fours {
+        store_long(out, at, four[0]);
+        store_long(out, at + step, four[1]);
+        store_long(out, at + 2 * step, four[2]);
+        store_long(out, at + 3 * step, four[3]);
         at += 4 * step;
-        j += 4;
     }
 }

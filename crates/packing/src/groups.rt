@@ -1,59 +1,66 @@
 // Lists packed in groups. Four values are moved together in a number of 64 bits: one group of seven bytes at 14 bits, two groups of three at 12.
-ghost use Rattle.std.specs.Prelude.{◌≡◌, ◌+◌, ◌*◌, ◌/◌, ◌%◌, ◌<◌, ◌≤◌, length, take, drop};
+ghost use Rattle.std.specs.Prelude.{◌≡◌, ◌+◌, ◌*◌, ◌/◌, ◌≤◌, length, take};
 ghost use Rattle.bits.specs.Bits.{number, fields};
 ghost use Rattle.packing.specs.Writing.{Pushed};
 ghost use Rattle.packing.specs.Blocks.{four_masks};
 
-use crate::writer::{Writer, push_each, push_wide};
+use crate::writer::Writer;
 use bits::low_bits;
 
 // Each of `values`, at `width` bits: in fours at 12 and 14 bits, and what is left, or all at another width, one by one.
 pub fn push_all(out: &mut [u8], writer: Writer, width: u32, values: &[u16]) -> Writer
-    requires have_bound { (writer.have < 32) × (width ≤ 16) }
-    requires width_bound { 8 * writer.at + writer.have + length values.now * width ≤ 8 * length out.old }
+    requires { (width ≤ 16) × (8 * writer.at + writer.have + length values.now * width ≤ 8 * length out.old) }
     ensures { Pushed out.old out.new writer result (length values.now * width) (fields width values.now) }
 {
-    if width != 12 && width != 14 {
-        return push_each(out, writer, width, values);
+    match width {
+        12 => push_fours::<12>(out, writer, values),
+        14 => push_fours::<14>(out, writer, values),
+        _ => writer.push_each(out, width, values),
     }
-    let whole = values.len() / 4 * 4;
-    let w = push_fours(out, writer, width, values);
-    push_each(out, w, width, &values[whole..])
 }
 
-// The values in fours, as many as there are whole fours of.
-fn push_fours(out: &mut [u8], writer: Writer, width: u32, values: &[u16]) -> Writer
-    requires have_bound { (writer.have < 32) × (width ≤ 16) }
-    requires width_bound { 8 * writer.at + writer.have + length values.now * width ≤ 8 * length out.old }
-    ensures { Pushed out.old out.new writer result (length values.now / 4 * 4 * width)
-        (fields width (take (length values.now / 4 * 4) values.now)) }
+// Each of `values`, at `WIDTH` bits: in fours, and what is left one by one. Each of the two widths has a loop that knows it.
+fn push_fours<const WIDTH: u32>(out: &mut [u8], writer: Writer, values: &[u16]) -> Writer
+    requires { (WIDTH ≤ 16) × (8 * writer.at + writer.have + length values.now * WIDTH ≤ 8 * length out.old) }
+    ensures { Pushed out.old out.new writer result (length values.now * WIDTH) (fields WIDTH values.now) }
 {
-    let mask = four_masks(width);
-    let mut w = writer;
-    let mut i: usize = 0;
-    while 4 <= values.len() - i {
-        w = push_wide(out, w, 4 * width, four_at(values, i, width, mask));
-        i += 4;
+    let (fours, rest) = values.as_chunks::<4>();
+    let lanes = Lanes::new(WIDTH);
+    let mut behind = writer;
+    for four in fours {
+        behind = behind.push_wide(out, 4 * WIDTH, lanes.number_of(four));
     }
-    w
+    behind.push_each(out, WIDTH, rest)
 }
 
-// The mask of `width` bits for each of four values side by side.
-pub fn four_masks(width: u32) -> u64
-    requires { width ≤ 16 }
-    ensures { result ≡ four_masks width }
-{
-    low_bits(0xffff, width) * 0x1_0001_0001_0001
+// A width of values that stand side by side, 16 bits to each, and the mask of so many bits for each of four.
+#[derive(Clone, Copy)]
+pub struct Lanes {
+    pub width: u32,
+    pub mask: u64,
+    ghost narrow: { width ≤ 16 },
+    ghost masks: { mask ≡ four_masks width },
 }
 
-// The `width` low bits of four values from the value `i` on, as one number: the four stand side by side, then two and two together.
-pub fn four_at(values: &[u16], i: usize, width: u32, mask: u64) -> u64
-    requires { (width ≤ 16) × (mask ≡ four_masks width) × (i + 4 ≤ length values.now) }
-    ensures { result ≡ number (fields width (take 4 (drop i values.now))) }
-{
-    let low = (values[i] as u64) | ((values[i + 1] as u64) << 16);
-    let high = (values[i + 2] as u64) | ((values[i + 3] as u64) << 16);
-    let four = (low | (high << 32)) & mask;
-    let pairs = ((four & 0xffff_0000_ffff) << width) | ((four >> 16) & 0xffff_0000_ffff);
-    ((pairs & 0xffff_ffff) << (2 * width)) | (pairs >> 32)
+impl Lanes {
+    pub fn new(width: u32) -> Lanes
+        requires { width ≤ 16 }
+        ensures { result.width ≡ width }
+    {
+        Lanes {
+            width,
+            mask: low_bits(0xffff, width) * 0x1_0001_0001_0001,
+        }
+    }
+
+    // The `width` low bits of four values, as one number: the four stand side by side, then two and two together.
+    pub fn number_of(self, values: &[u16; 4]) -> u64
+        ensures { result ≡ number (fields self.width values.now) }
+    {
+        let low = (values[0] as u64) | ((values[1] as u64) << 16);
+        let high = (values[2] as u64) | ((values[3] as u64) << 16);
+        let four = (low | (high << 32)) & self.mask;
+        let pairs = ((four & 0xffff_0000_ffff) << self.width) | ((four >> 16) & 0xffff_0000_ffff);
+        ((pairs & 0xffff_ffff) << (2 * self.width)) | (pairs >> 32)
+    }
 }

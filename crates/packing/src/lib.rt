@@ -5,6 +5,7 @@
 mod blocks; // blocks of groups
 mod groups; // four values at once
 mod packing; // the public operations
+mod store; // words stored as bytes
 mod writer; // bits put into bytes
 
 pub use packing::{pack, pack_number};

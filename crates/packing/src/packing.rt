@@ -3,7 +3,8 @@
 ghost use Rattle.std.specs.Prelude.{◌≡◌, ◌∷◌, [], length};
 ghost use Rattle.packing.specs.Packing.{packed, packed_out};
 
-use super::{blocks, groups, writer};
+use crate::writer::Writer;
+use crate::{blocks, groups};
 
 // The low `width` bits of each of `values` from the byte `at` of `out` on, with zeros up to the last byte's end.
 // The answer is how many bytes are written; it is none where the width is too large or the bytes are too few, and then nothing is changed.
@@ -15,13 +16,9 @@ pub fn pack(values: &[u16], width: u32, out: &mut [u8], at: usize) -> Option<usi
         return None;
     }
     let done = blocks::put_blocks(out, at, width, values);
-    let start = writer::Writer {
-        at: at + done / 8 * width as usize,
-        acc: 0,
-        have: 0,
-    };
+    let start = Writer::new(at + done / 8 * width as usize);
     let last = groups::push_all(out, start, width, &values[done..]);
-    let end = writer::finish(out, last);
+    let end = last.finish(out);
     Some(end.at - at)
 }
 
@@ -33,12 +30,7 @@ pub fn pack_number(value: u64, width: u32, out: &mut [u8], at: usize) -> Option<
     if !bits::has_room(64, width, 1, at, out.len()) {
         return None;
     }
-    let start = writer::Writer {
-        at,
-        acc: 0,
-        have: 0,
-    };
-    let last = writer::push_wide(out, start, width, value);
-    let end = writer::finish(out, last);
+    let last = Writer::new(at).push_wide(out, width, value);
+    let end = last.finish(out);
     Some(end.at - at)
 }

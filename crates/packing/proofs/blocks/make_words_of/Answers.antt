@@ -1,32 +1,33 @@
-use mathlib.Core.Path.{◌≡◌, refl, sym, ap, ◌∙◌}
-use Prim.Native.Nat.{◌+◌, ◌*◌, ◌-◌, ◌%◌, ◌^◌}
+-- A word is its group's number in the high bits, and is not cut by the shift. Assumes nothing.
+use mathlib.Core.Path.{◌≡◌, sym, ap, ◌∙◌}
+use mathlib.Core.List.{List, []}
+use Prim.Native.Nat.{ℕ, ◌*◌, ◌-◌, ◌%◌, ◌^◌}
 use native.Mathlib.Omega.{arith}
-use lib.ListN.{length, take, drop, length-drop, length-set}
-use lib.Seq.{paste-zero, length-take-le}
+use lib.ListN.{length, get_or, take, drop, length-drop}
+use lib.Seq.{length-take-le}
 use Rattle.bits.proofs.Laws as bit
+use Rattle.bits.specs.Bits.{number, fields}
 use Rattle.packing.specs.Blocks.{group_words}
+use Rattle.packing.proofs.Chunks as chunks
 use Rattle.packing.proofs.Laid as laid
 use Rattle.packing.proofs.blocks.make_words_of.Goals as goal
 
-pub loop-j-init : goal.loop-j-init
-loop-j-init c = let a = c.args in
-    (paste-zero a.words.now 0 (group_words a.width (length a.words.now) (drop a.from a.values.now)), omega arith, refl)
-
 pub loop-j-preserved : goal.loop-j-preserved
 loop-j-preserved c = let a = c.args in
-    let l = c.loop-j in
-    let vs = a.values.now in
-    let n = length a.words.now in
-    let long : length (take 4 (drop (a.from + 4 * l.j) vs)) ≡ 4 = length-take-le 4 (drop (a.from + 4 * l.j) vs) (omega (arith, length-drop (a.from + 4 * l.j) vs)) in (
-      bit.paste-next (group_words a.width n (drop a.from vs)) a.words.now l.words l.j _ l.invariant.0 (omega (arith, laid.length-words a.width n (drop a.from vs))) (omega arith)
-          (ap (λ x. (x * 2 ^ (64 - 4 * a.width)) % 2 ^ 64) c.four_at.ensures ∙ laid.word-exact a.width (take 4 (drop (a.from + 4 * l.j) vs)) (omega arith) long
-          ∙ sym (laid.get_d_words a.width n l.j a.from vs (omega arith))),
-      omega arith,
-      omega (arith, length-set l.words l.j ((c.four_at.result * 2 ^ (64 - 4 * a.width)) % 2 ^ 64)),
-    )
+    let w = a.lanes.width in
+    let j = c.loop-j.j in
+    let group : List ℕ = take 4 (drop (j * 4) a.block.now) in
+    let long : length group ≡ 4 = length-take-le 4 (drop (j * 4) a.block.now) (omega (arith, length-drop (j * 4) a.block.now)) in
+    let number_is : c.number_of.result ≡ number (fields w group)
+    = c.number_of.ensures ∙ ap (λ (z : List ℕ). number (fields w z))
+    (ap (λ (z : List (List ℕ)). get_or z j []) c.as_chunks.ensures.front ∙ chunks.chunk_at 4 _ j a.block.now [] (omega arith)) in
+    bit.paste-next (group_words w 32 a.block.now) a.words.now c.loop-j.words j _ c.loop-j.invariant
+    (omega (arith, laid.length-words w 32 a.block.now)) (omega arith)
+    (ap (λ (x : ℕ). (x * 2 ^ (64 - 4 * w)) % 2 ^ 64) number_is ∙ laid.word-exact w group (omega arith) long
+    ∙ sym (laid.get_d_words w 32 j a.block.now (omega arith)))
 
 pub returns : goal.returns
 returns c = let a = c.args in
-    let n = length a.words.now in
-    let ys = group_words a.width n (drop a.from a.values.now) in
-    c.loop-j.invariant.0 ∙ laid.paste_all ys a.words.now c.loop-j.j (laid.length-words a.width n (drop a.from a.values.now)) (omega arith)
+    c.loop-j.invariant
+    ∙ laid.paste_all (group_words a.lanes.width 32 a.block.now) a.words.now c.loop-j.j
+    (omega (arith, laid.length-words a.lanes.width 32 a.block.now)) (omega arith)

@@ -1,32 +1,43 @@
-use mathlib.Core.Path.{◌≡◌, refl}
-use Prim.Native.Nat.{◌*◌, ◌/◌}
+-- The fours, and then the values that are left. Assumes nothing.
+use mathlib.Core.Path.{◌≡◌, ap, ap₂, ◌∙◌}
+use mathlib.Core.List.{List, []}
+use Prim.Native.Nat.{ℕ, ◌+◌, ◌*◌, ◌/◌, ◌≤◌}
 use native.Mathlib.Omega.{arith}
-use lib.ListN.{length}
+use lib.ListN.{length, get_or, take, drop}
+use Rattle.bits.specs.Bits.{number, fields}
 use Rattle.bits.proofs.Fits.{room-more}
+use Rattle.packing.proofs.Chunks as chunks
 use Rattle.packing.proofs.Writing as writing
+use Rattle.packing.proofs.Writing.{rest-room}
 use Rattle.packing.proofs.groups.push_fours.Goals as goal
 
-pub loop-i-init : goal.loop-i-init
-loop-i-init c = (writing.pushed_none _ (omega arith), omega arith, refl, refl, c.four_masks-mask.ensures)
+pub loop-four-init : goal.loop-four-init
+loop-four-init g c = writing.pushed_none _
 
-pub push_wide-w-requires : goal.push_wide-w-requires
-push_wide-w-requires c = let l = c.loop-i in
-    let a = c.args in
-    record { have_bound = (l.invariant.0.small, omega arith); width_bound = omega (arith, l.invariant.0.count, room-more a.width 4 l.i (length a.values.now) (omega arith)) }
+pub push_wide-behind-requires : goal.push_wide-behind-requires
+push_wide-behind-requires g c = let n = length c.args.values.now in
+    let i = c.loop-four.four-index in
+    (omega arith, omega (arith, c.loop-four.invariant.count, room-more g.row.WIDTH 4 (i * 4) n (omega (arith, c.as_chunks.ensures.front_len))))
 
-pub loop-i-preserved : goal.loop-i-preserved
-loop-i-preserved c = let a = c.args in
-    let l = c.loop-i in
-    let vs = a.values.now in (
-      writing.pushed_more a.width 4 vs l.i l.invariant.0
-          (writing.pushed-group a.width 4 vs l.i (omega arith) c.four_at.ensures c.push_wide-w.ensures),
-      omega arith,
-      omega arith,
-      omega arith,
-      c.four_masks-mask.ensures,
-    )
+pub push_each-requires : goal.push_each-requires
+push_each-requires g c = let vs = c.args.values.now in
+    let all : c.loop-four.four-index * 4 ≡ length vs / 4 * 4 = omega (arith, c.as_chunks.ensures.front_len) in
+    let rest = rest-room g.row.WIDTH vs _ (length vs / 4 * 4) (omega arith) c.as_chunks.ensures.back in
+    (omega arith, omega (arith, c.loop-four.invariant.count, ap (λ (n : ℕ). n * g.row.WIDTH) all, rest))
+
+pub loop-four-preserved : goal.loop-four-preserved
+loop-four-preserved g c = let a = c.args in
+    let i = c.loop-four.four-index in
+    let room : i * 4 + 4 ≤ length a.values.now = omega (arith, c.as_chunks.ensures.front_len) in
+    let number_is : c.number_of.result ≡ number (fields g.row.WIDTH (take 4 (drop (i * 4) a.values.now)))
+    = c.number_of.ensures ∙ ap₂ (λ (w : ℕ) (z : List ℕ). number (fields w z)) c.new-lanes.ensures
+    (ap (λ (z : List (List ℕ)). get_or z i []) c.as_chunks.ensures.front ∙ chunks.chunk_at 4 _ i a.values.now [] (omega arith)) in
+    let next : (i + 1) * 4 ≡ i * 4 + 4 = omega arith in
+    rw next (writing.pushed_more g.row.WIDTH 4 a.values.now (i * 4) c.loop-four.invariant
+    (writing.pushed-group g.row.WIDTH 4 a.values.now (i * 4) room number_is c.push_wide-behind.ensures))
 
 pub returns : goal.returns
-returns c = let a = c.args in
-    let e : c.loop-i.i ≡ length a.values.now / 4 * 4 = omega arith in
-    rw (← e) c.loop-i.invariant.0
+returns g c = let a = c.args in
+    let all : c.loop-four.four-index * 4 ≡ length a.values.now / 4 * 4 = omega (arith, c.as_chunks.ensures.front_len) in
+    writing.pushed-rest g.row.WIDTH a.values.now _ (length a.values.now / 4 * 4) (omega arith) c.as_chunks.ensures.back
+    (rw all at c.loop-four.invariant) c.push_each.ensures

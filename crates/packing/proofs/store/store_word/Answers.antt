@@ -6,7 +6,7 @@ use native.Mathlib.Omega.{arith}
 use lib.ListN.{length-set}
 use lib.Bits.{bit_and, mask_lt}
 use Rattle.packing.proofs.Writing as writing
-use Rattle.packing.proofs.writer.store_word.Goals as goal
+use Rattle.packing.proofs.store.store_word.Goals as goal
 
 -- the `u32` of which the bytes are taken
 abbrev low : ℕ → ℕ

@@ -1,7 +1,7 @@
 -- The four bytes of the high half, and then those of the low one. Assumes nothing.
 use Rattle.bits.proofs.Laws.{bits-add}
 use Rattle.packing.proofs.Writing as writing
-use Rattle.packing.proofs.writer.store_long.Goals as goal
+use Rattle.packing.proofs.store.store_long.Goals as goal
 
 pub returns : goal.returns
 returns c = let x = c.args.x in

@@ -2,14 +2,13 @@
 use mathlib.Core.Path.{◌≡◌}
 use mathlib.Core.List.{List}
 use Prim.Native.Nat.{ℕ, ◌+◌, ◌*◌, ◌≤◌}
-use lib.ListN.{length, drop}
+use lib.ListN.{drop}
 use Rattle.packing.specs.Writing.{written_bits}
-use Rattle.packing.proofs.writer.flush.Given as goal
+use Rattle.packing.proofs.writer.Writer.flush.Given as goal
 
 pub record Flushing (out₀ : List ℕ) (acc have₀ at₀ : ℕ) (out : List ℕ) (have at : ℕ) : Type 0 where
   pub said : written_bits out at have acc ≡ written_bits out₀ at₀ have₀ acc
   pub rest : drop at out ≡ drop at out₀
-  pub long : length out ≡ length out₀
   pub count : 8 * at + have ≡ 8 * at₀ + have₀
   pub most : have ≤ have₀
   pub forward : at₀ ≤ at

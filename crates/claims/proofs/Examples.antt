@@ -3,6 +3,7 @@
 use mathlib.Core.Path.{◌≡◌, refl, sym, ap, ◌∙◌}
 use mathlib.Core.Bool.{Bool, true, false, ◌&&◌}
 use mathlib.Core.List.{List}
+use Rattle.std.specs.Prelude.{Ok}
 use Prim.Native.Nat.{ℕ, suc, ◌/◌, ◌%◌}
 use native.Mathlib.Nat.{zero-add}
 use native.Mathlib.Omega.{arith}
@@ -22,7 +23,6 @@ use Rattle.positions.specs.Positions.{ticked}
 use Rattle.device.specs.Run.{step_record, watched, clock_record}
 use Rattle.subframes.specs.Subframes.{how_many_from}
 use Rattle.subframes.specs.Answers.{on_answer, lead_answer}
-use Rattle.subframes.specs.declared.answer.Asked.TheVariants.{Is}
 use Rattle.schedule.specs.Answers.{position_over}
 use Rattle.schedule.specs.Light.{total, in_run, lit_from, lit_to}
 use Rattle.schedule.proofs.Claims.{lights, dark}
@@ -47,8 +47,8 @@ lit-to : (part value : ℕ) (even : Bool) (to : ℕ) → lit_to (part_of part) v
     → Lights part value even (λ clock. leb (lit_from (part_of part) value even) clock && leb clock to)
 lit-to part value even to h configuration global output s clock phase a e q =
     lights part value even configuration global output s clock phase a e q
-    ∙ ap (λ (n : ℕ). Is (in_run (lit_from (part_of part) value even) n clock)) h
-    ∙ ap (λ (b : Bool). Is (leb (lit_from (part_of part) value even) clock && b)) (before-next clock to)
+    ∙ ap (λ (n : ℕ). Ok (in_run (lit_from (part_of part) value even) n clock)) h
+    ∙ ap (λ (b : Bool). Ok (leb (lit_from (part_of part) value even) clock && b)) (before-next clock to)
 
 -- the figures of one device are those of the sum
 one-figure : (d : Drive) (calibration individual : List ℕ) → closed_figures d calibration individual 1 ≡ figure (closed_sum d calibration individual 1)

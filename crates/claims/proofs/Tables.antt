@@ -2,26 +2,23 @@
 use mathlib.Core.Path.{◌≡◌, refl, sym, ap, subst, ◌∙◌}
 use mathlib.Core.Bool.{Bool, true, false, cond}
 use mathlib.Core.List.{List, [], ◌∷◌}
+use Rattle.std.specs.Prelude.{Ok, Err}
 use Prim.Native.Nat.{ℕ, suc}
 use native.Mathlib.Omega.{arith}
 use lib.Dec.{eqb, ltb}
 use lib.ListN.{length}
 use borrow.Author.Tests.{eqb-true, eqb-false, eq-eqb, ne_eqb}
 use Rattle.bits.specs.Bits.{over}
-use Rattle.tables.specs.Refusals.{Row, first, Lowest, answer, content}
+use Rattle.tables.specs.Refusals.{Row, first, Lowest, answer, content, number_in}
 use Rattle.tables.proofs.Rows as rows
 use Rattle.parts.specs.declared.command.Command.{Command}
 use Rattle.parts.specs.declared.command.Command.TheVariants.{Individual, Calibration, Global, Configuration}
 use Rattle.serial.specs.States.{frame_rows, clocked_answer, clocked_out, state_rows, data_bytes_answer, data_bytes_out}
-use Rattle.serial.specs.declared.states.Converted.TheVariants as L
 use Rattle.frame_writer.specs.Writing.{write_table, write_refusal, written, written_out}
 use Rattle.frame_reader.specs.Reading.{held_fields, found, read_table, read_refusal, read, read_bytes, read_values}
 use Rattle.return_reader.specs.Returns.{return_table, return_refusal, return_read}
 use Rattle.frames.specs.declared.told.Told.{Told}
 use Rattle.frames.specs.declared.told.Tail.{Tail}
-use Rattle.frame_writer.specs.declared.answer.Written.TheVariants as W
-use Rattle.frame_reader.specs.declared.answer.Read.TheVariants as Q
-use Rattle.return_reader.specs.declared.answer.ReturnRead.TheVariants as R
 use Rattle.device.specs.Judgement.{judgement, step_refusals, refused_with}
 use Rattle.device.specs.declared.device.Device.{Device}
 use Rattle.device.specs.declared.device.Answer.{Answer}
@@ -36,22 +33,17 @@ use Rattle.schedule.specs.Answers.{lit_rows, lit_answer, lit_clocks_answer}
 use Rattle.device_light.specs.OfDevice.{device_rows, device_answer, device_clocks_answer}
 use Rattle.lit_now.specs.LitNow.{refused as unlit, lit_now_table, lit_now_refusal, lit_now}
 use Rattle.lit_now.specs.declared.now.LitNow.{LitNow}
-use Rattle.subframes.specs.declared.answer.Asked.TheVariants as A
-use Rattle.subframes.specs.declared.answer.Lead.TheVariants as D
-use Rattle.schedule.specs.declared.answer.Clocks.TheVariants as K
 use Rattle.differences.specs.Groups.{Pair, ◌against◌, differs_at, groups, in_groups, compared}
 use Rattle.compare.specs.Compare.{difference, compare_table, compare_refusal, comparison}
 use Rattle.differences.specs.declared.compared.Compared.{Compared}
 use Rattle.arguments.specs.Arguments.{parsed, asked_rows, judged}
-use Rattle.arguments.specs.declared.judging.Asked.TheVariants as B
 use Rattle.answers.specs.Answers.{accepted, refused}
 use Rattle.answers.specs.declared.answer.Answer.{Answer as RowAnswer}
 use Rattle.capi_bits.specs.PartAnswers.{part_rows}
-use Rattle.capi_frames.specs.FrameAnswers.{return_read_number}
 use Rattle.current.specs.Answers.{current_table, current_refusal, current, current_out}
 use Rattle.current.specs.Answers as currents
 use Rattle.current.specs.declared.sign.Current.{Current}
-use Rattle.claims.specs.Tables.{Exactly, Answers, Leaves, converted_number, written_number, read_number, asked_number, lead_number, clocks_number, arguments_number}
+use Rattle.claims.specs.Tables.{Exactly, Answers, Leaves}
 use Rattle.claims.specs.Claims as claim
 
 -- ---- any table, any answer, any lent list
@@ -111,39 +103,33 @@ writes : (t : Told) (tail : Tail) (byte : ℕ) (bytes values out : List ℕ) →
 unfolding written written_out write_refusal
 writes t tail byte bytes values out =
     let table = write_table t tail byte bytes values (length out) in
-    (answers table refl refl written_number W.Refused _ refl itself, leaves table refl refl written_number W.Refused _ refl itself out _)
-
-found-zero : (t : Told) (c : Command) (vs : List ℕ) → read_number (found t c vs) ≡ 0
-found-zero t Individual vs = refl
-found-zero t Calibration vs = refl
-found-zero t Global vs = refl
-found-zero t Configuration vs = refl
+    (answers table refl refl number_in Err _ refl itself, leaves table refl refl number_in Err _ refl itself out _)
 
 reads : (t : Told) (tail : Tail) (frame bytes values : List ℕ) → claim.Reads t tail frame bytes values
 unfolding read read_bytes read_values read_refusal
 reads t tail frame bytes values =
     let table = read_table t tail frame (length bytes) (length values) in
-    let z = found-zero t t.command (held_fields t frame) in (
-      answers table refl refl read_number Q.Refused _ z itself,
-      leaves table refl refl read_number Q.Refused _ z itself bytes _,
-      leaves table refl refl read_number Q.Refused _ z itself values _,
+    (
+      answers table refl refl number_in Err _ refl itself,
+      leaves table refl refl number_in Err _ refl itself bytes _,
+      leaves table refl refl number_in Err _ refl itself values _,
     )
 
 reads-return : (part devices : ℕ) (c : Command) (tail : Tail) (frame : List ℕ) → claim.ReadsReturn part devices c tail frame
 unfolding return_read return_refusal
-reads-return part devices c tail frame = answers (return_table part devices c tail frame) refl refl return_read_number R.Refused _ refl itself
+reads-return part devices c tail frame = answers (return_table part devices c tail frame) refl refl number_in Err _ refl itself
 
 gives-states : (frame : List ℕ) (n edge : ℕ) (out : List ℕ) → claim.GivesStates frame n edge out
 unfolding clocked_answer clocked_out
 gives-states frame n edge out =
     let table = frame_rows (length frame) n edge (length out) in
-    (answers table refl refl converted_number L.Refused _ refl itself, leaves table refl refl converted_number L.Refused _ refl itself out _)
+    (answers table refl refl number_in Err _ refl itself, leaves table refl refl number_in Err _ refl itself out _)
 
 packs-states : (states out : List ℕ) → claim.PacksStates states out
 unfolding data_bytes_answer data_bytes_out
 packs-states states out =
     let table = state_rows states (length out) in
-    (answers table refl refl converted_number L.Refused _ refl itself, leaves table refl refl converted_number L.Refused _ refl itself out _)
+    (answers table refl refl number_in Err _ refl itself, leaves table refl refl number_in Err _ refl itself out _)
 
 -- ---- calls
 
@@ -238,13 +224,13 @@ accepted-exactly = record {
   runs = runs;
   compares = compares;
   gives_current = gives-current;
-  on = λ part configuration global s. answers (on_rows part configuration s) refl refl asked_number A.Refused _ refl itself;
-  lead = λ part configuration global from w. answers (lead_rows part configuration from w) refl refl lead_number D.Refused _ refl itself;
-  lit = λ part configuration global value output s clock phase. answers (lit_rows part configuration value output s clock phase) refl refl asked_number A.Refused _ refl itself;
-  device_lit = λ d output s clock phase. answers (device_rows d output s clock phase) refl refl asked_number A.Refused _ refl itself;
-  lit_clocks = λ part configuration global value output s phase. answers (lit_rows part configuration value output s 0 phase) refl refl clocks_number K.Refused _ refl itself;
-  device_lit_clocks = λ d output s phase. answers (device_rows d output s 0 phase) refl refl clocks_number K.Refused _ refl itself;
+  on = λ part configuration global s. answers (on_rows part configuration s) refl refl number_in Err _ refl itself;
+  lead = λ part configuration global from w. answers (lead_rows part configuration from w) refl refl number_in Err _ refl itself;
+  lit = λ part configuration global value output s clock phase. answers (lit_rows part configuration value output s clock phase) refl refl number_in Err _ refl itself;
+  device_lit = λ d output s clock phase. answers (device_rows d output s clock phase) refl refl number_in Err _ refl itself;
+  lit_clocks = λ part configuration global value output s phase. answers (lit_rows part configuration value output s 0 phase) refl refl number_in Err _ refl itself;
+  device_lit_clocks = λ d output s phase. answers (device_rows d output s 0 phase) refl refl number_in Err _ refl itself;
   lit_now = λ ds device output. answers (lit_now_table ds device output) refl refl (λ (a : LitNow). a.refusal) unlit _ refl itself;
   row = λ part number. answers (part_rows part) refl refl (λ (a : RowAnswer). a.refusal) refused (accepted number) refl itself;
-  arguments = λ part devices. answers (asked_rows (parsed part) (parsed devices)) refl refl arguments_number B.Refused _ refl itself;
+  arguments = λ part devices. answers (asked_rows (parsed part) (parsed devices)) refl refl number_in Err _ refl itself;
 }

@@ -2,26 +2,22 @@
 -- proofs are in proofs/, one for each, under the same name in small letters. What a claim says of an operation is said with the definitions
 -- that the operation's contract cites: of bytes written and read, of lent records and lent room. Numbers that stand for bytes are below 256,
 -- as their types say. docs/RULES.md fixes the terms.
-use Rattle.std.specs.Prelude.{ℕ, ◌+◌, ◌-◌, ◌*◌, ◌/◌, ◌^◌, ◌<◌, ◌≤◌, ◌≡◌, Bool, true, false, cond, eqb, leb, pos, neg_ℤ, length, take, get_or, replicate, ◌<ℤ◌}
+use Rattle.std.specs.Prelude.{ℕ, ◌+◌, ◌-◌, ◌*◌, ◌/◌, ◌^◌, ◌<◌, ◌≤◌, ◌≡◌, Bool, true, false, cond, eqb, leb, pos, neg_ℤ, length, take, get_or, replicate, ◌<ℤ◌, Ok, Err}
 use mathlib.Core.List.{List, [], ◌∷◌, ◌++◌, map, flatten}
 use Rattle.bits.specs.Bits.{digit, bits, fields, bytes_of, bytes_for, over}
 use Rattle.bits.specs.Groups.{group_size, in_groups, group_bytes}
 use Rattle.parts.specs.Parts.{Part, max6972, max6973, max6974, max6975, multiplex, glb4, rows, known, part_of, outputs, subframes, phase_count, frame_clocks, period, period_frames, sink_current, restore_order, is_count, Usable}
-use Rattle.tables.specs.Refusals.{first}
+use Rattle.tables.specs.Refusals.{first, number_in}
 use Rattle.parts.specs.Wire.{State, high, Edge, edge_at, state_at, state_code, states_at, states_of, lows, clocked, header, frame}
 use Rattle.parts.specs.declared.command.Command.{Command}
 use Rattle.parts.specs.declared.command.Command.TheVariants.{Individual, Configuration}
 use Rattle.serial.specs.States.{data_bits, frame_states, frame_rows, clocked_answer, clocked_out, state_rows, data_bytes_answer, data_bytes_out}
-use Rattle.serial.specs.declared.states.Converted.TheVariants as L
 use Rattle.frames.specs.Frames.{told_of, field_count, tail_bits, frame_of}
 use Rattle.frame_writer.specs.Writing.{settings, write_table, written, written_out}
 use Rattle.frame_reader.specs.Reading.{held_fields, room_short, read_table, found, bytes_found, values_found, read, read_bytes, read_values}
 use Rattle.return_reader.specs.Returns as returns
 use Rattle.frames.specs.declared.told.Told.{Told}
 use Rattle.frames.specs.declared.told.Tail.{Tail}
-use Rattle.frame_writer.specs.declared.answer.Written.TheVariants as W
-use Rattle.frame_reader.specs.declared.answer.Read.TheVariants as Q
-use Rattle.return_reader.specs.declared.answer.ReturnRead.TheVariants as R
 use Rattle.frame_laws.specs.RoundTrip.{ReadBack, WrittenAgain, byte_read, bytes_read, values_read}
 use Rattle.phases.specs.Phases.{phase_of, window_of}
 use Rattle.positions.specs.Positions.{length_in}
@@ -58,15 +54,12 @@ use Rattle.cursor.specs.declared.entry.Ran.{Ran}
 use Rattle.subframes.specs.Subframes.{level, is_on, lead_of, how_many_from}
 use Rattle.schedule.specs.Light.{total, is_lit, lit_at, in_run, lit_count}
 use Rattle.subframes.specs.Answers.{on_rows, lead_rows, on_answer, lead_answer}
-use Rattle.schedule.specs.Answers.{lit_rows, lit_run, lit_answer, lit_clocks_answer}
+use Rattle.schedule.specs.Answers.{lit_rows, lit_run, lit_answer, lit_clocks_answer, clocks}
 use Rattle.device_light.specs.OfDevice.{is_shown, shown_run, device_rows, device_answer, device_clocks_answer}
 use Rattle.schedule.specs.Moments.{Visited}
 use Rattle.lit_now.specs.LitNow.{refused as unlit, shown_now, device_at, lit_now_table, lit_now_refusal, lit_now}
 use Rattle.lit_now.specs.BySchedule.{BySchedule}
 use Rattle.lit_now.specs.declared.now.LitNow.{LitNow}
-use Rattle.subframes.specs.declared.answer.Asked.TheVariants as A
-use Rattle.subframes.specs.declared.answer.Lead.TheVariants as D
-use Rattle.schedule.specs.declared.answer.Clocks.TheVariants as K
 use Rattle.differences.specs.Groups.{same, compared}
 use Rattle.compare.specs.Compare.{difference, compare_table, compare_refusal, comparison}
 use Rattle.compare.specs.Differences.{FirstDifference}
@@ -77,12 +70,10 @@ use Rattle.current.specs.Answers as current
 use Rattle.current.specs.Most.{most_drawn, brightest, brightest_set}
 use Rattle.current.specs.declared.sign.Current.{Current}
 use Rattle.arguments.specs.Arguments.{parsed, value_of, asked_rows, asked}
-use Rattle.arguments.specs.declared.judging.Asked.TheVariants as B
 use Rattle.answers.specs.Answers.{accepted, refused}
 use Rattle.answers.specs.declared.answer.Answer.{Answer as RowAnswer}
 use Rattle.capi_bits.specs.PartAnswers.{part_rows, of_part}
-use Rattle.capi_frames.specs.FrameAnswers.{return_read_number}
-use Rattle.claims.specs.Tables.{Exactly, Answers, Leaves, converted_number, written_number, read_number, asked_number, lead_number, clocks_number, arguments_number}
+use Rattle.claims.specs.Tables.{Exactly, Answers, Leaves}
 use Rattle.claims.specs.Examples.{Each, examples, edge_examples, clock_examples, watch_examples}
 
 -- each is a byte
@@ -95,33 +86,33 @@ Bytes bytes = (i : ℕ) → get_or bytes i 0 < 256
 abbrev pub Writes : Told → Tail → ℕ → List ℕ → List ℕ → List ℕ → Type 0
 Writes t tail byte bytes values out =
     let frame : List ℕ = frame_of t tail (settings t byte bytes values) in
-    Answers written_number (write_table t tail byte bytes values (length out)) W.Refused (W.Bytes (length frame)) (written t tail byte bytes values (length out))
-    × Leaves (written_number (written t tail byte bytes values (length out))) out (over frame out) (written_out t tail byte bytes values out)
+    Answers number_in (write_table t tail byte bytes values (length out)) Err (Ok (length frame)) (written t tail byte bytes values (length out))
+    × Leaves (number_in (written t tail byte bytes values (length out))) out (over frame out) (written_out t tail byte bytes values out)
 
 -- the reader: the byte or how many values, and these in front of the lent list of its command
 abbrev pub Reads : Told → Tail → List ℕ → List ℕ → List ℕ → Type 0
 Reads t tail frame bytes values =
-    let number : ℕ = read_number (read t tail frame (length bytes) (length values)) in
-    Answers read_number (read_table t tail frame (length bytes) (length values)) Q.Refused (found t t.command (held_fields t frame)) (read t tail frame (length bytes) (length values))
+    let number : ℕ = number_in (read t tail frame (length bytes) (length values)) in
+    Answers number_in (read_table t tail frame (length bytes) (length values)) Err (Ok (found t t.command (held_fields t frame))) (read t tail frame (length bytes) (length values))
     × Leaves number bytes (bytes_found t.command (held_fields t frame) bytes) (read_bytes t tail frame bytes (length values))
     × Leaves number values (values_found t.command (held_fields t frame) values) (read_values t tail frame (length bytes) values)
 
 -- the return reader: the count
 abbrev pub ReadsReturn : ℕ → ℕ → Command → Tail → List ℕ → Type 0
 ReadsReturn part devices c tail frame =
-    Answers return_read_number (returns.return_table part devices c tail frame) R.Refused (R.Count (returns.count_of (fields 8 frame))) (returns.return_read part devices c tail frame)
+    Answers number_in (returns.return_table part devices c tail frame) Err (Ok (returns.count_of (fields 8 frame))) (returns.return_read part devices c tail frame)
 
 -- a frame's line states with an edge: how many, and these in front of the lent states
 abbrev pub GivesStates : List ℕ → ℕ → ℕ → List ℕ → Type 0
 GivesStates frame n edge out =
-    Answers converted_number (frame_rows (length frame) n edge (length out)) L.Refused (L.Written n) (clocked_answer frame n edge out)
-    × Leaves (converted_number (clocked_answer frame n edge out)) out (over (frame_states (edge_at edge) frame n) out) (clocked_out frame n edge out)
+    Answers number_in (frame_rows (length frame) n edge (length out)) Err (Ok n) (clocked_answer frame n edge out)
+    × Leaves (number_in (clocked_answer frame n edge out)) out (over (frame_states (edge_at edge) frame n) out) (clocked_out frame n edge out)
 
 -- returned states, packed: how many bytes, and these in front of the lent bytes
 abbrev pub PacksStates : List ℕ → List ℕ → Type 0
 PacksStates states out =
-    Answers converted_number (state_rows states (length out)) L.Refused (L.Written (bytes_for (length states))) (data_bytes_answer states out)
-    × Leaves (converted_number (data_bytes_answer states out)) out (over (bytes_of (data_bits states)) out) (data_bytes_out states out)
+    Answers number_in (state_rows states (length out)) Err (Ok (bytes_for (length states))) (data_bytes_answer states out)
+    × Leaves (number_in (data_bytes_answer states out)) out (over (bytes_of (data_bits states)) out) (data_bytes_out states out)
 
 -- a call on a lent chain: its effect on the records
 abbrev pub Calls : List Device → Call → Type 0
@@ -154,25 +145,25 @@ pub record AcceptedExactly : Type 0 where
       → Answers (λ (r : Compared). r.refusal) (compare_table s ds) (λ n. compared n 0 0 0) (difference 1 (owned s) ds) (comparison s ds)
   pub gives_current : (s : Set) (out : List ℕ) → GivesCurrent s out
   pub on : (part configuration global s : ℕ)
-      → Answers asked_number (on_rows part configuration s) A.Refused (A.Is (is_on (part_of part) configuration global s)) (on_answer part configuration global s)
+      → Answers number_in (on_rows part configuration s) Err (Ok (is_on (part_of part) configuration global s)) (on_answer part configuration global s)
   pub lead : (part configuration global from w : ℕ)
-      → Answers lead_number (lead_rows part configuration from w) D.Refused (D.By (lead_of (part_of part) configuration global from w)) (lead_answer part configuration global from w)
+      → Answers number_in (lead_rows part configuration from w) Err (Ok (lead_of (part_of part) configuration global from w)) (lead_answer part configuration global from w)
   pub lit : (part configuration global value output s clock phase : ℕ)
-      → Answers asked_number (lit_rows part configuration value output s clock phase) A.Refused (A.Is (is_lit (part_of part) configuration global value output s clock))
+      → Answers number_in (lit_rows part configuration value output s clock phase) Err (Ok (is_lit (part_of part) configuration global value output s clock))
       (lit_answer part configuration global value output s clock phase)
   pub device_lit : (d : Device) (output s clock phase : ℕ)
-      → Answers asked_number (device_rows d output s clock phase) A.Refused (A.Is (is_shown d.registers output s clock phase)) (device_answer d output s clock phase)
+      → Answers number_in (device_rows d output s clock phase) Err (Ok (is_shown d.registers output s clock phase)) (device_answer d output s clock phase)
   pub lit_clocks : (part configuration global value output s phase : ℕ)
-      → Answers clocks_number (lit_rows part configuration value output s 0 phase) K.Refused (lit_run (part_of part) configuration global value output s)
+      → Answers number_in (lit_rows part configuration value output s 0 phase) Err (Ok (lit_run (part_of part) configuration global value output s))
       (lit_clocks_answer part configuration global value output s phase)
   pub device_lit_clocks : (d : Device) (output s phase : ℕ)
-      → Answers clocks_number (device_rows d output s 0 phase) K.Refused (shown_run d.registers output s phase) (device_clocks_answer d output s phase)
+      → Answers number_in (device_rows d output s 0 phase) Err (Ok (shown_run d.registers output s phase)) (device_clocks_answer d output s phase)
   pub lit_now : (ds : List Device) (device output : ℕ)
       → Answers (λ (r : LitNow). r.refusal) (lit_now_table ds device output) unlit (shown_now (device_at ds device).registers output) (lit_now ds device output)
   -- subframes per frame, or bits of a slice: `number` is the row's
   pub row : (part number : ℕ) → Answers (λ (a : RowAnswer). a.refusal) (part_rows part) refused (accepted number) (of_part part number)
   pub arguments : (part devices : List ℕ)
-      → Answers arguments_number (asked_rows (parsed part) (parsed devices)) B.Refused (B.Chain (value_of (parsed part)) (value_of (parsed devices))) (asked part devices)
+      → Answers number_in (asked_rows (parsed part) (parsed devices)) Err (Ok (record { part = value_of (parsed part); devices = value_of (parsed devices) })) (asked part devices)
 
 -- ---- demand 2: frames
 
@@ -182,7 +173,7 @@ WrittenRead =
     (t : Told) (tail : Tail) (byte : ℕ) (bytes values out : List ℕ) (n : ℕ)
     → byte < 256
     → Bytes bytes
-    → written t tail byte bytes values (length out) ≡ W.Bytes n
+    → written t tail byte bytes values (length out) ≡ Ok n
     → (lent_bytes lent_values : List ℕ)
     → room_short t.command (field_count t) (length lent_bytes) (length lent_values) ≡ false
     → ReadBack t tail (take n (written_out t tail byte bytes values out)) (settings t byte bytes values) lent_bytes lent_values
@@ -192,7 +183,7 @@ abbrev pub ReadWritten : Type 0
 ReadWritten =
     (t : Told) (tail : Tail) (frame bytes values out : List ℕ)
     → Bytes frame
-    → ((n : ℕ) → read t tail frame (length bytes) (length values) ≡ Q.Refused n → ⊥)
+    → ((n : ℕ) → read t tail frame (length bytes) (length values) ≡ Err n → ⊥)
     → length frame ≤ length out
     → WrittenAgain t tail frame (byte_read t tail frame bytes values) (bytes_read t tail frame bytes values) (values_read t tail frame bytes values) out
 
@@ -381,7 +372,7 @@ Counted =
     let now : List Device = after_calls (start p bit limit records earlier) former in
     states_given (start p bit limit records earlier) former ≡ restore_part s edge gap tail j
     → states_given now during ≡ frame_part s edge gap tail c ++ map state_code (lows last)
-    → returns.return_read s.part s.devices c (tail c) (bytes_of (data_bits (answers now during))) ≡ R.Count (faults c (registers_all (start p bit limit records earlier)))
+    → returns.return_read s.part s.devices c (tail c) (bytes_of (data_bits (answers now during))) ≡ Ok (faults c (registers_all (start p bit limit records earlier)))
 
 -- the enabling bit of a device's watchdog is clear in a configuration
 abbrev pub Clear : ℕ → Device → Type 0
@@ -549,16 +540,16 @@ WindowLead =
 -- question about one clock is
 pub record LitClocks : Type 0 where
   pub numbers : (part configuration global value output s clock phase from to : ℕ)
-      → lit_clocks_answer part configuration global value output s phase ≡ K.Run from to
+      → lit_clocks_answer part configuration global value output s phase ≡ Ok (clocks from to)
       → first (lit_rows part configuration value output s clock phase) ≡ 0
-      → lit_answer part configuration global value output s clock phase ≡ A.Is (in_run from to clock)
+      → lit_answer part configuration global value output s clock phase ≡ Ok (in_run from to clock)
   pub numbers_answered : (part configuration value output s clock phase : ℕ)
       → first (lit_rows part configuration value output s clock phase) ≡ 0
       → first (lit_rows part configuration value output s 0 phase) ≡ 0
   pub device : (d : Device) (output s clock phase from to : ℕ)
-      → device_clocks_answer d output s phase ≡ K.Run from to
+      → device_clocks_answer d output s phase ≡ Ok (clocks from to)
       → first (device_rows d output s clock phase) ≡ 0
-      → device_answer d output s clock phase ≡ A.Is (in_run from to clock)
+      → device_answer d output s clock phase ≡ Ok (in_run from to clock)
   pub device_answered : (d : Device) (output s clock phase : ℕ)
       → first (device_rows d output s clock phase) ≡ 0
       → first (device_rows d output s 0 phase) ≡ 0

@@ -1,6 +1,6 @@
 -- The lettered examples of docs/RULES.md, a to z, of where load rises 2a to 2i, of a device's clock 4a to 4i, and of its watchdog 5a to 5l, as lists in
 -- the order of their letters and with the numbers given there.
-use Rattle.std.specs.Prelude.{ℕ, zero, suc, ◌-◌, ◌≡◌, Bool, true, false, ◌&&◌, List, [], ◌∷◌, ◌++◌, map, leb, ℤ, pos, neg_ℤ, length, take, replicate}
+use Rattle.std.specs.Prelude.{ℕ, zero, suc, ◌-◌, ◌≡◌, Bool, true, false, ◌&&◌, List, [], ◌∷◌, ◌++◌, map, leb, ℤ, pos, neg_ℤ, length, take, replicate, Ok}
 use Rattle.bits.specs.Bits.{bits, fields, bytes_of}
 use Rattle.parts.specs.Parts.{part_of}
 use Rattle.tables.specs.Refusals.{first}
@@ -13,7 +13,6 @@ use Rattle.frames.specs.Frames.{told_of, tail_of, no_tail, field_count}
 use Rattle.frame_reader.specs.Reading.{read_refusal}
 use Rattle.frames.specs.declared.told.Told.{Told}
 use Rattle.frames.specs.declared.told.Tail.{Tail}
-use Rattle.frame_writer.specs.declared.answer.Written.TheVariants as W
 use Rattle.phases.specs.Phases.{place_of}
 use Rattle.phases.specs.declared.phase.Phase.{Phase}
 use Rattle.phases.specs.declared.phase.Phase.TheVariants.{Hunting, Opening, Slice, Passing, Lost}
@@ -32,8 +31,6 @@ use Rattle.subframes.specs.Subframes.{is_on}
 use Rattle.subframes.specs.Answers.{on_answer, lead_answer}
 use Rattle.schedule.specs.Light.{is_even}
 use Rattle.schedule.specs.Answers.{lit_rows, lit_answer}
-use Rattle.subframes.specs.declared.answer.Asked.TheVariants.{Is}
-use Rattle.subframes.specs.declared.answer.Lead.TheVariants.{By}
 use Rattle.sets.specs.Sets.{set_of}
 use Rattle.current.specs.Answers.{current, current_out}
 
@@ -146,7 +143,7 @@ Lights part value even said =
     → first (lit_rows part configuration value output s clock phase) ≡ 0
     → is_on (part_of part) configuration global s ≡ true
     → is_even output ≡ even
-    → lit_answer part configuration global value output s clock phase ≡ Is (said clock)
+    → lit_answer part configuration global value output s clock phase ≡ Ok (said clock)
 
 -- the registers of a device that was sent these states in one clock
 abbrev pub after : Device → List ℕ → Registers
@@ -155,13 +152,13 @@ after d sent = (clock_record d sent).0.registers
 -- the lent lists have room for what the frame holds
 abbrev pub Says : Example → Type 0
 Says (sends t tail byte bytes values bs) =
-    (written t tail byte bytes values (length bs) ≡ W.Bytes (length bs))
+    (written t tail byte bytes values (length bs) ≡ Ok (length bs))
     × (written_out t tail byte bytes values (replicate (length bs) 0) ≡ bs)
     × (read_refusal t tail bs (field_count t) (field_count t) ≡ 0)
 Says (refuses t tail bs n) = read_refusal t tail bs (field_count t) (field_count t) ≡ n
 Says (returns ds states bs) = bytes_of (data_bits (returned ds states)) ≡ bs
-Says (subframe part global s b) = on_answer part 0 global s ≡ Is b
-Says (lead part global from to z) = lead_answer part 0 global from (suc to - from) ≡ By z
+Says (subframe part global s b) = on_answer part 0 global s ≡ Ok b
+Says (lead part global from to z) = lead_answer part 0 global from (suc to - from) ≡ Ok z
 Says (lit part value even from to) = Lights part value even (λ clock. leb from clock && leb clock to)
 Says (dark part value even) = Lights part value even (λ clock. false)
 Says (output part number n) = first (lit_rows part 0 0 number 0 0 0) ≡ n

@@ -11,15 +11,15 @@ use Rattle.device.specs.declared.device.Device.{Device}
 use Rattle.device.specs.Judgement.{fits}
 use Rattle.std.specs.Prelude.{Ok, Err}
 use Rattle.schedule.specs.Light.{in_run, lit_first, lit_end}
-use Rattle.schedule.specs.Answers.{position_over}
+use Rattle.schedule.specs.Answers.{position_over, clocks}
 use Rattle.schedule.proofs.Lit.{lit-first-end, position-zero}
-use Rattle.schedule.proofs.Claims.{run, run-given}
+use Rattle.schedule.proofs.Claims.{run-given}
 use Rattle.device_light.specs.OfDevice.{active_value, device_rows, device_answer, device_clocks_answer}
 
 -- the run that is answered for a subframe has the clocks at which the output is said to be lit, and no others
 pub device-clocks :
     (d : Device) (output subframe clock phase f e : ℕ)
-    → device_clocks_answer d output subframe phase ≡ Ok (run f e)
+    → device_clocks_answer d output subframe phase ≡ Ok (clocks f e)
     → first (device_rows d output subframe clock phase) ≡ 0
     → device_answer d output subframe clock phase ≡ Ok (in_run f e clock)
 unfolding device_answer device_clocks_answer

@@ -13,12 +13,8 @@ use Rattle.subframes.specs.Subframes.{how_many_from, level, is_on}
 use Rattle.subframes.proofs.Claims.{frame_on_lem}
 use Rattle.schedule.specs.declared.output.Clocks.{Clocks}
 use Rattle.schedule.specs.Light.{total, is_even, is_lit, in_run, lit_from, lit_to, lit_count, lit_first, lit_end}
-use Rattle.schedule.specs.Answers.{lit_rows, lit_answer, lit_clocks_answer}
+use Rattle.schedule.specs.Answers.{lit_rows, lit_answer, clocks, lit_clocks_answer}
 use Rattle.schedule.proofs.Lit.{lit-run, lit-first-end, run-empty, total-lit, lit-on, position-zero}
-
--- clocks from the first on and before the end
-abbrev pub run : ℕ → ℕ → Clocks
-run f e = record { first = f; end = e }
 
 -- an accepted question about an ON subframe says: lit in one run of clocks, and no others
 pub lit-in-run :
@@ -62,19 +58,19 @@ dark part value even h configuration global output subframe clock phase a e q =
 -- the clocks of an accepted answer
 abbrev clocks_in : Result Clocks ℕ → Clocks
 clocks_in (Ok c) = c
-clocks_in (Err n) = run 0 0
+clocks_in (Err n) = clocks 0 0
 
 -- what an accepted answer gives as first and end clock
-pub run-given : (n g h f e : ℕ) → answer n Err (Ok (run g h)) ≡ Ok (run f e) → (g ≡ f) × (h ≡ e)
+pub run-given : (n g h f e : ℕ) → answer n Err (Ok (clocks g h)) ≡ Ok (clocks f e) → (g ≡ f) × (h ≡ e)
 run-given n g h f e q = at (eqb n 0) q where
-  at : (t : Bool) → cond t (Ok (run g h)) (Err n) ≡ Ok (run f e) → (g ≡ f) × (h ≡ e)
+  at : (t : Bool) → cond t (Ok (clocks g h)) (Err n) ≡ Ok (clocks f e) → (g ≡ f) × (h ≡ e)
   at true r = (ap (λ (x : Result Clocks ℕ). (clocks_in x).first) r, ap (λ (x : Result Clocks ℕ). (clocks_in x).end) r)
   at false r = let z : ◌≡◌ {A = ℕ} 0 1 = cc in absurd (omega arith)
 
 -- the run that is answered for a subframe has the clocks at which the output is said to be lit, and no others
 pub lit-clocks :
     (part configuration global value output subframe clock phase f e : ℕ)
-    → lit_clocks_answer part configuration global value output subframe phase ≡ Ok (run f e)
+    → lit_clocks_answer part configuration global value output subframe phase ≡ Ok (clocks f e)
     → first (lit_rows part configuration value output subframe clock phase) ≡ 0
     → lit_answer part configuration global value output subframe clock phase ≡ Ok (in_run f e clock)
 unfolding lit_answer lit_clocks_answer

@@ -25,10 +25,14 @@ lit_answer part configuration global value output subframe clock phase =
     answer (first (lit_rows part configuration value output subframe clock phase)) Err
     (Ok (is_lit (part_of part) configuration global value output subframe clock))
 
+-- the clocks from one on and before another
+abbrev pub clocks : ℕ → ℕ → Clocks
+clocks first end = record { first = first; end = end }
+
 -- the first and the end clock of an output with a value in a subframe
 abbrev pub lit_run : Part → ℕ → ℕ → ℕ → ℕ → ℕ → Clocks
 lit_run p configuration global value output subframe =
-    record { first = lit_first p configuration global value output subframe; end = lit_end p configuration global value output subframe }
+    clocks (lit_first p configuration global value output subframe) (lit_end p configuration global value output subframe)
 
 -- at which clocks of a subframe is it lit, in a phase: refused as the question about clock 0, which every part has
 unfoldable pub lit_clocks_answer : ℕ → ℕ → ℕ → ℕ → ℕ → ℕ → ℕ → Result Clocks ℕ

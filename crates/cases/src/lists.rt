@@ -1,25 +1,37 @@
-// Lists compared.
-ghost use Rattle.std.specs.Prelude.{◌≡◌, true, ◌≤◌, min};
+// Bytes and values, as a line has them.
+ghost use Rattle.std.specs.Prelude.{◌≡◌, take};
 
-// Whether two lists hold the same values.
-pub fn same_values(a: &[u16], b: &[u16]) -> bool
-    ensures { (result ≡ true → a.now ≡ b.now) × (a.now ≡ b.now → result ≡ true) }
-{
-    if a.len() != b.len() {
-        return false;
-    }
-    let mut i: usize = 0;
-    while i < a.len() {
-        if a[i] != b[i] {
-            return false;
+use std::fmt;
+
+// A blank and two hexadecimal digits for each byte.
+#[derive(Clone, Copy, PartialEq)]
+pub struct Bytes<'a>(pub &'a [u8]);
+
+impl fmt::Display for Bytes<'_> {
+    fn fmt<W: fmt::Write>(&self, f: &mut fmt::Formatter<W>) -> fmt::Result {
+        for byte in self.0 {
+            write!(f, " {byte:02X}")?;
         }
-        i += 1;
+        Ok(())
     }
-    true
 }
 
-pub fn least(a: usize, b: usize) -> usize
-    ensures { (result ≤ a) × (result ≤ b) × (result ≡ min a b) }
+// A blank and the number, for each value.
+#[derive(Clone, Copy, PartialEq)]
+pub struct Values<'a>(pub &'a [u16]);
+
+impl fmt::Display for Values<'_> {
+    fn fmt<W: fmt::Write>(&self, f: &mut fmt::Formatter<W>) -> fmt::Result {
+        for value in self.0 {
+            write!(f, " {value}")?;
+        }
+        Ok(())
+    }
+}
+
+// The first of a list's elements, so many or all.
+pub fn front<T>(list: &[T], count: usize) -> &[T]
+    ensures { result.now ≡ take count list.now }
 {
-    if a < b { a } else { b }
+    &list[..count.min(list.len())]
 }

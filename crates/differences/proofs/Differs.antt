@@ -1,21 +1,47 @@
 -- Where two lists first differ, found from the front: one of them ends at the next place, or by the numbers there they differ there or one
 -- place further on is left to look at. The same of two lists in turns, two places at a time, and so many outputs at a time. Assumes nothing.
 use mathlib.Core.Path.{◌≡◌, refl, ap, sym, ◌∙◌}
-use mathlib.Core.Bool.{Bool, true, false, ◌&&◌, cond}
+use mathlib.Core.Bool.{Bool, true, false, not, ◌&&◌, cond}
 use mathlib.Core.List.{List, [], ◌∷◌}
-use Prim.Native.Nat.{ℕ, zero, suc, ◌+◌, ◌*◌, ◌<◌, ◌≤◌}
-use native.Mathlib.Numerals.{add-one}
+use Prim.Native.Nat.{ℕ, zero, suc, min, ◌+◌, ◌*◌, ◌<◌, ◌≤◌}
+use native.Mathlib.Numerals.{add-one, one-add}
 use native.Mathlib.Nat.{zero-add, suc-add, le_refl}
 use native.Mathlib.Omega.{arith}
-use lib.Dec.{eqb, eqb-zero-suc, eqb-suc-suc}
+use lib.Dec.{eqb, ltb, eqb-zero-suc, eqb-suc-suc}
 use lib.ListN.{length, get_or, take, drop, drop_of_length-le}
 use lib.Seq.{take-nil, take-take, drop-cons, drop-drop}
-use borrow.Author.Tests.{eq-eqb, ne_eqb}
-use Rattle.differences.specs.Groups.{differs_at, in_turns}
+use borrow.Author.Tests.{eq-eqb, ne_eqb, ltb-false}
+use Rattle.std.specs.Prelude.{Some, None, unwrap_or}
+use Rattle.std.specs.List.{position, position_or_len}
+use Rattle.differences.specs.Groups.{differs_at, differs_by, in_turns}
 use Rattle.differences.proofs.Lists.{in_turns-take, in_turns-drop}
 
-pub differs-start : (xs ys : List ℕ) → differs_at xs ys ≡ 0 + differs_at (drop 0 xs) (drop 0 ys)
-differs-start xs ys = omega arith
+-- a place that is looked for and found, or the end
+place-within : {A : Type 0} (p : A → Bool) (xs : List A) → position_or_len p xs ≤ length xs
+place-within p [] = omega arith
+place-within p (x ∷ xs) = simp one-add (go (p x) (place-within p xs))
+  where
+    go : (b : Bool) → position_or_len p xs ≤ length xs → cond (not b) (suc (position_or_len p xs)) 0 ≤ suc (length xs)
+    go true h = omega arith
+    go false h = omega arith
+
+pub place-found : {A : Type 0} (p : A → Bool) (xs : List A) → unwrap_or (position p xs) (length xs) ≡ position_or_len p xs
+place-found p xs = go (ltb (position_or_len p xs) (length xs)) refl
+  where
+    go : (b : Bool) → ltb (position_or_len p xs) (length xs) ≡ b → unwrap_or (cond b (Some (position_or_len p xs)) None) (length xs) ≡ position_or_len p xs
+    go true e = refl
+    go false e = omega (arith, place-within p xs, ltb-false _ _ e)
+
+-- the first place at which two lists of numbers differ
+pub differs-by : (xs ys : List ℕ) → differs_by eqb xs ys ≡ differs_at xs ys
+unfolding differs_at
+differs-by [] ys = refl
+differs-by (x ∷ xs) [] = refl
+differs-by (x ∷ xs) (y ∷ ys) = simp one-add (go (eqb x y) (differs-by xs ys))
+  where
+    go : (b : Bool) → differs_by eqb xs ys ≡ differs_at xs ys → cond (not (not b)) (suc (differs_by eqb xs ys)) 0 ≡ cond b (suc (differs_at xs ys)) 0
+    go true e = ap suc e
+    go false e = refl
 
 pub differs-end : (xs ys : List ℕ) (i : ℕ) → length xs ≤ i → differs_at (drop i xs) ys ≡ 0
 unfolding differs_at
@@ -25,9 +51,6 @@ differs_none : (xs : List ℕ) → differs_at xs [] ≡ 0
 unfolding differs_at
 differs_none [] = refl
 differs_none (x ∷ xs) = refl
-
-pub differs-out : (xs ys : List ℕ) (i : ℕ) → length ys ≤ i → differs_at xs (drop i ys) ≡ 0
-differs-out xs ys i h = rw (drop_of_length-le ys h) (differs_none xs)
 
 -- so many of the one are as good as so many of the other
 pub differs-take : (n : ℕ) (xs ys : List ℕ) → differs_at (take n xs) ys ≡ differs_at xs (take n ys)
@@ -74,6 +97,19 @@ turns-take n vs xs ys =
     let two : 2 * n ≡ n + n = omega arith in
     ap (λ (k : ℕ). differs_at (take k vs) (in_turns xs ys)) two ∙ differs-take (n + n) vs (in_turns xs ys) ∙ ap (differs_at vs) (sym (in_turns-take n xs ys))
 
+-- the same, where no more are taken than there are
+take-within : (n : ℕ) (vs : List ℕ) → take (min (length vs) n) vs ≡ take n vs
+take-within n [] = take-nil _ ∙ sym (take-nil n)
+take-within zero (x ∷ vs) =
+    let none : min (suc (length vs)) 0 ≡ 0 = omega arith in
+    ap (λ (k : ℕ). take k (x ∷ vs)) none
+take-within (suc n) (x ∷ vs) =
+    let more : min (suc (length vs)) (suc n) ≡ suc (min (length vs) n) = omega arith in
+    ap (λ (k : ℕ). take k (x ∷ vs)) more ∙ ap (λ (l : List ℕ). x ∷ l) (take-within n vs)
+
+pub turns-within : (n : ℕ) (vs xs ys : List ℕ) → differs_at (take (min (length vs) (2 * n)) vs) (in_turns xs ys) ≡ differs_at vs (in_turns (take n xs) (take n ys))
+turns-within n vs xs ys = ap (λ (l : List ℕ). differs_at l (in_turns xs ys)) (take-within (2 * n) vs) ∙ turns-take n vs xs ys
+
 module _ (vs xs ys : List ℕ) (i n : ℕ) where
   -- the next values, and what the next outputs hold, in turns
   abbrev us : List ℕ
@@ -119,13 +155,6 @@ module _ {vs xs ys : List ℕ} {i : ℕ} (t : Turn vs xs ys i) where
       let one : drop (i + i) vs ≡ get_or vs (i + i) 0 ∷ drop (i + i + 1) vs = rw (add-one (i + i), drop-cons vs (i + i) 0 t.value) in
       rw (one, drop-cons xs i 0 t.mux0, drop-cons ys i 0 t.mux1, add-one i)
 
-  pub turns-first : (get_or vs (i + i) 0 ≡ get_or xs i 0 → ⊥) → turns_left vs xs ys i ≡ 0
-  turns-first n = turns-half ∙ rw (ne_eqb _ _ n)
-
-  -- the values end between the two
-  pub turns_alone : get_or vs (i + i) 0 ≡ get_or xs i 0 → length vs ≤ i + i + 1 → turns_left vs xs ys i ≡ 1
-  turns_alone e l = turns-half ∙ rw (eq-eqb _ _ e, differs-end vs (get_or ys i 0 ∷ in_turns (drop (i + 1) xs) (drop (i + 1) ys)) (i + i + 1) l)
-
   module _ (both : i + i + 1 < length vs) where
     turns-step : turns_left vs xs ys i ≡ cond first (suc (cond second (suc (turns_left vs xs ys (i + 1))) 0)) 0
     unfolding differs_at
@@ -133,12 +162,6 @@ module _ {vs xs ys : List ℕ} {i : ℕ} (t : Turn vs xs ys i) where
         let two : drop (i + i + 1) vs ≡ get_or vs (i + i + 1) 0 ∷ drop (i + i + 1 + 1) vs = rw (add-one (i + i + 1), drop-cons vs (i + i + 1) 0 both) in
         let n : i + i + 1 + 1 ≡ (i + 1) + (i + 1) = omega arith in
         turns-half ∙ rw (two, n)
-
-    pub turns-second : get_or vs (i + i) 0 ≡ get_or xs i 0 → (get_or vs (i + i + 1) 0 ≡ get_or ys i 0 → ⊥) → turns_left vs xs ys i ≡ 1
-    turns-second e n = turns-step ∙ rw (eq-eqb _ _ e, ne_eqb _ _ n)
-
-    pub turns_next : get_or vs (i + i) 0 ≡ get_or xs i 0 → get_or vs (i + i + 1) 0 ≡ get_or ys i 0 → turns_left vs xs ys i ≡ suc (suc (turns_left vs xs ys (i + 1)))
-    turns_next e f = turns-step ∙ rw (eq-eqb _ _ e, eq-eqb _ _ f)
 
     -- these two and n more are the same: these are, and the n are
     pub turns_same : (n : ℕ) → eqb (turns_left vs xs ys i) (suc (suc n)) ≡ (first && (second && eqb (turns_left vs xs ys (i + 1)) n))

@@ -5,8 +5,8 @@ use mathlib.Core.List.{List, [], ◌∷◌}
 use Prim.Native.Nat.{ℕ, zero, suc, ◌+◌, ◌-◌, ◌<◌, ◌≤◌}
 use native.Mathlib.Omega.{arith}
 use lib.Dec.{eqb}
-use lib.ListN.{length, take, drop, get_or, length-drop}
-use lib.Seq.{take-nil, drop-nil, length-take-le}
+use lib.ListN.{length, take, drop, get_or}
+use lib.Seq.{take-nil, drop-nil}
 use borrow.Author.Tests.{eq-eqb, eqb-true, eqb-false}
 use Rattle.model.specs.Device.{evens, odds}
 use Rattle.differences.specs.Groups.{differs_at, in_turns}
@@ -50,9 +50,6 @@ differs-first (x ∷ xs) (y ∷ ys) e l = go (eqb x y) refl (differs-first xs ys
 pub part-of : (a n : ℕ) (l : List ℕ) → take (a + n - a) (drop a l) ≡ take n (drop a l)
 part-of a n l = let e : a + n - a ≡ n = omega arith in ap (λ (k : ℕ). take k (drop a l)) e
 
-pub length_part : (a n : ℕ) (l : List ℕ) → a + n ≤ length l → length (take (a + n - a) (drop a l)) ≡ n
-length_part a n l h = ap length (part-of a n l) ∙ length-take-le n (drop a l) (omega (arith, length-drop a l))
-
 -- ---- in turns
 
 pub length-in_turns : (xs ys : List ℕ) → length xs ≡ length ys → length (in_turns xs ys) ≡ length xs + length xs
@@ -83,6 +80,22 @@ in_turns-drop zero xs ys = refl
 in_turns-drop (suc n) [] ys = sym (drop-nil (suc n + suc n))
 in_turns-drop (suc n) (x ∷ xs) [] = in_turns-none (drop n xs) ∙ sym (drop-nil (suc n + suc n))
 in_turns-drop (suc n) (x ∷ xs) (y ∷ ys) = in_turns-drop n xs ys ∙ ap (λ (k : ℕ). drop k (x ∷ y ∷ in_turns xs ys)) (two-more n)
+
+pub turns-even : (i : ℕ) (xs ys : List ℕ) → i < length xs → i < length ys → get_or (in_turns xs ys) (i + i) 0 ≡ get_or xs i 0
+unfolding in_turns
+turns-even i [] ys h k = absurd (omega (arith, h))
+turns-even i (x ∷ xs) [] h k = absurd (omega (arith, k))
+turns-even zero (x ∷ xs) (y ∷ ys) h k = refl
+turns-even (suc i) (x ∷ xs) (y ∷ ys) h k = ap (λ (n : ℕ). get_or (x ∷ y ∷ in_turns xs ys) n 0) (sym (two-more i)) ∙ turns-even i xs ys (omega (arith, h)) (omega (arith, k))
+
+pub turns-odd : (i : ℕ) (xs ys : List ℕ) → i < length xs → i < length ys → get_or (in_turns xs ys) (i + i + 1) 0 ≡ get_or ys i 0
+unfolding in_turns
+turns-odd i [] ys h k = absurd (omega (arith, h))
+turns-odd i (x ∷ xs) [] h k = absurd (omega (arith, k))
+turns-odd zero (x ∷ xs) (y ∷ ys) h k = refl
+turns-odd (suc i) (x ∷ xs) (y ∷ ys) h k =
+    let more : suc i + suc i + 1 ≡ suc (suc (i + i + 1)) = omega arith in
+    ap (λ (n : ℕ). get_or (x ∷ y ∷ in_turns xs ys) n 0) more ∙ turns-odd i xs ys (omega (arith, h)) (omega (arith, k))
 
 pub evens-in_turns : (xs ys : List ℕ) → length xs ≡ length ys → evens (in_turns xs ys) ≡ xs
 unfolding in_turns

@@ -2,7 +2,8 @@
 -- active global, active individual (groups 1 to 4), then the place in that device's slice, from 0. A byte that is repeated is a slice of one
 -- here, so its place is 0. Of what a record holds, the calibration of the part's banks and the values of its outputs are compared. Global bytes
 -- are compared as stored; MUX1 values count only if the set's D0 is 1.
-use Rattle.std.specs.Prelude.{ℕ, suc, cond, List, [], ◌∷◌, eqb, ltb, length}
+use Rattle.std.specs.Prelude.{ℕ, suc, Bool, not, cond, List, [], ◌∷◌, eqb, ltb, length}
+use Rattle.std.specs.List.{position_or_len, zip}
 use Rattle.parts.specs.Parts.{multiplex}
 use Rattle.registers.specs.Held.{bank_bytes, output_values}
 use Rattle.device.specs.declared.device.Device.{Device}
@@ -14,6 +15,10 @@ unfoldable pub differs_at : List ℕ → List ℕ → ℕ
 differs_at [] ys = 0
 differs_at (x ∷ xs) [] = 0
 differs_at (x ∷ xs) (y ∷ ys) = cond (eqb x y) (suc (differs_at xs ys)) 0
+
+-- the same of lists of any kind, by what it is for two of their items to be equal
+abbrev pub differs_by : {A : Type 0} → (A → A → Bool) → List A → List A → ℕ
+differs_by eq xs ys = position_or_len (λ p. not (eq p.0 p.1)) (zip xs ys)
 
 -- two lists in turns
 unfoldable pub in_turns : List ℕ → List ℕ → List ℕ

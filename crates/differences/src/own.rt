@@ -1,7 +1,7 @@
 // One device against its own part of a set. Of what it holds, the bytes of its part's banks and the values of its outputs are looked at.
-ghost use Rattle.std.specs.Prelude.{◌≡◌, ◌≤◌, ◌%◌, eqb, length, take};
+ghost use Rattle.std.specs.Prelude.{◌≡◌, ◌<◌, ◌≤◌, ◌%◌, eqb, length, slice_index};
 ghost use Rattle.model.specs.Set.{own_of};
-ghost use Rattle.differences.specs.Groups.{differs_at, in_turns, active_values, groups, compared, same, in_groups};
+ghost use Rattle.differences.specs.Groups.{differs_at, differs_by, in_turns, active_values, groups, compared, same, in_groups};
 
 use crate::compared::Compared;
 use device::Device;
@@ -22,16 +22,15 @@ pub fn device_differs(
     if configuration != registers.configuration {
         return differs(number, 1, 0);
     }
-    let held = registers.calibration;
     let banks = parts::constants_of(registers.part).banks as usize;
-    let byte = bytes_differ(calibration, held, banks);
+    let byte = first_difference(calibration, &registers.calibration[..banks]);
     if byte < calibration.len() {
         return differs(number, 2, byte);
     }
     if global != registers.active {
         return differs(number, 3, 0);
     }
-    let value = active_differ(individual, configuration, device);
+    let value = active_difference(individual, configuration, device);
     if value < individual.len() {
         return differs(number, 4, value);
     }
@@ -51,106 +50,72 @@ fn differs(device: usize, group: u8, place: usize) -> Compared
 }
 
 // The first place at which values differ from a device's active ones, or where the first of the two lists ends.
-fn active_differ(values: &[u16], configuration: u8, device: Device) -> usize
+fn active_difference(values: &[u16], configuration: u8, device: Device) -> usize
     ensures { (result ≡ differs_at values.now (active_values configuration device)) × (result ≤ 48) }
 {
     let registers = device.registers;
     let outputs = parts::outputs_of(registers.part);
-    let mux0 = registers.active0;
-    let mux1 = registers.active1;
     if configuration % 2 == 0 {
-        return values_differ(front(values, outputs), mux0);
+        return first_difference(values, &registers.active0[..outputs]);
     }
-    turns_differ(front(values, 2 * outputs), mux0, mux1)
+    let in_use = values.len().min(2 * outputs);
+    turns_difference(&values[..in_use], &registers.active0, &registers.active1)
 }
 
-// The first n values, or all where there are fewer.
-fn front(values: &[u16], n: usize) -> &[u16]
-    ensures { result.now ≡ take n values.now }
+// The first place at which two lists differ, or where the first of them ends.
+fn first_difference<T: PartialEq>(given: &[T], held: &[T]) -> usize
+    ensures value { result ≡ differs_by T.eq given.now held.now }
+    ensures within { result ≤ length held.now }
 {
-    if n <= values.len() {
-        &values[..n]
-    } else {
-        values
-    }
-}
-
-// The same of bytes and a device's calibration, a byte for each bank.
-fn bytes_differ(bytes: &[u8], held: [u8; 3], banks: usize) -> usize
-    requires { banks ≤ 3 }
-    ensures { (result ≡ differs_at bytes.now (take banks held)) × (result ≤ 3) }
-{
-    let mut i: usize = 0;
-    while i < banks {
-        if i >= bytes.len() {
-            return i;
-        }
-        if bytes[i] != held[i] {
-            return i;
-        }
-        i += 1;
-    }
-    i
-}
-
-// The same of values and those of a nonmultiplexed device.
-fn values_differ(values: &[u16], held: [u16; 24]) -> usize
-    requires { length values.now ≤ 24 }
-    ensures { (result ≡ differs_at values.now held) × (result ≤ 24) }
-{
-    let mut i: usize = 0;
-    while i < values.len() {
-        if values[i] != held[i] {
-            return i;
-        }
-        i += 1;
-    }
-    i
+    let differing = given.iter().zip(held).position(|(x, y)| x != y);
+    differing.unwrap_or(given.len().min(held.len()))
 }
 
 // The same of values and those of a multiplexed device: each output's MUX0 value and then its MUX1 value. Where they are the values of whole
 // banks and all are the same, a quick pass says so.
-fn turns_differ(values: &[u16], mux0: [u16; 24], mux1: [u16; 24]) -> usize
+fn turns_difference(values: &[u16], mux0: &[u16; 24], mux1: &[u16; 24]) -> usize
     requires { length values.now ≤ 48 }
-    ensures { (result ≡ differs_at values.now (in_turns mux0 mux1)) × (result ≤ 48) }
+    ensures { (result ≡ differs_at values.now (in_turns mux0.now mux1.now)) × (result ≤ 48) }
 {
-    if values.len() % 16 == 0 {
-        if turns_same(values, mux0, mux1) {
-            return values.len();
+    if values.len() % 16 == 0 && turns_same(values, mux0, mux1) {
+        return values.len();
+    }
+    for (place, value) in values.iter().enumerate() {
+        if *value != held_at(mux0, mux1, place) {
+            return place;
         }
     }
-    let mut i: usize = 0;
-    while i + i < values.len() {
-        let even = i + i;
-        if values[even] != mux0[i] {
-            return even;
-        }
-        let next = even + 1;
-        if next >= values.len() {
-            return next;
-        }
-        if values[next] != mux1[i] {
-            return next;
-        }
-        i += 1;
+    values.len()
+}
+
+// What a multiplexed device holds at a place.
+fn held_at(mux0: &[u16; 24], mux1: &[u16; 24], place: usize) -> u16
+    requires { place < 48 }
+    ensures { result ≡ slice_index (in_turns mux0.now mux1.now) place }
+{
+    let output = place / 2;
+    if place % 2 == 0 {
+        mux0[output]
+    } else {
+        mux1[output]
     }
-    i + i
 }
 
 // The values of whole banks are all the same.
-fn turns_same(values: &[u16], mux0: [u16; 24], mux1: [u16; 24]) -> bool
+fn turns_same(values: &[u16], mux0: &[u16; 24], mux1: &[u16; 24]) -> bool
     requires { (length values.now ≤ 48) × (length values.now % 16 ≡ 0) }
-    ensures { result ≡ eqb (differs_at values.now (in_turns mux0 mux1)) (length values.now) }
+    ensures { result ≡ eqb (differs_at values.now (in_turns mux0.now mux1.now)) (length values.now) }
 {
-    let mut i: usize = 0;
-    while i + i < values.len() {
-        let even = i + i;
-        let next = even + 16;
-        let last = i + 8;
-        if !bank_same(&values[even..next], &mux0[i..last], &mux1[i..last]) {
+    for bank in 0..values.len() / 16 {
+        let from = 8 * bank;
+        let to = from + 8;
+        if !bank_same(
+            &values[from + from..to + to],
+            &mux0[from..to],
+            &mux1[from..to],
+        ) {
             return false;
         }
-        i = last;
     }
     true
 }
@@ -161,17 +126,15 @@ fn bank_same(values: &[u16], mux0: &[u16], mux1: &[u16]) -> bool
     ensures { result ≡ eqb (differs_at values.now (in_turns mux0.now mux1.now)) 16 }
 {
     let mut same = true;
-    let mut i: usize = 0;
-    while i < 8 {
-        let even = i + i;
+    for output in 0..8 {
+        let even = output + output;
         let odd = even + 1;
-        if values[even] != mux0[i] {
+        if values[even] != mux0[output] {
             same = false;
         }
-        if values[odd] != mux1[i] {
+        if values[odd] != mux1[output] {
             same = false;
         }
-        i += 1;
     }
     same
 }

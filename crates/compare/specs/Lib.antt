@@ -1,4 +1,4 @@
--- A set against a chain, the search for their first difference, and what it is to differ first.
+-- A set against a chain, when they are compared, and what it is to differ first.
 pub mod Compare
-pub mod Search
+pub mod Judging
 pub mod Differences

@@ -1,15 +1,19 @@
-// The comparison over a lent chain, for C and Rust. It walks the records; what it does with one of them is by value.
-ghost use Rattle.std.specs.Prelude.{◌≡◌};
-ghost use Rattle.sets.specs.Sets.{set_of};
-ghost use Rattle.compare.specs.Compare.{comparison};
+// The comparison over a lent chain, for C and Rust.
+ghost use Rattle.std.specs.Prelude.{◌≡◌, length};
+ghost use Rattle.model.specs.Set.{owned};
+ghost use Rattle.sets.specs.Sets.{set_of, set_by};
+ghost use Rattle.compare.specs.Compare.{comparison, difference};
+ghost use Rattle.compare.specs.Judging.{ListsLong};
 
-use crate::search::{begin, look};
+use crate::judging::judge;
 use device::Device;
 use differences::Compared;
-use judgement::judge;
+use parts::Command;
+use sets::SetNumbers;
 
 // The first difference between a set and a lent chain, all 0 where they are the same, or the refusal's number. The set's part, number of
 // devices, configuration, calibration bytes, global byte and individual values.
+#[tactic(auto, unfolding(crate::specs::Compare::comparison))]
 #[unsafe(no_mangle)]
 pub extern "C" fn bb_compare(
     part: u16,
@@ -22,21 +26,63 @@ pub extern "C" fn bb_compare(
 ) -> Compared
     ensures { result ≡ comparison (set_of part devices configuration calibration.now global individual.now) chain.now }
 {
-    let judged = judge(chain);
-    let mut search = begin(
+    let given = SetNumbers {
         part,
         devices,
         configuration,
-        calibration.len(),
         global,
-        individual,
-        judged,
-        chain.len(),
-    );
-    while search.going {
-        let i = search.index;
-        let next = look(chain[i], search, calibration, individual);
-        search = next;
+    };
+    let judged = judgement::judge(chain);
+    match judge(given, calibration.len(), individual, judged, chain.len()) {
+        Ok(()) => first_difference(given, calibration, individual, chain),
+        Err(refusal) => Compared {
+            device: 0,
+            place: 0,
+            group: 0,
+            refusal: u8::from(refusal),
+        },
     }
-    search.answer
+}
+
+// Device after device, each with its own bytes and values.
+fn first_difference(
+    given: SetNumbers,
+    calibration: &[u8],
+    individual: &[u16],
+    chain: &[Device],
+) -> Compared
+    requires { ListsLong given (length calibration.now) (length individual.now) (length chain.now) }
+    ensures { result ≡ difference 1 (owned (set_by given calibration.now individual.now)) chain.now }
+{
+    let banks = slices::slice_fields(Command::Calibration, given.part, 0) as usize;
+    let fields = slices::slice_fields(
+        Command::Individual,
+        given.part,
+        given.configuration,
+    ) as usize;
+    let mut bytes = calibration;
+    let mut values = individual;
+    for (place, device) in chain.iter().enumerate() {
+        let (own_bytes, bytes_after) = bytes.split_at(banks);
+        let (own_values, values_after) = values.split_at(fields);
+        let answer = differences::device_differs(
+            *device,
+            place + 1,
+            given.configuration,
+            own_bytes,
+            given.global,
+            own_values,
+        );
+        if answer.group != 0 {
+            return answer;
+        }
+        bytes = bytes_after;
+        values = values_after;
+    }
+    Compared {
+        device: 0,
+        place: 0,
+        group: 0,
+        refusal: 0,
+    }
 }

@@ -3,6 +3,5 @@
 
 mod comparison;
 mod judging;
-mod search;
 
 pub use comparison::bb_compare;

@@ -1,6 +1,6 @@
-// Which records of a lent chain a call changes, and what a fault setting makes of one.
+// What a fault setting makes of one record of a lent chain.
 #![tactic(auto)]
 
 mod changes;
 
-pub use changes::{Span, all_span, fault_span, fresh_span, with_fault};
+pub use changes::with_fault;

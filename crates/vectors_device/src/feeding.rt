@@ -1,7 +1,5 @@
 // A fresh device, and one that is given line states. Each frame is given as its bytes, SYNC at low load.
-ghost use Rattle.std.specs.Prelude.{◌≤◌};
-
-use cases::least;
+use cases::front;
 use device::Device;
 use phases::Sent;
 
@@ -21,18 +19,16 @@ pub fn fresh_of(part: u16) -> Device {
 
 // A device that is given a frame, of 51 bytes at most.
 pub fn feed(device: Device, frame: &[u8]) -> Fed {
-    let mut states = [0u8; 408];
-    let bits = least(frame.len(), 51) * 8;
-    serial::frame_states(frame, bits, serial::EXACT, &mut states);
-    steps(device, &states[..bits])
+    let mut states = [0; 408];
+    let bits = frame.len().min(51) * 8;
+    let _ = serial::frame_states(frame, bits, serial::EXACT, &mut states);
+    steps(device, front(&states, bits))
 }
 
 pub fn steps(device: Device, states: &[u8]) -> Fed {
     let mut fed = start(device);
-    let mut i: usize = 0;
-    while i < states.len() {
-        fed = step(fed, states[i]);
-        i += 1;
+    for state in states {
+        fed = step(fed, *state);
     }
     fed
 }
@@ -51,33 +47,16 @@ pub fn step(fed: Fed, state: u8) -> Fed {
     if fed.refusal != 0 {
         return fed;
     }
-    let device = fed.device;
-    let answer = device.step(state);
-    let next = answer.device;
-    let sent = answer.sent;
+    let answer = fed.device.step(state);
+    let (states, count) = match answer.sent {
+        Sent::Nothing => (0, fed.count),
+        Sent::One(_) => (1, fed.count),
+        Sent::Header { count, .. } => (24, count),
+    };
     Fed {
-        device: next,
+        device: answer.device,
         refusal: answer.refusal,
-        sent: (fed.sent % 65536) + states_of(sent),
-        count: count_of(sent, fed.count),
-    }
-}
-
-// How many states are sent on.
-fn states_of(sent: Sent) -> u32
-    ensures { result ≤ 24 }
-{
-    match sent {
-        Sent::Nothing => 0,
-        Sent::One(_) => 1,
-        Sent::Header { .. } => 24,
-    }
-}
-
-// The count of the last header: that of this one, or the one before.
-fn count_of(sent: Sent, before: u16) -> u16 {
-    match sent {
-        Sent::Header { count, .. } => count,
-        _ => before,
+        sent: fed.sent.saturating_add(states),
+        count,
     }
 }

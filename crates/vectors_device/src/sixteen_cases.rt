@@ -1,7 +1,7 @@
 // One device with 16 outputs, stepped by value: a slice of bytes has two copies, and what is not used stays 0.
 use crate::feeding::{feed, fresh_of};
 use crate::seen::{PASSING, case, expected};
-use cases::{phases_case, spaced};
+use cases::{Phases, spaced};
 use device::Device;
 use std::io;
 
@@ -16,7 +16,7 @@ fn copies_cases(rt: &impl Print) -> io::Result<()> {
     let configured = feed(fresh, b"\xE8\xFC\x00\x01\x01\x07");
     case(
         rt,
-        b"-  6972, configuration 0x01, and 8 bits for the next device",
+        "-  6972, configuration 0x01, and 8 bits for the next device",
         configured,
         expected(PASSING, 1, 0, 32, 0),
     )?;
@@ -24,7 +24,7 @@ fn copies_cases(rt: &impl Print) -> io::Result<()> {
     let after = feed(before.device, b"\xE8\xA8\x05\x60\x61");
     case(
         rt,
-        b"-  6972, global 0x07, then global copies 60 61 with count 5",
+        "-  6972, global 0x07, then global copies 60 61 with count 5",
         after,
         expected(PASSING, 0, 7, 24, 5),
     )
@@ -40,7 +40,7 @@ fn stored_cases(rt: &impl Print) -> io::Result<()> {
     );
     stored_case(
         rt,
-        b"-  6972 multiplexed, values 1 to 32",
+        "-  6972 multiplexed, values 1 to 32",
         multiplexed.device,
         spaced(1, 2, 16),
     )?;
@@ -51,16 +51,17 @@ fn stored_cases(rt: &impl Print) -> io::Result<()> {
     );
     stored_case(
         rt,
-        b"-  6972, then nonmultiplexed, values 33 to 48",
+        "-  6972, then nonmultiplexed, values 33 to 48",
         plain.device,
         spaced(33, 1, 16),
     )
 }
 
 // The line of a case: the waiting values. MUX1 has 2 to 32.
-fn stored_case(rt: &impl Print, name: &[u8], device: Device, should: [u16; 24]) -> io::Result<()> {
-    let registers = device.registers;
-    let mux0 = registers.waiting0;
-    let mux1 = registers.waiting1;
-    phases_case(rt, name, mux0, mux1, should, spaced(2, 2, 16))
+fn stored_case(rt: &impl Print, name: &str, device: Device, mux0: [u16; 24]) -> io::Result<()> {
+    let mux1 = spaced(2, 2, 16);
+    let should = Phases { mux0, mux1 };
+    let mux0 = device.registers.waiting0;
+    let mux1 = device.registers.waiting1;
+    cases::case(rt, name, should, Phases { mux0, mux1 })
 }

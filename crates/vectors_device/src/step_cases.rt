@@ -1,8 +1,9 @@
 // One device, stepped by value: rules that no number of docs/RULES.md shows.
 use crate::feeding::{feed, fresh_of, start, step, steps};
-use crate::seen::{LOST, PASSING, SLICE, case, expected};
+use crate::seen::{LOST, PASSING, case, expected};
 use device::Device;
-use phases::Place;
+use parts::Command;
+use phases::{Phase, Place};
 use std::io;
 
 pub fn run(rt: &impl Print) -> io::Result<()> {
@@ -18,14 +19,14 @@ fn lost_cases(rt: &impl Print) -> io::Result<()> {
     let lost = feed(fresh, b"\xE8\xF8\x00\x01\x01\x01");
     case(
         rt,
-        b"-  command bits 11 11 10, then configuration 0x01",
+        "-  command bits 11 11 10, then configuration 0x01",
         lost,
         expected(LOST, 0, 0, 0, 0),
     )?;
     let taken = feed(lost.device, b"\xE8\xFC\x00\x01\x01\x01");
     case(
         rt,
-        b"-  the same device, the next frame: configuration 0x01",
+        "-  the same device, the next frame: configuration 0x01",
         taken,
         expected(PASSING, 1, 0, 24, 0),
     )
@@ -37,7 +38,7 @@ fn copies_case(rt: &impl Print) -> io::Result<()> {
     let after = feed(before.device, b"\xE8\xA8\x05\x60\x60\x61");
     case(
         rt,
-        b"-  global 0x07, then global copies 60 60 61 with count 5",
+        "-  global 0x07, then global copies 60 60 61 with count 5",
         after,
         expected(PASSING, 0, 7, 24, 5),
     )
@@ -49,7 +50,7 @@ fn count_case(rt: &impl Print) -> io::Result<()> {
     let after = feed(fresh.set_fault(1, 1), b"\xE8\xFF\xFF\x01\x01\x01");
     case(
         rt,
-        b"-  configuration 0x01 with count 1023, an open LED",
+        "-  configuration 0x01 with count 1023, an open LED",
         after,
         expected(PASSING, 1, 0, 24, 0),
     )
@@ -61,7 +62,7 @@ fn slot_cases(rt: &impl Print) -> io::Result<()> {
     let cut = with_slots(0x1A9, 0x1A9, 0x1A9, 0);
     case(
         rt,
-        b"-  slots 1A9 1A9 1A9, all bits of global 0x60 to come",
+        "-  slots 1A9 1A9 1A9, all bits of global 0x60 to come",
         steps(
             cut,
             b"\x02\x03\x03\x02\x02\x02\x02\x02\x02\x03\x03\x02\x02\x02\x02\x02\x02\x03\x03\x02\x02\x02\x02\x02",
@@ -71,7 +72,7 @@ fn slot_cases(rt: &impl Print) -> io::Result<()> {
     let last = with_slots(0x1A9, 0x1A9, 0xD4, 23);
     case(
         rt,
-        b"-  slots 1A9 1A9 0D4, the last bit of global 0xA9 to come",
+        "-  slots 1A9 1A9 0D4, the last bit of global 0xA9 to come",
         step(start(last), 3),
         expected(PASSING, 0, 0xA9, 24, 0),
     )
@@ -79,18 +80,14 @@ fn slot_cases(rt: &impl Print) -> io::Result<()> {
 
 // A 6974 in a global slice, with a slot for each bank and so many bits taken.
 fn with_slots(first: u16, second: u16, third: u16, taken: u16) -> Device {
-    let fresh = fresh_of(6974);
-    let mut registers = fresh.registers;
-    registers.slice[0] = first;
-    registers.slice[1] = second;
-    registers.slice[2] = third;
-    Device {
-        registers,
-        place: Place {
-            phase: SLICE,
-            command: 2,
-            count: 0,
-            read: taken,
-        },
-    }
+    let mut device = fresh_of(6974);
+    device.registers.slice[0] = first;
+    device.registers.slice[1] = second;
+    device.registers.slice[2] = third;
+    device.place = Place::from(Phase::Slice {
+        command: Command::Global,
+        count: 0,
+        taken,
+    });
+    device
 }

@@ -1,5 +1,4 @@
 -- Laws of the device.
-pub mod Cases
 pub mod Places
 pub mod Position
 pub mod Shown

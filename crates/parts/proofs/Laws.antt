@@ -8,7 +8,7 @@ use native.Mathlib.Omega.{arith}
 use lib.Dec.{T, eqb, ltb, leb, eqb→eq, ltb→lt, leb→le}
 use borrow.Author.Tests.{leb-true, ltb-true}
 use lib.ListN.{length, get_or}
-use Rattle.parts.specs.Parts.{Part, max6972, max6973, max6974, max6975, rows, no_part, known_in, known, row_from, part_of, row_index, multiplex}
+use Rattle.parts.specs.Parts.{Part, max6972, max6973, max6974, max6975, rows, no_part, known_in, row_from, part_of, row_index, multiplex}
 use Rattle.parts.specs.Parts.{glb4, subframes, limit, is_count, code, command_at, slice_bits, period, sink_current, Usable, WholeFrames}
 use Rattle.parts.specs.declared.command.Command.{Command}
 use Rattle.parts.specs.declared.command.Command.TheVariants.{Individual, Calibration, Global, Configuration}
@@ -28,9 +28,6 @@ known_from p (q ∷ qs) n = go (eqb n p.name) refl (known_from q qs n) where
   go : (t : Bool) → eqb n p.name ≡ t → known_in (q ∷ qs) n ≡ eqb n (row_from q qs n).name → (t || known_in (q ∷ qs) n) ≡ eqb n (cond t p (row_from q qs n)).name
   go true e rest = sym e
   go false e rest = rest
-
-pub known-name : (n : ℕ) → known n ≡ eqb n (part_of n).name
-known-name n = known_from max6972 (max6973 ∷ max6974 ∷ max6975 ∷ []) n
 
 -- four numbers of subframes, each 1 to 128
 subframes-by :

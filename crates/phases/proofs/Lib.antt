@@ -1,4 +1,3 @@
 -- Laws of the phases and of their numbers in the record.
 pub mod Places
-pub mod Cases
 pub mod Rising

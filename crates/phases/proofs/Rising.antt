@@ -1,29 +1,14 @@
 -- The rising edge by what the window and the first high bit are: each reading excludes those that are tested before it. Last, the phases that a
 -- bit of a header moves to are small. Assumes nothing.
-use mathlib.Core.Path.{◌≡◌}
-use mathlib.Core.Bool.{true, false, ◌&&◌}
+use mathlib.Core.Bool.{◌&&◌}
 use Prim.Native.Nat.{ℕ, ◌+◌, ◌-◌, ◌*◌, ◌/◌, ◌%◌}
-use native.Mathlib.Omega.{arith}
 use lib.Dec.{eqb, ltb, lit<}
-use borrow.Author.Tests.{eq-eqb, ne_eqb}
 use Rattle.tables.proofs.Booleans.{cond_both}
 use Rattle.parts.specs.declared.command.Command.{Command}
 use Rattle.phases.specs.Phases.{rising, opened, opening, counting}
 use Rattle.phases.specs.declared.phase.Phase.{Phase}
 use Rattle.phases.specs.declared.phase.Phase.TheVariants.{Opening, Lost}
 use Rattle.phases.proofs.Places.{Small}
-
-pub rising-early : (w b : ℕ) → w % 128 ≡ 0x74 → eqb b 0 ≡ true → Opening 1 ≡ rising w b
-rising-early w b e z = rw (eq-eqb (w % 128) 0x74 e, z)
-
-pub rising-exact : (w b : ℕ) → w % 256 ≡ 0xE8 → Opening (2 + b) ≡ rising w b
-rising-exact w b e = rw (ne_eqb (w % 128) 0x74 (λ f. omega (arith, f)), eq-eqb (w % 256) 0xE8 e)
-
-pub rising-late : (w b : ℕ) → w / 2 ≡ 0xE8 → Opening (4 + w % 2 * 2 + b) ≡ rising w b
-rising-late w b e = rw (ne_eqb (w % 128) 0x74 (λ f. omega (arith, f)), ne_eqb (w % 256) 0xE8 (λ f. omega (arith, f)), eq-eqb (w / 2) 0xE8 e)
-
-pub rising-lost : (w b : ℕ) → (eqb (w % 128) 0x74 && eqb b 0) ≡ false → (w % 256 ≡ 0xE8 → ⊥) → (w / 2 ≡ 0xE8 → ⊥) → Lost ≡ rising w b
-rising-lost w b n f g = rw (n, ne_eqb (w % 256) 0xE8 f, ne_eqb (w / 2) 0xE8 g)
 
 -- what holds of the three phases in the header, and of lost, holds after a rising edge
 pub rising-any : (P : Phase → Type 0) (w b : ℕ) → P (Opening 1) → P (Opening (2 + b)) → P (Opening (4 + w % 2 * 2 + b)) → P Lost → P (rising w b)

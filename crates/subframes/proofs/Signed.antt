@@ -7,7 +7,7 @@ use native.Mathlib.Nat.{add-zero, sub-zero}
 use native.Mathlib.Omega.{arith}
 use lib.Dec.{ltb, lt→ltb}
 use lib.IntN.{ℤ, pos, negsuc, neg_ℤ, sub_ℕ, ◌-ℤ◌}
-use lib.Signed.{◌<ℤ◌, lt_z_yes, mag}
+use lib.Signed.{◌<ℤ◌, lt_z_yes}
 use borrow.Author.Tests.{ltb-true, ltb-false, le-ltb}
 
 pub sub-pos : (a b : ℕ) → pos a -ℤ pos b ≡ sub_ℕ a b
@@ -34,7 +34,3 @@ sub-below (suc n) a b h k =
     each-sub (λ z. (negsuc n <ℤ z) × (z <ℤ pos (suc n))) a b
     (λ l. (lt_z_yes (lt→ltb (b - suc a) n (omega arith)), lt_z_yes tt))
     (λ l. (lt_z_yes tt, lt_z_yes (lt→ltb (a - b) (suc n) (omega arith))))
-
--- it is in size below n
-pub mag-sub : (n a b : ℕ) → a < n → b < n → mag (pos a -ℤ pos b) < n
-mag-sub n a b h k = each-sub (λ z. mag z < n) a b (λ l. omega arith) (λ l. omega arith)

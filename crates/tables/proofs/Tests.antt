@@ -3,7 +3,6 @@
 use mathlib.Core.Path.{◌≡◌, refl, sym, ap, ◌∙◌}
 use mathlib.Core.Bool.{Bool, true, false, ◌&&◌}
 use mathlib.Core.List.{List, [], ◌∷◌}
-use mathlib.Core.Logic.{◌⊎◌, ⊎_elim}
 use Prim.Native.Nat.{ℕ, zero, suc, ◌+◌, ◌<◌, ◌^◌}
 use native.Mathlib.Numerals.{add-one}
 use native.Mathlib.Omega.{arith}
@@ -16,9 +15,6 @@ use Rattle.tables.specs.Lists.{all_below, all_same, or_all}
 use Rattle.tables.proofs.Booleans.{and-true, and_assoc}
 
 -- the rest of a list is its next number and what comes after
-pub all_below-drop : (xs : List ℕ) (m i : ℕ) → i < length xs → all_below (drop i xs) m ≡ (ltb (get_or xs i 0) m && all_below (drop (i + 1) xs) m)
-all_below-drop xs m i h = rw (add-one, drop-cons xs i 0)
-
 pub all_same-drop : (xs : List ℕ) (b i : ℕ) → i < length xs → all_same (drop i xs) b ≡ (eqb (get_or xs i 0) b && all_same (drop (i + 1) xs) b)
 all_same-drop xs b i h = rw (add-one, drop-cons xs i 0)
 
@@ -26,15 +22,7 @@ pub same-replicate : (n b : ℕ) → all_same (replicate n b) b ≡ true
 same-replicate zero b = refl
 same-replicate (suc n) b = ap (λ (d : Bool). d && all_same (replicate n b) b) (eq-eqb b b refl) ∙ same-replicate n b
 
--- by which arm control came
-pub by_way : {A B C : Type 0} → A ⊎ B → (A → C) → (B → C) → C
-by_way s f g = ⊎_elim f g s
-
 -- ---- the bits of all numbers
-
--- the rest of a list gives its next number's bits, and what comes after
-pub or_all-drop : (xs : List ℕ) (bits i : ℕ) → i < length xs → or_all (drop i xs) bits ≡ or_all (drop (i + 1) xs) (bit_or bits (get_or xs i 0))
-or_all-drop xs bits i h = rw (add-one, drop-cons xs i 0)
 
 or-below : (a b w : ℕ) → ltb (bit_or a b) (2 ^ w) ≡ (ltb a (2 ^ w) && ltb b (2 ^ w))
 or-below a b w = at (ltb a (2 ^ w)) (ltb b (2 ^ w)) refl refl where

@@ -1,11 +1,12 @@
 -- A watchdog over a block of states is what it is clock by clock. A line goes by itself: it is left at its last level, with a count from its last
 -- change on (by induction on the states). Where neither count can come to the limit in so many clocks, no question of the block is answered by yes:
 -- a count that goes on stays below, and one that starts anew in the block is less. Behind an expiry the answers say nothing. Assumes nothing.
-use Rattle.std.proofs.Common.{◌≡◌, ℕ, zero, suc, ◌+◌, ◌-◌, ◌^◌, ◌<◌, ◌≤◌, min, Bool, true, false, cond, not, ◌&&◌, ◌||◌, eqb, leb, List, [], ◌∷◌, ◌++◌, map, length, get_or, take, drop, sym, refl, ap, ◌∙◌, add-zero, add-one, arith, length-drop, length-take, get_or-drop, get_or-take, take-suc, drop-drop, take-add, eq-eqb, ne_eqb, leb-false}
+use Rattle.std.proofs.Common.{◌≡◌, ℕ, zero, suc, ◌+◌, ◌-◌, ◌^◌, ◌<◌, ◌≤◌, min, Bool, true, false, cond, not, ◌&&◌, ◌||◌, eqb, leb, List, [], ◌∷◌, ◌++◌, map, length, get_or, take, drop, sym, refl, ap, ◌∙◌, add-zero, add-one, arith, length-take, take_all, get_or-take, take-suc, eq-eqb, ne_eqb, leb-false}
 use mathlib.Core.Bool.{or_assoc}
 use mathlib.Core.List.{map-append}
 use lib.ListN.{length-map}
 use borrow.Author.Tests.{lt-leb}
+use Rattle.std.proofs.lemmas.List.{take-append-drop}
 use Rattle.tables.proofs.Booleans.{and-false, or-false, or-none}
 use Rattle.watch.specs.declared.watch.Line.{Line}
 use Rattle.watch.specs.declared.watch.Watch.{Watch}
@@ -13,8 +14,8 @@ use Rattle.watch.specs.declared.kept.Listened.{Listened}
 use Rattle.watch.specs.Watch.{line, with_lines, data_bit, load_bit, last_of, moved}
 use Rattle.watch.specs.Kept.{run_on, kept_from, expired_by, line_in, watch_in, listened}
 use Rattle.watch.specs.Ear.{last_change, comes_to}
-use Rattle.watch.specs.Blocks.{bit_of, block_of, change_in, count_by, line_over, watch_over, may_expire, heard_on}
-use Rattle.watch.proofs.Clocks.{told, since, with-lines, listened-append, last-at}
+use Rattle.watch.specs.Blocks.{bit_of, change_in, count_by, line_over, watch_over, may_expire, heard_on}
+use Rattle.watch.proofs.Clocks.{told, since, with-lines, listened-append, listened-one, last-at}
 use Rattle.watch.proofs.Changes.{last-change-append}
 use Rattle.watch.proofs.Ears.{stays, last-still, told-both}
 
@@ -53,17 +54,11 @@ watch-across (s ∷ xs) t w =
     ∙ watch-across xs (t + 1) (with_lines w (next t (data_bit s) w.din) (next t (load_bit s) w.loadi))
     ∙ with-lines w (across-next t (data_bit s) (map data_bit xs) w.din) (across-next t (load_bit s) (map load_bit xs) w.loadi)
 
-block_last : (f : ℕ → ℕ) (level : ℕ) (ss : List ℕ) (from k : ℕ) → from + suc k ≤ length ss
-    → last_of level (map f (take (suc k) (drop from ss))) ≡ f (get_or ss (from + k) 0)
-block_last f level ss from k h =
-    last-at f level (take (suc k) (drop from ss)) k (simp (length-take, length-drop) (omega (arith, h)))
-    ∙ ap f (get_or-take (suc k) (drop from ss) k 0 (omega arith) ∙ get_or-drop from ss k 0)
-
-pub block-watch : (ss : List ℕ) (from : ℕ) (w : Watch) → from + 64 ≤ length ss → (listened true from (block_of ss from) w).watch ≡ watch_over ss from w
-block-watch ss from w h = watch-across (block_of ss from) from w ∙ with-lines w (left true w.din) (left false w.loadi)
+pub block-watch : (block : List ℕ) (t : ℕ) (w : Watch) → length block ≡ 64 → (listened true t block w).watch ≡ watch_over block t w
+block-watch block t w h = watch-across block t w ∙ with-lines w (left true w.din) (left false w.loadi)
   where
-    left : (din : Bool) (l : Line) → across from (map (bit_of din) (block_of ss from)) l ≡ line_over din ss from l
-    left din l = ap (line (count_by (change_in l.level din ss from) l.still)) (block_last (bit_of din) l.level ss from 63 h)
+    left : (din : Bool) (l : Line) → across t (map (bit_of din) block) l ≡ line_over din block t l
+    left din l = ap (line (count_by (change_in l.level din block t) l.still)) (last-at (bit_of din) l.level block 63 h)
 
 -- ---- the questions of a block
 
@@ -98,109 +93,113 @@ quiet (suc k) (x ∷ xs) t w h l d e =
     (quiet_next (eqb w.din.level (data_bit x)) w.limit t w.din.still k (omega (arith, l)) d)
     (quiet_next (eqb w.loadi.level (load_bit x)) w.limit t w.loadi.still k (omega (arith, l)) e)
 
-length-block : (ss : List ℕ) (from : ℕ) → from + 64 ≤ length ss → length (block_of ss from) ≡ 64
-length-block ss from h = simp (length-take, length-drop) (omega (arith, h))
+not-true : (b : Bool) → not b ≡ true → b ≡ false
+not-true true h = cc
+not-true false h = refl
 
-pub block-calm : (ss : List ℕ) (from : ℕ) (before : Listened) → from + 64 ≤ length ss → length ss < 2 ^ 64 → before.expired ≡ false
-    → may_expire from before.watch ≡ false → told (watch_over ss from before.watch) false ≡ heard_on before from (block_of ss from)
-block-calm ss from before h l e m =
-    let both = or-none (comes_to before.watch.limit (run_on from before.watch.din.still) 63) _ m in
-    sym (told-both (block-watch ss from before.watch h)
-    (rw e (quiet 63 (block_of ss from) from before.watch (omega (arith, length-block ss from h)) (omega (arith, h, l, length-block ss from h)) both.0 both.1)))
+not-false : (b : Bool) → not b ≡ false → b ≡ true
+not-false true h = refl
+not-false false h = cc
 
-pub block-expired : (ss : List ℕ) (from : ℕ) (before : Listened) → from + 64 ≤ length ss → before.expired ≡ true
-    → told (watch_over ss from before.watch) true ≡ heard_on before from (block_of ss from)
-block-expired ss from before h e = sym (told-both (block-watch ss from before.watch h) (rw e))
+pub block-calm : (block : List ℕ) (t : ℕ) (before : Listened) → length block ≡ 64 → t + 64 < 2 ^ 64 → not before.expired ≡ true
+    → may_expire t before.watch ≡ false → told (watch_over block t before.watch) before.expired ≡ heard_on before t block
+block-calm block t before h l e m =
+    let both = or-none (comes_to before.watch.limit (run_on t before.watch.din.still) 63) _ m in
+    sym (told-both (block-watch block t before.watch h)
+    (rw (not-true before.expired e) (quiet 63 block t before.watch (omega (arith, h)) (omega (arith, h, l)) both.0 both.1)))
+
+pub block-expired : (block : List ℕ) (t : ℕ) (before : Listened) → length block ≡ 64 → not before.expired ≡ false
+    → told (watch_over block t before.watch) before.expired ≡ heard_on before t block
+block-expired block t before h e = sym (told-both (block-watch block t before.watch h) (rw (not-false before.expired e)))
 
 -- ---- block after block
 
-pub heard-none : (xs : List ℕ) (t : ℕ) (before : Listened) → xs ≡ [] → before ≡ heard_on before t xs
+pub heard-none : (t : ℕ) (before : Listened) → heard_on before t [] ≡ before
 unfolding listened
-heard-none xs t before e = rw e (ap (told before.watch) (or-false before.expired))
+heard-none t before = ap (told before.watch) (sym (or-false before.expired))
 
-pub heard-block : (ss : List ℕ) (i to : ℕ) (before : Listened) → i + 64 ≤ to → i + 64 ≤ length ss
-    → heard_on before i (take (to - i) (drop i ss)) ≡ heard_on (heard_on before i (block_of ss i)) (i + 64) (take (to - (i + 64)) (drop (i + 64) ss))
-heard-block ss i to before h l =
-    ap (heard_on before i) parts
-    ∙ ap (since before.expired) (listened-append true i (block_of ss i) (take (to - (i + 64)) (drop (i + 64) ss)) before.watch)
-    ∙ ap (λ (n : ℕ). since before.expired (since f.expired (g (i + n)))) (length-block ss i l)
-    ∙ ap (told (g (i + 64)).watch) (sym (or_assoc before.expired f.expired (g (i + 64)).expired))
+pub heard-append : (xs ys : List ℕ) (t : ℕ) (before : Listened) → heard_on before t (xs ++ ys) ≡ heard_on (heard_on before t xs) (t + length xs) ys
+heard-append xs ys t before =
+    ap (since before.expired) (listened-append true t xs ys before.watch)
+    ∙ ap (told g.watch) (sym (or_assoc before.expired f.expired g.expired))
   where
-    count : to - i ≡ 64 + (to - (i + 64))
-    count = omega (arith, h)
-
-    parts : take (to - i) (drop i ss) ≡ block_of ss i ++ take (to - (i + 64)) (drop (i + 64) ss)
-    parts =
-        ap (λ (n : ℕ). take n (drop i ss)) count
-        ∙ take-add 64 (to - (i + 64)) (drop i ss)
-        ∙ ap (λ (ys : List ℕ). block_of ss i ++ take (to - (i + 64)) ys) (drop-drop 64 i ss)
-
     f : Listened
-    f = listened true i (block_of ss i) before.watch
+    f = listened true t xs before.watch
 
-    g : ℕ → Listened
-    g n = listened true n (take (to - (i + 64)) (drop (i + 64) ss)) f.watch
+    g : Listened
+    g = listened true (t + length xs) ys f.watch
+
+-- the first states, and those behind them
+pub heard-step : (xs ys zs : List ℕ) (n t : ℕ) (before after : Listened) → n ≤ length xs → ys ≡ take n xs → zs ≡ drop n xs → after ≡ heard_on before t ys
+    → heard_on before t xs ≡ heard_on after (t + n) zs
+heard-step xs ys zs n t before after h p q r =
+    ap (heard_on before t) (sym (take-append-drop n xs))
+    ∙ heard-append (take n xs) (drop n xs) t before
+    ∙ ap (λ (k : ℕ). heard_on (heard_on before t (take n xs)) (t + k) (drop n xs)) (simp length-take (omega (arith, h)))
+    ∙ ap (λ (v : Listened). heard_on v (t + n) (drop n xs)) (ap (heard_on before t) (sym p) ∙ sym r)
+    ∙ ap (heard_on after (t + n)) (sym q)
+
+-- one state more
+pub heard-more : (xs : List ℕ) (i t : ℕ) (before : Listened) (w : Watch) (expired : Bool) → i < length xs → heard_on before t (take i xs) ≡ told w expired
+    → heard_on before t (take (i + 1) xs) ≡ told (watch_in true true (t + i + 1) (get_or xs i 0 ∷ []) w) (expired || expired_by true (t + i) w)
+heard-more xs i t before w expired h e =
+    ap (heard_on before t) (rw add-one (take-suc xs i 0 h))
+    ∙ heard-append (take i xs) (get_or xs i 0 ∷ []) t before
+    ∙ ap (λ (n : ℕ). heard_on (heard_on before t (take i xs)) (t + n) (get_or xs i 0 ∷ [])) (simp length-take (omega (arith, h)))
+    ∙ ap (λ (v : Listened). heard_on v (t + i) (get_or xs i 0 ∷ [])) e
+    ∙ ap (since expired) (listened-one true (t + i) (get_or xs i 0) w)
 
 -- ---- a line's last change in a block
 
+-- a line that stays at its level does not change
+pub still-all : (f : ℕ → ℕ) (level : ℕ) (xs : List ℕ) (t : ℕ) → ((k : ℕ) → k < length xs → f (get_or xs k 0) ≡ level) → last_change level (map f xs) t ≡ 0
+unfolding last_change
+still-all f level [] t h = refl
+still-all f level (x ∷ xs) t h =
+    let first : f x ≡ level = h 0 (omega arith) in
+    let rest : last_change level (map f xs) (t + 1) ≡ 0 = still-all f level xs (t + 1) (λ k l. h (suc k) (omega (arith, l))) in
+    rw (first, rest, eq-eqb level level refl)
+
 -- of the first states of it
 abbrev pub change_of : ℕ → Bool → List ℕ → ℕ → ℕ → ℕ
-change_of level din ss from n = last_change level (map (bit_of din) (take n (drop from ss))) from
+change_of level din block t n = last_change level (map (bit_of din) (take n block)) t
 
-one_more : (f : ℕ → ℕ) (ss : List ℕ) (from j : ℕ) → from + j < length ss
-    → map f (take (suc j) (drop from ss)) ≡ map f (take j (drop from ss)) ++ f (get_or ss (from + j) 0) ∷ []
-one_more f ss from j h =
-    ap (map f) (take-suc (drop from ss) j 0 (simp length-drop (omega (arith, h))) ∙ ap (λ (s : ℕ). take j (drop from ss) ++ s ∷ []) (get_or-drop from ss j 0))
-    ∙ map-append f (take j (drop from ss)) (get_or ss (from + j) 0 ∷ [])
+-- of all of them
+pub change-whole : (level : ℕ) (din : Bool) (block : List ℕ) (t n : ℕ) → length block ≤ n → change_in level din block t ≡ change_of level din block t n
+change-whole level din block t n h = ap (λ (xs : List ℕ). last_change level (map (bit_of din) xs) t) (sym (take_all n block h))
 
-change-next : (level : ℕ) (din : Bool) (ss : List ℕ) (from j : ℕ) → from + j < length ss
-    → change_of level din ss from (suc j)
-    ≡ cond (eqb (last_of level (map (bit_of din) (take j (drop from ss)))) (bit_of din (get_or ss (from + j) 0))) (change_of level din ss from j) (from + j + 1)
-change-next level din ss from j h =
-    ap (λ (bs : List ℕ). last_change level bs from) (one_more (bit_of din) ss from j h)
-    ∙ last-change-append level (map (bit_of din) (take j (drop from ss))) (bit_of din (get_or ss (from + j) 0)) from
-    ∙ ap (λ (n : ℕ). cond (eqb (last_of level (map (bit_of din) (take j (drop from ss)))) (bit_of din (get_or ss (from + j) 0))) (change_of level din ss from j) (from + n + 1)) count
+one_more : (f : ℕ → ℕ) (block : List ℕ) (j : ℕ) → j < length block → map f (take (suc j) block) ≡ map f (take j block) ++ f (get_or block j 0) ∷ []
+one_more f block j h = ap (map f) (take-suc block j 0 h) ∙ map-append f (take j block) (get_or block j 0 ∷ [])
+
+change-next : (level : ℕ) (din : Bool) (block : List ℕ) (t j : ℕ) → j < length block
+    → change_of level din block t (suc j)
+    ≡ cond (eqb (last_of level (map (bit_of din) (take j block))) (bit_of din (get_or block j 0))) (change_of level din block t j) (t + j + 1)
+change-next level din block t j h =
+    ap (λ (bs : List ℕ). last_change level bs t) (one_more (bit_of din) block j h)
+    ∙ last-change-append level (map (bit_of din) (take j block)) (bit_of din (get_or block j 0)) t
+    ∙ ap (λ (n : ℕ). cond (eqb (last_of level (map (bit_of din) (take j block))) (bit_of din (get_or block j 0))) (change_of level din block t j) (t + n + 1)) count
   where
-    count : length (map (bit_of din) (take j (drop from ss))) ≡ j
-    count = simp (length-map, length-take, length-drop) (omega (arith, h))
+    count : length (map (bit_of din) (take j block)) ≡ j
+    count = simp (length-map, length-take) (omega (arith, h))
 
--- it stood at its level over the first states of the block
-abbrev pub Stood : ℕ → Bool → List ℕ → ℕ → ℕ → Type 0
-Stood level din ss from n = (last_of level (map (bit_of din) (take n (drop from ss))) ≡ level) × (change_of level din ss from n ≡ 0)
+last-before : (level : ℕ) (din : Bool) (block : List ℕ) (j : ℕ) → 0 < j → j < length block
+    → last_of level (map (bit_of din) (take j block)) ≡ bit_of din (get_or block (j - 1) 0)
+last-before level din block j p h =
+    last-at (bit_of din) level (take j block) (j - 1) (simp length-take (omega (arith, p, h))) ∙ ap (bit_of din) (get_or-take j block (j - 1) 0 (omega (arith, p)))
 
-pub stood-none : (level : ℕ) (din : Bool) (ss : List ℕ) (from : ℕ) → Stood level din ss from 0
+pub change-back : (level : ℕ) (din : Bool) (block : List ℕ) (t j : ℕ) → 0 < j → j < length block
+    → bit_of din (get_or block j 0) ≡ bit_of din (get_or block (j - 1) 0) → change_of level din block t (j + 1) ≡ change_of level din block t j
+change-back level din block t j p h e =
+    ap (change_of level din block t) (add-one j) ∙ change-next level din block t j h
+    ∙ ap (λ (z : Bool). cond z (change_of level din block t j) (t + j + 1)) (eq-eqb _ _ (last-before level din block j p h ∙ sym e))
+
+pub change-here : (level : ℕ) (din : Bool) (block : List ℕ) (t j : ℕ) → 0 < j → j < length block
+    → (bit_of din (get_or block j 0) ≡ bit_of din (get_or block (j - 1) 0) → ⊥) → change_of level din block t (j + 1) ≡ t + j + 1
+change-here level din block t j p h e =
+    ap (change_of level din block t) (add-one j) ∙ change-next level din block t j h
+    ∙ ap (λ (z : Bool). cond z (change_of level din block t j) (t + j + 1)) (ne_eqb _ _ (λ z. e (sym z ∙ last-before level din block j p h)))
+
+pub change-first : (level : ℕ) (din : Bool) (block : List ℕ) (t : ℕ) → 0 < length block
+    → change_of level din block t 1 ≡ cond (eqb level (bit_of din (get_or block 0 0))) 0 (t + 1)
 unfolding last_of last_change
-stood-none level din ss from = (refl, refl)
-
-pub stood-next : (level : ℕ) (din : Bool) (ss : List ℕ) (from j : ℕ) → from + j < length ss → bit_of din (get_or ss (from + j) 0) ≡ level
-    → Stood level din ss from j → Stood level din ss from (j + 1)
-stood-next level din ss from j h e s =
-    rw (add-one j) (
-      block_last (bit_of din) level ss from j (omega (arith, h)) ∙ e,
-      change-next level din ss from j h
-          ∙ ap (λ (t : Bool). cond t (change_of level din ss from j) (from + j + 1)) (eq-eqb _ _ (s.0 ∙ sym e))
-          ∙ s.1,
-    )
-
-last-before : (level : ℕ) (din : Bool) (ss : List ℕ) (from j : ℕ) → 0 < j → from + j < length ss
-    → last_of level (map (bit_of din) (take j (drop from ss))) ≡ bit_of din (get_or ss (from + (j - 1)) 0)
-last-before level din ss from j p h =
-    let e : j ≡ suc (j - 1) = omega (arith, p) in
-    ap (λ (n : ℕ). last_of level (map (bit_of din) (take n (drop from ss)))) e ∙ block_last (bit_of din) level ss from (j - 1) (omega (arith, p, h))
-
-pub change-back : (level : ℕ) (din : Bool) (ss : List ℕ) (from j : ℕ) → 0 < j → from + j < length ss
-    → bit_of din (get_or ss (from + j) 0) ≡ bit_of din (get_or ss (from + (j - 1)) 0) → change_of level din ss from (j + 1) ≡ change_of level din ss from j
-change-back level din ss from j p h e =
-    ap (change_of level din ss from) (add-one j) ∙ change-next level din ss from j h
-    ∙ ap (λ (t : Bool). cond t (change_of level din ss from j) (from + j + 1)) (eq-eqb _ _ (last-before level din ss from j p h ∙ sym e))
-
-pub change-here : (level : ℕ) (din : Bool) (ss : List ℕ) (from j : ℕ) → 0 < j → from + j < length ss
-    → (bit_of din (get_or ss (from + j) 0) ≡ bit_of din (get_or ss (from + (j - 1)) 0) → ⊥) → change_of level din ss from (j + 1) ≡ from + j + 1
-change-here level din ss from j p h e =
-    ap (change_of level din ss from) (add-one j) ∙ change-next level din ss from j h
-    ∙ ap (λ (t : Bool). cond t (change_of level din ss from j) (from + j + 1)) (ne_eqb _ _ (λ z. e (sym z ∙ last-before level din ss from j p h)))
-
-pub change-first : (level : ℕ) (din : Bool) (ss : List ℕ) (from : ℕ) → from < length ss
-    → change_of level din ss from 1 ≡ cond (eqb level (bit_of din (get_or ss from 0))) 0 (from + 1)
-unfolding last_of last_change
-change-first level din ss from h = rw (add-zero from) at (change-next level din ss from 0 (omega (arith, h)))
+change-first level din block t h = rw (add-zero t) at (change-next level din block t 0 h)

@@ -9,6 +9,8 @@ use borrow.Author.Tests.{lt-leb, eqb-false}
 use Rattle.tables.proofs.Booleans.{cond_both}
 use Rattle.watch.specs.Watch.{data_bit, last_of}
 use Rattle.watch.specs.Ear.{next_change, or_else, last_change, last_long, level_at, levels_in, next_in, last_in}
+use Rattle.std.specs.List.{slice_range}
+use Rattle.std.proofs.lemmas.List.{take-take, drop-take}
 use Rattle.watch.proofs.Clocks.{part-next, part_end, part-nothing, part-last}
 
 -- ---- the next change, by levels
@@ -260,9 +262,6 @@ next-change-is (suc k) ss q end h l n =
 
 -- ---- the last change, by places
 
-pub last-change-end : (ss : List ℕ) (q end : ℕ) → last_in ss q end ≡ last_in ss q (min end (length ss))
-last-change-end ss q end = ap (λ (bs : List ℕ). last_change (level_at ss q) bs q) (levels-end ss q end)
-
 pub last-change-none : (ss : List ℕ) (q end : ℕ) → end ≤ q → last_in ss q end ≡ 0
 unfolding last_change
 last-change-none ss q end h = ap (λ (bs : List ℕ). last_change (level_at ss q) bs q) (levels-none ss q end h)
@@ -331,3 +330,40 @@ long-last limit ss q c end h m l n =
   where
     at : q + length (levels_in ss q c) ≡ c
     at = length_to ss q c h (omega (arith, m, l))
+
+-- ---- a block in which the data line does not change, at the front of a part, and at its end
+
+pub still-first : (ss : List ℕ) (q end : ℕ) (block : List ℕ) → q + 64 ≤ end → block ≡ take 64 (slice_range ss q end)
+    → last_change (level_at ss q) (map data_bit block) q ≡ 0 → last_in ss q (q + 64) ≡ 0
+still-first ss q end block h e n =
+    let count : q + 64 - q ≡ 64 = omega arith in
+    let same : take (q + 64 - q) (drop q ss) ≡ block = rw count (sym (take-take 64 (end - q) (drop q ss) (omega (arith, h))) ∙ sym e) in
+    ap (λ (xs : List ℕ). last_change (level_at ss q) (map data_bit xs) q) same ∙ n
+
+pub still-last : (ss : List ℕ) (q end : ℕ) (block : List ℕ) → q + 64 ≤ end → end ≤ length ss
+    → block ≡ drop (length (slice_range ss q end) - 64) (slice_range ss q end)
+    → last_change (level_at ss (end - 64)) (map data_bit block) (end - 64) ≡ 0 → last_in ss (end - 64) end ≡ 0
+still-last ss q end block h l e n =
+    ap (λ (xs : List ℕ). last_change (level_at ss (end - 64)) (map data_bit xs) (end - 64)) same ∙ n
+  where
+    k : ℕ
+    k = end - 64 - q
+
+    long : length (slice_range ss q end) ≡ k + 64
+    long = simp (length-take, length-drop) (omega (arith, h, l))
+
+    to : q + k ≡ end - 64
+    to = omega (arith, h)
+
+    same : take (end - (end - 64)) (drop (end - 64) ss) ≡ block
+    same =
+        let count : end - (end - 64) ≡ 64 = omega (arith, h) in
+        let whole : k + 64 ≡ end - q = omega (arith, h) in
+        let before : k ≡ length (slice_range ss q end) - 64 = omega (arith, long) in
+        ap (λ (n : ℕ). take n (drop (end - 64) ss)) count
+        ∙ ap (λ (n : ℕ). take 64 (drop n ss)) (sym to)
+        ∙ ap (take 64) (sym (drop-drop k q ss))
+        ∙ sym (drop-take k 64 (drop q ss))
+        ∙ ap (λ (n : ℕ). drop k (take n (drop q ss))) whole
+        ∙ ap (λ (n : ℕ). drop n (slice_range ss q end)) before
+        ∙ sym e

@@ -212,17 +212,24 @@ unfolding listened last_of
 listened-off t u [] w = refl
 listened-off t u (s ∷ ss) w = rw (listened-off (t + 1) u ss (watch_in false false (t + 1) (s ∷ []) w), and-false)
 
-last-map : (f : ℕ → ℕ) (level : ℕ) (xs : List ℕ) (s : ℕ) → last_of level (map f (xs ++ s ∷ [])) ≡ f s
+pub last-at : (f : ℕ → ℕ) (level : ℕ) (ss : List ℕ) (k : ℕ) → length ss ≡ suc k → last_of level (map f ss) ≡ f (get_or ss k 0)
 unfolding last_of
-last-map f level [] s = refl
-last-map f level (x ∷ xs) s = last-map f (f x) xs s
+last-at f level [] k e = omega (arith, e)
+last-at f level (s ∷ []) zero e = refl
+last-at f level (s ∷ []) (suc k) e = omega (arith, e)
+last-at f level (s ∷ x ∷ ss) zero e = omega (arith, e)
+last-at f level (s ∷ x ∷ ss) (suc k) e = last-at f (f s) (x ∷ ss) k (omega (arith, e))
 
-pub listened-off-last : (t u : ℕ) (xs : List ℕ) (s : ℕ) (w : Watch) → listened false t (xs ++ s ∷ []) w ≡ told (watch_in false false u (s ∷ []) w) false
+-- so that only the last state tells
+pub listened-off-end : (t : ℕ) (xs : List ℕ) (s : ℕ) (w : Watch) → 0 < length xs → s ≡ get_or xs (length xs - 1) 0
+    → listened false t xs w ≡ told (watch_in false false (t + length xs) (s ∷ []) w) false
 unfolding last_of
-listened-off-last t u xs s w =
-    listened-off t u (xs ++ s ∷ []) w
-    ∙ ap (λ (v : Watch). told v false)
-    (with-lines w (ap (line w.din.still) (last-map data_bit w.din.level xs s)) (ap (line w.loadi.still) (last-map load_bit w.loadi.level xs s)))
+listened-off-end t xs s w h e =
+    listened-off t (t + length xs) xs w
+    ∙ ap (λ (v : Watch). told v false) (with-lines w (ap (line w.din.still) (end data_bit w.din.level)) (ap (line w.loadi.still) (end load_bit w.loadi.level)))
+  where
+    end : (f : ℕ → ℕ) (level : ℕ) → last_of level (map f xs) ≡ f s
+    end f level = last-at f level xs (length xs - 1) (omega (arith, h)) ∙ ap f (sym e)
 
 -- ---- a part of the states
 
@@ -246,14 +253,6 @@ part-nothing ss i to h = go (leb to i) refl
     go true f = part_end ss i to (leb-true to i f)
     go false f = part-over ss i to (omega (arith, h, leb-false to i f))
 
-pub last-at : (f : ℕ → ℕ) (level : ℕ) (ss : List ℕ) (k : ℕ) → length ss ≡ suc k → last_of level (map f ss) ≡ f (get_or ss k 0)
-unfolding last_of
-last-at f level [] k e = omega (arith, e)
-last-at f level (s ∷ []) zero e = refl
-last-at f level (s ∷ []) (suc k) e = omega (arith, e)
-last-at f level (s ∷ x ∷ ss) zero e = omega (arith, e)
-last-at f level (s ∷ x ∷ ss) (suc k) e = last-at f (f s) (x ∷ ss) k (omega (arith, e))
-
 -- its last state is the last before `to`, or before the end
 pub part-last : (f : ℕ → ℕ) (level : ℕ) (ss : List ℕ) (from to : ℕ) → from < min to (length ss)
     → last_of level (map f (take (to - from) (drop from ss))) ≡ f (get_or ss (min to (length ss) - 1) 0)
@@ -263,27 +262,3 @@ part-last f level ss from to h =
   where
     k : ℕ
     k = min to (length ss) - 1 - from
-
-pub part_off : (ss : List ℕ) (from to : ℕ) (w : Watch) → from < min to (length ss)
-    → listened false from (take (to - from) (drop from ss)) w
-    ≡ told (watch_in false false (min to (length ss)) (get_or ss (min to (length ss) - 1) 0 ∷ []) w) false
-unfolding last_of
-part_off ss from to w h =
-    listened-off from (min to (length ss)) (take (to - from) (drop from ss)) w
-    ∙ ap (λ (v : Watch). told v false)
-    (with-lines w (ap (line w.din.still) (part-last data_bit w.din.level ss from to h)) (ap (line w.loadi.still) (part-last load_bit w.loadi.level ss from to h)))
-
--- a part clock by clock
-pub part-more : (on : Bool) (ss : List ℕ) (i to : ℕ) (w : Watch) (before : Bool) → i < to → i < length ss
-    → since before (listened on i (take (to - i) (drop i ss)) w)
-    ≡ since (before || expired_by on i w) (listened on (i + 1) (take (to - (i + 1)) (drop (i + 1) ss)) (watch_in on on (i + 1) (get_or ss i 0 ∷ []) w))
-unfolding listened
-part-more on ss i to w before h l =
-    ap (λ (xs : List ℕ). since before (listened on i xs w)) (part-next ss i to h l) ∙ ap (told r.watch) (sym (or_assoc before (expired_by on i w) r.expired))
-  where
-    r : Listened
-    r = listened on (i + 1) (take (to - (i + 1)) (drop (i + 1) ss)) (watch_in on on (i + 1) (get_or ss i 0 ∷ []) w)
-
-pub part_none : (on : Bool) (xs : List ℕ) (i : ℕ) (w : Watch) (before : Bool) → xs ≡ [] → told w before ≡ since before (listened on i xs w)
-unfolding listened
-part_none on xs i w before e = rw e (ap (told w) (or-false before))

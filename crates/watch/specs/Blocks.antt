@@ -1,6 +1,6 @@
 -- Inside: a watchdog over a block of 64 states, one in each clock, the bit being set: what the block leaves of its lines, and whether a count may
 -- come to the limit in it. That this is what it hears clock by clock is in proofs/ByBlock.
-use Rattle.std.specs.Prelude.{ℕ, ◌+◌, Bool, true, false, cond, ◌||◌, List, map, take, drop, ◌==◌, slice_index}
+use Rattle.std.specs.Prelude.{ℕ, Bool, true, false, cond, ◌||◌, List, map, ◌==◌, slice_index}
 use Rattle.watch.specs.declared.watch.Line.{Line}
 use Rattle.watch.specs.declared.watch.Watch.{Watch}
 use Rattle.watch.specs.declared.kept.Listened.{Listened}
@@ -12,13 +12,9 @@ use Rattle.watch.specs.Ear.{last_change, comes_to}
 abbrev pub bit_of : Bool → ℕ → ℕ
 bit_of din s = cond din (data_bit s) (load_bit s)
 
--- the block from a place on
-abbrev pub block_of : List ℕ → ℕ → List ℕ
-block_of ss from = take 64 (drop from ss)
-
--- the clock of the last change of a line that stood at a level, 0 where there is none
+-- the clock of the last change of a line that stood at a level, t clocks being over before the block, 0 where there is none
 abbrev pub change_in : ℕ → Bool → List ℕ → ℕ → ℕ
-change_in level din ss from = last_change level (map (bit_of din) (block_of ss from)) from
+change_in level din block t = last_change level (map (bit_of din) block) t
 
 -- a count, by that clock
 abbrev pub count_by : ℕ → ℕ → ℕ
@@ -26,11 +22,11 @@ count_by c n = cond (c == 0) n (kept_from c 0)
 
 -- what the block leaves of a line
 abbrev pub line_over : Bool → List ℕ → ℕ → Line → Line
-line_over din ss from l = line (count_by (change_in l.level din ss from) l.still) (bit_of din (slice_index ss (from + 63)))
+line_over din block t l = line (count_by (change_in l.level din block t) l.still) (bit_of din (slice_index block 63))
 
 -- of a watchdog
 abbrev pub watch_over : List ℕ → ℕ → Watch → Watch
-watch_over ss from w = with_lines w (line_over true ss from w.din) (line_over false ss from w.loadi)
+watch_over block t w = with_lines w (line_over true block t w.din) (line_over false block t w.loadi)
 
 -- t clocks being over, a count that goes on may be at the limit at a question of the block: the last is asked 63 clocks later
 abbrev pub may_expire : ℕ → Watch → Bool

@@ -1,108 +1,95 @@
 // One state in each clock while the bit is set, by blocks of 64 states. In a block in which no count can come to the limit, or behind an expiry,
 // only what the block leaves of the lines is needed: it goes clock by clock only where an expiry may be in it.
-ghost use Rattle.std.specs.Prelude.{◌≡◌, ◌+◌, ◌-◌, ◌≤◌, true, ◌||◌, length, take, drop};
+ghost use Rattle.std.specs.Prelude.{◌≡◌, ℕ, ◌+◌, ◌≤◌, ◌<◌, ◌^◌, true, ◌||◌, length};
 ghost use Rattle.watch.specs.Kept.{expired_by, listened};
-ghost use Rattle.watch.specs.Blocks.{bit_of, block_of, change_in, count_by, line_over, watch_over, may_expire, heard_on};
+ghost use Rattle.watch.specs.Blocks.{bit_of, change_in, count_by, line_over, watch_over, may_expire, heard_on};
 
 use crate::kept::Listened;
 use crate::watch::{Line, Watch};
 
-// One state in each clock, from a place up to another, while the bit is set.
-pub fn listen_on(watch: Watch, states: &[u8], from: usize, to: usize) -> Listened
-    ensures { result ≡ listened true from (take (to - from) (drop from states.now)) watch }
+// One state in each clock while the bit is set, so many clocks being over.
+pub fn listen_on(watch: Watch, states: &[u8], clock: usize) -> Listened
+    requires { clock + length states.now < 2 ^ 64 }
+    ensures { result ≡ listened true clock states.now watch }
 {
-    let end = crate::kept::lesser(to, states.len());
     let mut heard = Listened {
         watch,
         expired: false,
     };
-    let mut i = from;
-    while i < end {
-        if end - i < 64 {
-            return listen_each(heard, states, i, to);
-        }
-        heard = listen_block(heard, states, i);
-        i += 64;
+    let mut over = clock;
+    let mut rest = states;
+    while let Some((block, behind)) = rest.split_first_chunk::<64>() {
+        heard = listen_block(heard, block, over);
+        over += 64;
+        rest = behind;
     }
-    heard
+    listen_each(heard, rest, over)
 }
 
 // One block more.
-fn listen_block(before: Listened, states: &[u8], from: usize) -> Listened
-    requires { from + 64 ≤ length states.now }
-    ensures { result ≡ heard_on before from (block_of states.now from) }
+fn listen_block(before: Listened, block: &[u8; 64], clock: usize) -> Listened
+    requires { clock + 64 < 2 ^ 64 }
+    ensures { result ≡ heard_on before clock block.now }
 {
-    if before.expired {
-        return Listened {
-            watch: watch_over(before.watch, states, from),
-            expired: true,
-        };
-    }
-    if may_expire(before.watch, from) {
-        return listen_each(before, states, from, from + 64);
+    if !before.expired && may_expire(before.watch, clock) {
+        return listen_each(before, block, clock);
     }
     Listened {
-        watch: watch_over(before.watch, states, from),
-        expired: false,
+        watch: watch_over(before.watch, block, clock),
+        ..before
     }
 }
 
 // Clock by clock.
-fn listen_each(before: Listened, states: &[u8], from: usize, to: usize) -> Listened
-    ensures { result ≡ heard_on before from (take (to - from) (drop from states.now)) }
+fn listen_each(before: Listened, states: &[u8], clock: usize) -> Listened
+    requires { clock + length states.now < 2 ^ 64 }
+    ensures { result ≡ heard_on before clock states.now }
 {
-    let mut w = before.watch;
+    let mut watch = before.watch;
     let mut expired = before.expired;
-    let mut i = from;
-    while i < to && i < states.len() {
-        expired = expired_or(expired, w, i);
-        w = crate::kept::hear(w, true, true, i + 1, states[i]);
-        i += 1;
+    for (i, state) in states.iter().enumerate() {
+        expired = expired_or(expired, watch, clock + i);
+        watch = crate::kept::hear(watch, true, true, clock + i + 1, *state);
     }
-    Listened { watch: w, expired }
+    Listened { watch, expired }
 }
 
 // It expired before, or has expired by a clock.
 fn expired_or(before: bool, watch: Watch, clock: usize) -> bool
     ensures { result ≡ (before || expired_by true clock watch) }
 {
-    if before {
-        return true;
-    }
-    crate::kept::has_expired(watch, true, clock)
+    before || crate::kept::has_expired(watch, true, clock)
 }
 
 // A count may come to the limit within a block.
 fn may_expire(watch: Watch, clock: usize) -> bool
     ensures { result ≡ may_expire clock watch }
 {
-    let limit = watch.limit as u64;
-    let data = crate::ear::comes_to(limit, crate::kept::run_on(watch.din.still, clock), 63);
-    let load = crate::ear::comes_to(limit, crate::kept::run_on(watch.loadi.still, clock), 63);
-    data || load
+    let limit = u64::from(watch.limit);
+    crate::ear::comes_to(limit, crate::kept::run_on(watch.din.still, clock), 63)
+        || crate::ear::comes_to(limit, crate::kept::run_on(watch.loadi.still, clock), 63)
 }
 
 // What a block leaves of the watchdog's lines.
-fn watch_over(watch: Watch, states: &[u8], from: usize) -> Watch
-    requires { from + 64 ≤ length states.now }
-    ensures { result ≡ watch_over states.now from watch }
+fn watch_over(watch: Watch, block: &[u8; 64], clock: usize) -> Watch
+    requires { clock + 64 < 2 ^ 64 }
+    ensures { result ≡ watch_over block.now clock watch }
 {
     Watch {
-        din: line_over(watch.din, true, states, from),
-        loadi: line_over(watch.loadi, false, states, from),
-        limit: watch.limit,
-        bit: watch.bit,
+        din: line_over(watch.din, true, block, clock),
+        loadi: line_over(watch.loadi, false, block, clock),
+        ..watch
     }
 }
 
 // What a block leaves of a line.
-fn line_over(line: Line, din: bool, states: &[u8], from: usize) -> Line
-    requires { from + 64 ≤ length states.now }
-    ensures { result ≡ line_over din states.now from line }
+fn line_over(line: Line, din: bool, block: &[u8; 64], clock: usize) -> Line
+    requires { clock + 64 < 2 ^ 64 }
+    ensures { result ≡ line_over din block.now clock line }
 {
     Line {
-        still: count_by(change_in(line.level, din, states, from), line.still),
-        level: level_of(din, states[from + 63]),
+        still: count_by(change_in(line.level, din, block, clock), line.still),
+        level: level_of(din, block[63]),
     }
 }
 
@@ -111,54 +98,52 @@ fn count_by(changed: usize, still: u64) -> u64
     ensures { result ≡ count_by changed still }
 {
     if changed == 0 {
-        return still;
+        still
+    } else {
+        crate::kept::keep_from(0, changed)
     }
-    crate::kept::keep_from(0, changed)
 }
 
 // The clock of a line's last change in a block, or 0.
-fn change_in(level: u8, din: bool, states: &[u8], from: usize) -> usize
-    requires { from + 64 ≤ length states.now }
-    ensures { result ≡ change_in level din states.now from }
+fn change_in(level: u8, din: bool, block: &[u8; 64], clock: usize) -> usize
+    requires { clock + 64 < 2 ^ 64 }
+    ensures { result ≡ change_in level din block.now clock }
 {
-    if stays(level, din, states, from) {
-        return 0;
+    if stays(level, din, block) {
+        0
+    } else {
+        last_change(level, din, block, clock)
     }
-    last_change(level, din, states, from)
 }
 
 // Whether a line stays at its level over a block. No early end, so that the loop is vectorised.
-pub fn stays(level: u8, din: bool, states: &[u8], from: usize) -> bool
-    requires { from + 64 ≤ length states.now }
-    ensures { result ≡ true → change_in level din states.now from ≡ 0 }
+pub fn stays(level: u8, din: bool, block: &[u8; 64]) -> bool
+    ensures { result ≡ true → (t : ℕ) → change_in level din block.now t ≡ 0 }
 {
     let mut other: u8 = 0;
-    let mut j: usize = 0;
-    while j < 64 {
-        if level_of(din, states[from + j]) != level {
+    for state in block {
+        if level_of(din, *state) != level {
             other = 1;
         }
-        j += 1;
     }
     other == 0
 }
 
 // The last change is looked for from the end of the block back.
-fn last_change(level: u8, din: bool, states: &[u8], from: usize) -> usize
-    requires { from + 64 ≤ length states.now }
-    ensures { result ≡ change_in level din states.now from }
+fn last_change(level: u8, din: bool, block: &[u8; 64], clock: usize) -> usize
+    requires { clock + 64 < 2 ^ 64 }
+    ensures { result ≡ change_in level din block.now clock }
 {
-    let mut j: usize = 63;
-    while j > 0 {
-        if level_of(din, states[from + j]) != level_of(din, states[from + (j - 1)]) {
-            return from + j + 1;
+    for i in (1..64).rev() {
+        if level_of(din, block[i]) != level_of(din, block[i - 1]) {
+            return clock + i + 1;
         }
-        j -= 1;
     }
-    if level_of(din, states[from]) != level {
-        return from + 1;
+    if level_of(din, block[0]) != level {
+        clock + 1
+    } else {
+        0
     }
-    0
 }
 
 // The level of the data line or of the load line in a state.

@@ -45,6 +45,7 @@ pub fn no_ear() -> Ear
 }
 
 // A watchdog that was not in step with the line hears the state at a place, and then follows.
+#[tactic(auto, unfolding(crate::specs::Ear::joined))]
 pub fn join(watch: Watch, on: bool, ear: Ear, states: &[u8], at: usize, end: usize) -> Followed
     ensures { result ≡ joined on ear states.now at end watch }
 {
@@ -70,19 +71,22 @@ pub fn join(watch: Watch, on: bool, ear: Ear, states: &[u8], at: usize, end: usi
 }
 
 // A watchdog in step with the line, so many clocks being over, hears the states up to the end of a stretch.
+#[tactic(auto, unfolding(crate::specs::Ear::followed))]
 pub fn follow(watch: Watch, on: bool, ear: Ear, states: &[u8], clock: usize, end: usize) -> Followed
     ensures { result ≡ followed on ear states.now clock end watch }
 {
     if on {
-        return follow_on(watch, ear, states, clock, end);
-    }
-    Followed {
-        heard: crate::kept::listen(watch, false, states, clock, end),
-        ear,
+        follow_on(watch, ear, states, clock, end)
+    } else {
+        Followed {
+            heard: crate::kept::listen(watch, false, states, clock, end),
+            ear,
+        }
     }
 }
 
 // While the bit is set it goes by the ear.
+#[tactic(auto, unfolding(crate::specs::Ear::followed))]
 fn follow_on(watch: Watch, ear: Ear, states: &[u8], clock: usize, end: usize) -> Followed
     ensures { result ≡ followed true ear states.now clock end watch }
 {
@@ -103,18 +107,15 @@ fn ear_on(ear: Ear, limit: u32, states: &[u8], at: usize, end: usize) -> Ear
             return ear;
         }
         return Ear {
-            limit: ear.limit,
-            end: ear.end,
-            level: ear.level,
             next: next_change(states, at, end),
-            changed: ear.changed,
-            long: ear.long,
+            ..ear
         };
     }
     ear_from(limit, states, at, end)
 }
 
 // The states of a stretch are looked at.
+#[tactic(auto, unfolding(crate::specs::Ear::ear_from))]
 fn ear_from(limit: u32, states: &[u8], at: usize, end: usize) -> Ear
     ensures { result ≡ ear_from limit states.now at end }
 {
@@ -124,11 +125,12 @@ fn ear_from(limit: u32, states: &[u8], at: usize, end: usize) -> Ear
         level: level_before(states, end),
         next: next_change(states, at, end),
         changed: last_change(states, at, end),
-        long: last_long(limit as usize, states, at, one_less(end)),
+        long: last_long(limit as usize, states, at, end.saturating_sub(1)),
     }
 }
 
 // The watchdog goes by the ear.
+#[tactic(auto, unfolding(crate::specs::Ear::heard_by))]
 fn hear_by(watch: Watch, ear: Ear, clock: usize) -> Listened
     ensures { result ≡ heard_by ear clock watch }
 {
@@ -138,17 +140,17 @@ fn hear_by(watch: Watch, ear: Ear, clock: usize) -> Listened
             expired: false,
         };
     }
-    let limit = watch.limit as u64;
+    let limit = u64::from(watch.limit);
     let last = ear.end - 1;
     let load = comes_to(
         limit,
         crate::kept::run_on(watch.loadi.still, clock),
-        less(last, clock),
+        last.saturating_sub(clock),
     );
     let data = comes_to(
         limit,
         crate::kept::run_on(watch.din.still, clock),
-        less(crate::kept::lesser(ear.next, last), clock),
+        ear.next.min(last).saturating_sub(clock),
     );
     Listened {
         watch: Watch {
@@ -156,11 +158,9 @@ fn hear_by(watch: Watch, ear: Ear, clock: usize) -> Listened
                 still: still_by(watch.din.still, ear.changed, clock),
                 level: ear.level,
             },
-            loadi: watch.loadi,
-            limit: watch.limit,
-            bit: watch.bit,
+            ..watch
         },
-        expired: load || (data || clock < ear.long),
+        expired: load || data || clock < ear.long,
     }
 }
 
@@ -169,19 +169,17 @@ fn still_by(still: u64, changed: usize, clock: usize) -> u64
     ensures { result ≡ (if nat_lt clock changed then kept_from changed 0 else still) }
 {
     if clock < changed {
-        return crate::kept::keep_from(0, changed);
+        crate::kept::keep_from(0, changed)
+    } else {
+        still
     }
-    still
 }
 
 // A count that goes on for some clocks comes to the limit.
 pub fn comes_to(limit: u64, count: u64, clocks: usize) -> bool
     ensures { result ≡ comes_to limit count clocks }
 {
-    if count >= limit {
-        return true;
-    }
-    (clocks as u64) >= limit - count
+    count.saturating_add(clocks as u64) >= limit
 }
 
 // The place of the next change, or the end.
@@ -190,30 +188,26 @@ fn next_change(states: &[u8], from: usize, to: usize) -> usize
 {
     let start = still_from(states, from, to);
     let level = level_before(states, start);
-    let mut i = start;
-    while i < to && i < states.len() {
+    let end = to.min(states.len());
+    for i in start..end {
         if states[i] % 2 != level {
             return i;
         }
-        i += 1;
     }
-    i
+    start.max(end)
 }
 
 // The place behind the blocks from a place on in which the data line does not change.
 fn still_from(states: &[u8], from: usize, to: usize) -> usize
     ensures { next_in states.now from to ≡ next_in states.now result to }
 {
-    let end = crate::kept::lesser(to, states.len());
+    let end = to.min(states.len());
     let mut i = from;
     while i < end {
-        if end - i < 64 {
-            return i;
+        match states[i..end].first_chunk::<64>() {
+            Some(block) if crate::blocks::stays(level_before(states, i), true, block) => i += 64,
+            _ => return i,
         }
-        if !still_block(states, i) {
-            return i;
-        }
-        i += 64;
     }
     i
 }
@@ -222,12 +216,11 @@ fn still_from(states: &[u8], from: usize, to: usize) -> usize
 fn last_change(states: &[u8], from: usize, to: usize) -> usize
     ensures { result ≡ last_change (level_at states.now from) (map data_bit (slice_range states.now from to)) from }
 {
-    let mut i = still_to(states, from, to);
-    while i > from {
-        if level_before(states, i) != level_before(states, i - 1) {
-            return i;
+    let end = still_to(states, from, to);
+    for i in (from..end).rev() {
+        if level_before(states, i + 1) != level_before(states, i) {
+            return i + 1;
         }
-        i -= 1;
     }
     0
 }
@@ -236,25 +229,15 @@ fn last_change(states: &[u8], from: usize, to: usize) -> usize
 fn still_to(states: &[u8], from: usize, to: usize) -> usize
     ensures { (last_in states.now from to ≡ last_in states.now from result) × (result ≤ length states.now) }
 {
-    let mut i = crate::kept::lesser(to, states.len());
+    let mut i = to.min(states.len());
     while i > from {
-        if i - from < 64 {
-            return i;
+        match states[from..i].last_chunk::<64>() {
+            Some(block) if crate::blocks::stays(level_before(states, i - 64), true, block) => i -=
+                64,
+            _ => return i,
         }
-        if !still_block(states, i - 64) {
-            return i;
-        }
-        i -= 64;
     }
     i
-}
-
-// Whether the data line stays at its level over a block.
-fn still_block(states: &[u8], from: usize) -> bool
-    requires { from + 64 ≤ length states.now }
-    ensures { result ≡ true → last_in states.now from (from + 64) ≡ 0 }
-{
-    crate::blocks::stays(level_before(states, from), true, states, from)
 }
 
 // The clock of the last change that is followed by a stillness as long as the limit, or 0. From the end back, a limit at a time: a change within the
@@ -262,7 +245,7 @@ fn still_block(states: &[u8], from: usize) -> bool
 fn last_long(limit: usize, states: &[u8], from: usize, to: usize) -> usize
     ensures { result ≡ last_long limit (level_at states.now from) (map data_bit (slice_range states.now from to)) from }
 {
-    let mut stop = crate::kept::lesser(to, states.len());
+    let mut stop = to.min(states.len());
     while stop > from {
         if stop - from <= limit {
             return 0;
@@ -280,24 +263,12 @@ fn last_long(limit: usize, states: &[u8], from: usize, to: usize) -> usize
 fn level_before(states: &[u8], at: usize) -> u8
     ensures { result ≡ level_at states.now at }
 {
-    state_at(states, one_less(at)) % 2
+    state_at(states, at.saturating_sub(1)) % 2
 }
 
 // The state at a place, or 0 where there is none.
 fn state_at(states: &[u8], at: usize) -> u8
     ensures { result ≡ slice_index states.now at }
 {
-    if at < states.len() { states[at] } else { 0 }
-}
-
-fn one_less(n: usize) -> usize
-    ensures { result ≡ n - 1 }
-{
-    if n == 0 { 0 } else { n - 1 }
-}
-
-fn less(a: usize, b: usize) -> usize
-    ensures { result ≡ a - b }
-{
-    if a < b { 0 } else { a - b }
+    states.get(at).copied().unwrap_or(0)
 }

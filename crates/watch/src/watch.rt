@@ -27,14 +27,14 @@ pub struct Watch {
 pub fn is_bit(bit: u8) -> bool
     ensures { result ≡ is_bit bit }
 {
-    1 <= bit && (bit <= 7 && bit != 4)
+    matches!(bit, 1..=3 | 5..=7)
 }
 
 // A limit that a watchdog may have.
 pub fn is_limit(limit: u32) -> bool
     ensures { result ≡ is_limit limit }
 {
-    1 <= limit && limit <= 2000000
+    (1..=2000000).contains(&limit)
 }
 
 fn line_fits(line: Line) -> bool
@@ -47,19 +47,14 @@ fn line_fits(line: Line) -> bool
 pub fn watch_fits(watch: Watch) -> bool
     ensures { result ≡ watch_fits watch }
 {
-    is_bit(watch.bit) && (is_limit(watch.limit) && (line_fits(watch.din) && line_fits(watch.loadi)))
+    is_bit(watch.bit) && is_limit(watch.limit) && line_fits(watch.din) && line_fits(watch.loadi)
 }
 
 // The configuration has the enabling bit.
 pub fn is_enabled(watch: Watch, configuration: u8) -> bool
     ensures { result ≡ enabled watch configuration }
 {
-    let bit = watch.bit;
-    if bit < 8 {
-        (configuration >> bit) % 2 == 1
-    } else {
-        false
-    }
+    watch.bit < 8 && (configuration >> watch.bit) % 2 == 1
 }
 
 // Told a bit and a limit: levels and counts 0.

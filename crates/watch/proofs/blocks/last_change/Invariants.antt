@@ -1,9 +1,10 @@
-use Rattle.std.proofs.Common.{◌≡◌, ◌+◌, ◌≤◌}
+use Rattle.std.proofs.Common.{◌≡◌, ◌≤◌}
+use Rattle.watch.specs.Blocks.{change_in}
 use Rattle.watch.proofs.ByBlock.{change_of}
 use Rattle.watch.proofs.blocks.last_change.Given as goal
 
-abbrev pub invariant-loop-j : goal.invariant-loop-j
-invariant-loop-j l = (l.j ≤ 63) × (change_of l.level l.din l.states l.from 64 ≡ change_of l.level l.din l.states l.from (l.j + 1))
-
-abbrev pub decreases-loop-j : goal.decreases-loop-j
-decreases-loop-j l = l.j
+abbrev pub invariant-loop-i : goal.invariant-loop-i
+invariant-loop-i l = record {
+  some : 1 ≤ l.i;
+  same : change_in l.level l.din l.block l.clock ≡ change_of l.level l.din l.block l.clock l.i;
+}

@@ -1,18 +1,11 @@
+use Rattle.std.proofs.Common.{sym, ◌∙◌}
 use Rattle.watch.proofs.ByBlock.{block-expired, block-calm}
-use Rattle.std.proofs.Common.{◌≡◌, ◌+◌, ◌-◌, sym, ◌∙◌, rules}
 use Rattle.watch.proofs.blocks.listen_block.Goals as goal
-
-pub returns-then-before : goal.returns-then-before
-returns-then-before c = let a = c.args in
-    rw c.watch_over.ensures (block-expired a.states.now a.from a.before (search rules) c.if-before.true)
-
-pub returns-then-may_expire : goal.returns-then-may_expire
-returns-then-may_expire c = let a = c.args in
-    let count : a.from + 64 - a.from ≡ 64 = search rules in
-    rw count at c.listen_each.ensures
+use Rattle.watch.proofs.blocks.listen_block.Goals.{else-not-before-via-then-not-before+else-may_expire, else-not-before-via-else-not-before}
 
 pub returns : goal.returns
-returns c = let m = c in
-    let a = m.args in
-    rw c.watch_over-2.ensures
-    (block-calm a.states.now a.from a.before (search rules) (search rules) m.if-before.false (sym m.may_expire.ensures ∙ c.if-may_expire.false))
+returns c = let a = c.args in
+    rw c.watch_over.ensures (elim c.else-not-before.branch [
+      | else-not-before-via-then-not-before+else-may_expire w ↦ block-calm a.block.now a.clock a.before c.told-block c.requires w.if-not-before.true (sym w.may_expire.ensures ∙ w.if-may_expire.false)
+      | else-not-before-via-else-not-before w ↦ block-expired a.block.now a.clock a.before c.told-block w.if-not-before.false
+    ])

@@ -1,10 +1,7 @@
-use Rattle.std.proofs.Common.{◌≡◌, ◌-◌, true, take, drop}
-use Rattle.watch.proofs.Clocks.{since}
-use Rattle.watch.specs.Kept.{listened}
+use Rattle.std.proofs.Common.{◌≡◌, take}
+use Rattle.watch.specs.Blocks.{heard_on}
+use Rattle.watch.proofs.Clocks.{told}
 use Rattle.watch.proofs.blocks.listen_each.Given as goal
 
 abbrev pub invariant-loop-i : goal.invariant-loop-i
-invariant-loop-i l = since l.initial.expired (listened true l.from (take (l.to - l.from) (drop l.from l.states)) l.initial.w) ≡ since l.expired (listened true l.i (take (l.to - l.i) (drop l.i l.states)) l.w)
-
-abbrev pub decreases-loop-i : goal.decreases-loop-i
-decreases-loop-i l = l.to - l.i
+invariant-loop-i l = heard_on (told l.initial.watch l.initial.expired) l.clock (take l.i l.states) ≡ told l.watch l.expired

@@ -1,9 +1,6 @@
-use Rattle.std.proofs.Common.{◌≡◌, ◌-◌, ◌≤◌}
-use Rattle.watch.proofs.ByBlock.{Stood}
+use Rattle.std.proofs.Common.{◌≡◌, ℕ, ◌<◌, get_or}
+use Rattle.watch.specs.Blocks.{bit_of}
 use Rattle.watch.proofs.blocks.stays.Given as goal
 
-abbrev pub invariant-loop-j : goal.invariant-loop-j
-invariant-loop-j l = (l.j ≤ 64) × (l.other ≡ 0 → Stood l.level l.din l.states l.from l.j)
-
-abbrev pub decreases-loop-j : goal.decreases-loop-j
-decreases-loop-j l = 64 - l.j
+abbrev pub invariant-loop-state : goal.invariant-loop-state
+invariant-loop-state l = l.other ≡ 0 → (k : ℕ) → k < l.state-index → bit_of l.din (get_or l.block k 0) ≡ l.level

@@ -5,7 +5,7 @@ use Rattle.watch.proofs.ear.last_long.Goals as goal
 
 pub loop-stop-init : goal.loop-stop-init
 loop-stop-init c = let a = c.args in
-    rw c.lesser-stop.ensures (long-end a.limit a.states.now a.from a.to, omega arith)
+    rw c.min-stop.ensures (long-end a.limit a.states.now a.from a.to, omega arith)
 
 pub returns-then-stop-from : goal.returns-then-stop-from
 returns-then-stop-from c = let t = c in

@@ -1,33 +1,25 @@
-use Rattle.std.proofs.Common.{◌≤◌, length, sym, ◌∙◌, arith}
+use Rattle.std.proofs.Common.{◌≡◌, sym, ◌∙◌, arith}
 use Rattle.watch.proofs.Changes.{next-change-on, next-change-here, next-change-none}
 use Rattle.watch.proofs.ear.next_change.Goals as goal
 
 pub loop-i-init : goal.loop-i-init
-loop-i-init c = rw c.level_before-level.ensures c.still_from-start.ensures
+loop-i-init c = record { same = rw c.level_before-level.ensures c.still_from-start.ensures; within = omega arith }
 
 pub returns-then-states-i : goal.returns-then-states-i
-returns-then-states-i c = let p = c in
-    let t = p in
-    let a = t.args in
-    let l = t.loop-i in
-    sym (l.invariant ∙ next-change-here _ a.states.now l.i a.to p.loop-i-test.true p.if-i-states.true c.if-states-i.true)
+returns-then-states-i c = let a = c.args in
+    let l = c.loop-i in
+    sym (l.invariant.same ∙ next-change-here _ a.states.now l.i a.to (omega (arith, c.min-end.ensures)) (omega (arith, c.min-end.ensures)) c.if-states-i.true)
 
 pub loop-i-preserved : goal.loop-i-preserved
-loop-i-preserved c = let p = c in
-    let t = p in
-    let a = t.args in
-    let l = t.loop-i in
-    l.invariant ∙ next-change-on _ a.states.now l.i a.to p.loop-i-test.true p.if-i-states.true c.if-states-i.false
+loop-i-preserved c = let a = c.args in
+    let l = c.loop-i in
+    record {
+      same = l.invariant.same ∙ next-change-on _ a.states.now l.i a.to (omega (arith, c.min-end.ensures)) (omega (arith, c.min-end.ensures)) c.if-states-i.false;
+      within = omega arith;
+    }
 
-pub returns-else-i-states : goal.returns-else-i-states
-returns-else-i-states c = let t = c in
-    let a = t.args in
-    let l = t.loop-i in
-    let end : length a.states.now ≤ l.i = c.if-i-states.false in
-    sym (l.invariant ∙ next-change-none _ a.states.now l.i a.to (omega (arith, end)))
-
-pub returns-after-loop-i : goal.returns-after-loop-i
-returns-after-loop-i c = let t = c in
-    let a = t.args in
-    let l = t.loop-i in
-    sym (l.invariant ∙ next-change-none _ a.states.now l.i a.to (omega (arith, c.loop-i-test.false)))
+pub returns : goal.returns
+returns c = let a = c.args in
+    let l = c.loop-i in
+    let end : c.max.result ≡ l.i = omega (arith, l.invariant.within) in
+    end ∙ sym (l.invariant.same ∙ next-change-none _ a.states.now l.i a.to (omega (arith, c.min-end.ensures)))

@@ -1,5 +1,5 @@
-use Rattle.watch.specs.Ear.{next_in}
 use Rattle.std.proofs.Common.{◌≡◌, ◌-◌}
+use Rattle.watch.specs.Ear.{next_in}
 use Rattle.watch.proofs.ear.still_from.Given as goal
 
 abbrev pub invariant-loop-i : goal.invariant-loop-i

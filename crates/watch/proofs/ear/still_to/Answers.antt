@@ -1,21 +1,16 @@
-use Rattle.watch.proofs.Changes.{last-change-end, last-change-pass}
-use Rattle.std.proofs.Common.{◌≡◌, ◌+◌, ◌-◌, ◌∙◌, arith}
+use Rattle.std.proofs.Common.{◌+◌, ◌-◌, ◌≤◌, ◌∙◌, arith, length-take, length-drop}
+use Rattle.watch.proofs.Changes.{last-change-pass, still-last}
 use Rattle.watch.proofs.ear.still_to.Goals as goal
 
-pub loop-i-init : goal.loop-i-init
-loop-i-init c = let a = c.args in
-    rw c.lesser-i.ensures (last-change-end a.states.now a.from a.to, omega arith)
-
-pub still_block-requires : goal.still_block-requires
-still_block-requires c = let h = c.loop-i.invariant.1 in omega (arith, h)
-
 pub loop-i-preserved : goal.loop-i-preserved
-loop-i-preserved c = let b = c in
-    let t = b in
-    let a = t.args in
-    let l = t.loop-i in
-    let e : l.i - 64 + 64 ≡ l.i = omega arith in (
-      l.invariant.0 ∙ last-change-pass a.states.now a.from (l.i - 64) l.i (omega arith) (omega arith) l.invariant.1
-          (rw e at (b.still_block.ensures c.if-not-still_block.false)),
-      omega (arith, l.invariant.1),
-    )
+loop-i-preserved c = let a = c.args in
+    let ss = a.states.now in
+    let l = c.loop-i in
+    let chunk = c.in-Some.ensures.cases in
+    let room : a.from + 64 ≤ l.i = omega (arith, simp (length-take, length-drop) at chunk.0, l.invariant.within) in
+    record {
+      same = l.invariant.same
+          ∙ last-change-pass ss a.from (l.i - 64) l.i (omega arith) (omega arith) l.invariant.within
+          (still-last ss a.from l.i c.in-Some.block.now room l.invariant.within chunk.1.same (rw c.level_before.ensures at (c.stays.ensures c.if-stays.true (l.i - 64))));
+      within = omega (arith, l.invariant.within);
+    }

@@ -1,13 +1,16 @@
-use Rattle.watch.proofs.Clocks.{part_none, part-nothing, part_off}
-use Rattle.std.proofs.Common.{false, sym}
+use Rattle.std.proofs.Common.{◌≡◌, ◌-◌, ◌<◌, [], length, get_or, rules, sym}
+use Rattle.std.proofs.lemmas.List.{nil_from_length}
+use Rattle.watch.specs.Kept.{listened}
+use Rattle.watch.proofs.Clocks.{listened-off-end}
 use Rattle.watch.proofs.kept.listen_off.Goals as goal
 
-pub returns-then-end-from : goal.returns-then-end-from
-returns-then-end-from c = let a = c.args in
-    part_none false _ a.from a.watch false (part-nothing a.states.now a.from a.to (rw c.lesser-end.ensures at c.if-end-from.true))
+pub returns-in-Some : goal.returns-in-Some
+returns-in-Some c = let a = c.args in
+    let xs = a.states.now in
+    let some : 0 < length xs = search rules in
+    let last : c.in-Some.state.now ≡ get_or xs (length xs - 1) 0 = search rules in
+    rw c.hear-watch.ensures (sym (listened-off-end a.clock xs c.in-Some.state.now a.watch some last))
 
-pub returns : goal.returns
-returns c = let e = c in
-    let a = e.args in
-    rw (c.hear.ensures, e.lesser-end.ensures)
-    (sym (part_off a.states.now a.from a.to a.watch (rw e.lesser-end.ensures at e.if-end-from.false)))
+pub returns-in-None : goal.returns-in-None
+unfolding listened
+returns-in-None c = let none : c.args.states.now ≡ [] = nil_from_length c.args.states.now (search rules) in rw none

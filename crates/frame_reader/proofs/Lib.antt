@@ -2,4 +2,3 @@
 pub mod Tests
 pub mod Held
 pub mod Readable
-pub mod Cases

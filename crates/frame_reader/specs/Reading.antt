@@ -1,6 +1,6 @@
 -- What the frame reader answers, and what it leaves in the two lent lists, for any input. A row's test is a total function: fields past
 -- the end of a frame that is too short read as 0.
-use Rattle.std.specs.Prelude.{ℕ, ◌+◌, Bool, false, not, ◌||◌, List, [], ◌∷◌, ◌++◌, eqb, ltb, length, get_or, drop}
+use Rattle.std.specs.Prelude.{ℕ, ◌+◌, Bool, false, not, ◌||◌, List, [], ◌∷◌, ◌++◌, eqb, ltb, length, get_or, drop, Result, Ok, Err}
 use Rattle.bits.specs.Bits.{fields, split, over}
 use Rattle.tables.specs.Lists.{all_below, all_same}
 use Rattle.tables.specs.Refusals.{Row, ◌when◌, first, answer, content}
@@ -91,9 +91,9 @@ values_found Global vs values = values
 values_found Configuration vs values = values
 
 -- what the reader answers
-unfoldable pub read : Told → Tail → List ℕ → ℕ → ℕ → Read
+unfoldable pub read : Told → Tail → List ℕ → ℕ → ℕ → Result Read ℕ
 read t tail frame bytes values =
-    answer (read_refusal t tail frame bytes values) R.Refused (found t t.command (held_fields t frame))
+    answer (read_refusal t tail frame bytes values) Err (Ok (found t t.command (held_fields t frame)))
 
 -- what it leaves in the lent bytes
 unfoldable pub read_bytes : Told → Tail → List ℕ → List ℕ → ℕ → List ℕ

@@ -1,4 +1,4 @@
-// What the reader answers.
+// What a frame holds.
 #[derive(Clone, Copy)]
 pub enum Read {
     // the byte of a global or of a configuration frame
@@ -7,6 +7,4 @@ pub enum Read {
     Bytes(usize),
     // so many individual values stand in the lent list
     Values(usize),
-    // the refusal's number: nothing is changed
-    Refused(u8),
 }

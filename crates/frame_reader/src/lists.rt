@@ -7,12 +7,10 @@ fn bytes_same(bytes: &[u8], byte: u8) -> bool
     ensures { result ≡ all_same bytes.now byte }
 {
     let mut other: u8 = 0;
-    let mut i: usize = 0;
-    while i < bytes.len() {
-        if bytes[i] != byte {
+    for held in bytes {
+        if *held != byte {
             other = 1;
         }
-        i += 1;
     }
     other == 0
 }
@@ -22,8 +20,7 @@ pub fn held_below(frame: &[u8], n: usize, limit: u8) -> bool
     requires { 3 + n ≤ length frame.now }
     ensures { result ≡ all_below (take n (drop 3 frame.now)) limit }
 {
-    let end = 3 + n;
-    tables::bytes_below(&frame[3..end], limit)
+    tables::bytes_below(&frame[3..3 + n], limit)
 }
 
 // The n bytes behind a frame's header are all as the first of them.
@@ -31,7 +28,5 @@ pub fn held_same(frame: &[u8], n: usize) -> bool
     requires { (0 < n) × (3 + n ≤ length frame.now) }
     ensures { result ≡ all_same (take n (drop 3 frame.now)) (get_or frame.now 3 0) }
 {
-    let end = 3 + n;
-    let first = frame[3];
-    bytes_same(&frame[3..end], first)
+    bytes_same(&frame[3..3 + n], frame[3])
 }

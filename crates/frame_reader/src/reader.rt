@@ -1,6 +1,6 @@
 // The frame reader.
 ghost use Rattle.std.specs.Prelude.{◌≡◌, false, ◌+◌, ◌*◌, ◌<◌, ◌≤◌, length};
-ghost use Rattle.tables.specs.Refusals.{first};
+ghost use Rattle.tables.specs.Refusals.{first, numbered, carried};
 ghost use Rattle.parts.specs.Parts.{most_devices};
 ghost use Rattle.frames.specs.Frames.{field_count, slices_bits, frame_length};
 ghost use Rattle.frame_reader.specs.Reading.{held_fields, room_short, copy_high, copies_differ, length_rows, range_rows, slice_rows, body_rows};
@@ -14,48 +14,60 @@ use frames::{
     told_length,
 };
 use parts::Command;
+use tables::Refusal;
 
 // The settings that a frame holds. Calibration bytes and individual values go to the front of the lent lists.
-pub fn read(told: Told, tail: Tail, frame: &[u8], bytes: &mut [u8], values: &mut [u16]) -> Read
-    ensures value { result ≡ read told tail frame.now (length bytes.old) (length values.old) }
+#[tactic(auto, unfolding(crate::specs::Reading::read, crate::specs::Reading::read_bytes, crate::specs::Reading::read_values))]
+pub fn read(
+    told: Told,
+    tail: Tail,
+    frame: &[u8],
+    bytes: &mut [u8],
+    values: &mut [u16],
+) -> Result<Read, Refusal>
+    ensures value { numbered result ≡ read told tail frame.now (length bytes.old) (length values.old) }
     ensures bytes_after { bytes.new ≡ read_bytes told tail frame.now bytes.old (length values.old) }
     ensures values_after { values.new ≡ read_values told tail frame.now (length bytes.old) values.old }
 {
-    let refusal = judge_read(told, tail, frame, bytes.len(), values.len());
-    if refusal != 0 {
-        return Read::Refused(refusal);
-    }
-    take_fields(told, frame, bytes, values)
+    judge_read(told, tail, frame, bytes.len(), values.len())?;
+    Ok(take_fields(told, frame, bytes, values))
 }
 
-// The lowest number that applies, or 0.
-fn judge_read(told: Told, tail: Tail, frame: &[u8], bytes: usize, values: usize) -> u8
-    ensures { result ≡ read_refusal told tail frame.now bytes values }
+// The first refusal that applies.
+#[tactic(auto, unfolding(crate::specs::Reading::read_refusal))]
+fn judge_read(
+    told: Told,
+    tail: Tail,
+    frame: &[u8],
+    bytes: usize,
+    values: usize,
+) -> Result<(), Refusal>
+    ensures { carried result ≡ read_refusal told tail frame.now bytes values }
 {
-    let early = judge_told(told.part, told.devices, tail);
-    if early != 0 {
-        return early;
-    }
-    let lengths = judge_lengths(told, tail, frame.len(), bytes, values);
-    if lengths != 0 {
-        return lengths;
-    }
+    judge_told(told.part, told.devices, tail)?;
+    judge_lengths(told, tail, frame.len(), bytes, values)?;
     judge_body(told, tail, frame)
 }
 
-// Numbers 4 and 5 of a reader, or 0.
-fn judge_lengths(told: Told, tail: Tail, long: usize, bytes: usize, values: usize) -> u8
+// Refusals 4 and 5 of a reader.
+#[tactic(auto, unfolding(frames::specs::Frames::told_fields, frames::specs::Frames::told_length))]
+fn judge_lengths(
+    told: Told,
+    tail: Tail,
+    long: usize,
+    bytes: usize,
+    values: usize,
+) -> Result<(), Refusal>
     requires { (told.devices ≤ most_devices) × (tail.length ≤ 64) }
-    ensures { result ≡ first (length_rows told tail long bytes values) }
+    ensures { carried result ≡ first (length_rows told tail long bytes values) }
 {
-    let command = told.command;
     if long != told_length(told, tail) {
-        return 4;
+        return Err(Refusal::WrongLength);
     }
-    if is_room_short(command, told_fields(told), bytes, values) {
-        return 5;
+    if is_room_short(told.command, told_fields(told), bytes, values) {
+        return Err(Refusal::NoRoom);
     }
-    0
+    Ok(())
 }
 
 // The command's lent list has fewer than n places.
@@ -69,39 +81,27 @@ fn is_room_short(command: Command, n: usize, bytes: usize, values: usize) -> boo
     }
 }
 
-// Numbers 6 to 12 of a reader, or 0.
-fn judge_body(told: Told, tail: Tail, frame: &[u8]) -> u8
+// Refusals 6 to 12 of a reader.
+#[tactic(auto, using(frames::proofs::Lengths::bits_small), unfolding(frames::specs::Frames::told_bits, frames::specs::Frames::head_table, frames::specs::Frames::end_table))]
+fn judge_body(told: Told, tail: Tail, frame: &[u8]) -> Result<(), Refusal>
     requires { (0 < told.devices) × (told.devices ≤ most_devices) × (tail.length ≤ 64) × (length frame.now ≡ frame_length told tail) }
-    ensures { result ≡ first (body_rows told tail frame.now) }
+    ensures { carried result ≡ first (body_rows told tail frame.now) }
 {
-    let range = judge_range(told, tail, frame);
-    if range != 0 {
-        return range;
-    }
-    let command = told.command;
-    let head = judge_head(frame, command);
-    if head != 0 {
-        return head;
-    }
-    let slices = judge_slices(told, frame);
-    if slices != 0 {
-        return slices;
-    }
+    judge_range(told, tail, frame)?;
+    judge_head(frame, told.command)?;
+    judge_slices(told, frame)?;
     judge_end(frame, (24 + told_bits(told)) as u32, tail)
 }
 
-// Number 6 of a reader, or 0.
-fn judge_range(told: Told, tail: Tail, frame: &[u8]) -> u8
+// Refusal 6 of a reader.
+fn judge_range(told: Told, tail: Tail, frame: &[u8]) -> Result<(), Refusal>
     requires { (told.devices ≤ most_devices) × (tail.length ≤ 64) × (3 + field_count told ≤ length frame.now) }
-    ensures { result ≡ first (range_rows told tail frame.now) }
+    ensures { carried result ≡ first (range_rows told tail frame.now) }
 {
-    if is_copy_high(told, frame) {
-        return 6;
+    if is_copy_high(told, frame) || is_tail_high(tail) {
+        return Err(Refusal::HighValue);
     }
-    if is_tail_high(tail) {
-        return 6;
-    }
-    0
+    Ok(())
 }
 
 // A copy of a global byte is out of range.
@@ -109,27 +109,26 @@ fn is_copy_high(told: Told, frame: &[u8]) -> bool
     requires { (told.devices ≤ most_devices) × (3 + field_count told ≤ length frame.now) }
     ensures { result ≡ copy_high told told.command (held_fields told frame.now) }
 {
-    let command = told.command;
-    let n = told_fields(told);
     let limit = parts::subframes_of(told.part, told.configuration) as u8;
-    match command {
-        Command::Global => !held_below(frame, n, limit),
+    match told.command {
+        Command::Global => !held_below(frame, told_fields(told), limit),
         _ => false,
     }
 }
 
-// Numbers 9 and 10 of a reader, or 0.
-fn judge_slices(told: Told, frame: &[u8]) -> u8
+// Refusals 9 and 10 of a reader.
+#[tactic(auto, using(frames::proofs::Judged::field_within))]
+fn judge_slices(told: Told, frame: &[u8]) -> Result<(), Refusal>
     requires { (0 < told.devices) × (told.devices ≤ most_devices) × (3 + field_count told ≤ length frame.now) }
-    ensures { result ≡ first (slice_rows told frame.now) }
+    ensures { carried result ≡ first (slice_rows told frame.now) }
 {
     if field_at(frame, 14, 10) != 0 {
-        return 9;
+        return Err(Refusal::WrongCount);
     }
     if do_copies_differ(told, frame) {
-        return 10;
+        return Err(Refusal::UnequalCopies);
     }
-    0
+    Ok(())
 }
 
 // Copies of a global or configuration byte differ.
@@ -137,13 +136,9 @@ fn do_copies_differ(told: Told, frame: &[u8]) -> bool
     requires { (0 < told.devices) × (told.devices ≤ most_devices) × (3 + field_count told ≤ length frame.now) }
     ensures { result ≡ copies_differ told.command (held_fields told frame.now) }
 {
-    let command = told.command;
-    let n = told_fields(told);
-    match command {
-        Command::Individual => false,
-        Command::Calibration => false,
-        Command::Global => !held_same(frame, n),
-        Command::Configuration => !held_same(frame, n),
+    match told.command {
+        Command::Individual | Command::Calibration => false,
+        Command::Global | Command::Configuration => !held_same(frame, told_fields(told)),
     }
 }
 
@@ -157,10 +152,9 @@ fn take_fields(told: Told, frame: &[u8], bytes: &mut [u8], values: &mut [u16]) -
         × (bytes.new ≡ bytes_found told.command (held_fields told frame.now) bytes.old)
         × (values.new ≡ values_found told.command (held_fields told frame.now) values.old) }
 {
-    let command = told.command;
     let n = told_fields(told);
-    let width = slices::field_width(command, told.part);
-    match command {
+    let width = slices::field_width(told.command, told.part);
+    match told.command {
         Command::Individual => {
             take_values(frame, n, width, values);
             Read::Values(n)
@@ -169,7 +163,6 @@ fn take_fields(told: Told, frame: &[u8], bytes: &mut [u8], values: &mut [u16]) -
             take_bytes(frame, n, bytes);
             Read::Bytes(n)
         }
-        Command::Global => Read::Byte(frame[3]),
-        Command::Configuration => Read::Byte(frame[3]),
+        Command::Global | Command::Configuration => Read::Byte(frame[3]),
     }
 }

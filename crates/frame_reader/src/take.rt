@@ -3,6 +3,7 @@ ghost use Rattle.std.specs.Prelude.{◌≡◌, ◌+◌, ◌*◌, ◌≤◌, leng
 ghost use Rattle.bits.specs.Bits.{fields, split, over};
 
 // The n values behind the header, to the front of the lent list.
+#[tactic(auto, unfolding(bits::specs::Bits::over, unpacking::specs::Unpacking::unpacked_out))]
 pub fn take_values(frame: &[u8], n: usize, width: u32, values: &mut [u16])
     requires { (width ≤ 16) × (24 + n * width ≤ 8 * length frame.now) × (n ≤ length values.old) }
     ensures { values.new ≡ over (split width n (fields 8 (drop 3 frame.now))) values.old }
@@ -11,13 +12,10 @@ pub fn take_values(frame: &[u8], n: usize, width: u32, values: &mut [u16])
 }
 
 // The n bytes behind the header, to the front of the lent list.
+#[tactic(auto, unfolding(bits::specs::Bits::over))]
 pub fn take_bytes(frame: &[u8], n: usize, bytes: &mut [u8])
     requires { (3 + n ≤ length frame.now) × (n ≤ length bytes.old) }
     ensures { bytes.new ≡ over (take n (drop 3 frame.now)) bytes.old }
 {
-    let mut i: usize = 0;
-    while i < n {
-        bytes[i] = frame[3 + i];
-        i += 1;
-    }
+    bytes[..n].copy_from_slice(&frame[3..3 + n]);
 }

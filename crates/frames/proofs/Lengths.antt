@@ -8,7 +8,7 @@ use Rattle.bits.specs.Bits.{bytes_for}
 use Rattle.parts.specs.Parts.{most_devices, part_of, multiplex, subframes, slice_fields, slice_bits}
 use Rattle.parts.proofs.Laws.{usable}
 use Rattle.parts.proofs.Rows.{fields-some, fields_le, field-wide, field-narrow, slice-whole}
-use Rattle.frames.specs.Frames.{field_count, field_bits, slices_bits, frame_length, told_fields, told_bits, told_length}
+use Rattle.frames.specs.Frames.{field_count, field_bits, slices_bits, frame_length, told_fields}
 use Rattle.frames.specs.declared.told.Told.{Told}
 use Rattle.frames.specs.declared.told.Tail.{Tail}
 
@@ -57,19 +57,11 @@ module _ (t : Told) where
   pub frame-holds : (tail : Tail) (l : ℕ) → l ≡ frame_length t tail → (3 + field_count t ≤ l) × (24 + slices_bits t + tail.length ≤ 8 * l)
   frame-holds tail l e = (omega (arith, bytes-more, frame-room tail), omega arith)
 
--- ---- the sizes of a told frame whose N, and whose tail, is not over its limit
+-- ---- the fields of a told frame whose N is not over its limit
 module _ (t : Told) (few : t.devices ≤ most_devices) where
-  pub told-fields : told_fields t ≡ field_count t
+  pub told_fields_few : told_fields t ≡ field_count t
   unfolding told_fields
-  told-fields = rw (le-leb t.devices most_devices few)
-
-  pub told-bits : told_bits t ≡ slices_bits t
-  unfolding told_bits
-  told-bits = rw (le-leb t.devices most_devices few)
-
-  pub told-length : (tail : Tail) → tail.length ≤ 64 → told_length t tail ≡ frame_length t tail
-  unfolding told_length
-  told-length tail short = rw (le-leb t.devices most_devices few, le-leb tail.length 64 short)
+  told_fields_few = rw (le-leb t.devices most_devices few)
 
 -- subframes fit into a byte
 pub subframes-small : (n g : ℕ) → subframes (part_of n) g < 256

@@ -5,7 +5,7 @@ use Rattle.parts.specs.Parts.{part_of, field_width}
 use Rattle.parts.specs.declared.command.Command.{Command}
 use Rattle.frames.specs.Frames.{field_count, field_bits}
 use Rattle.frames.proofs.Tests.{below-replicate}
-use Rattle.frames.proofs.Lengths.{told-fields}
+use Rattle.frames.proofs.Lengths.{told_fields_few}
 use Rattle.frame_writer.specs.Writing.{settings_of, settings}
 use Rattle.frame_writer.proofs.Pieces as pieces
 use Rattle.frame_writer.proofs.writer.put_slices.Goals as goal
@@ -14,7 +14,7 @@ pub put_same-requires : goal.put_same-requires
 put_same-requires c =
     let a = c.args in
     let t = a.told in
-    let count : c.told_fields-n.result ≡ field_count t = c.told_fields-n.ensures ∙ told-fields t c.requires.0 in
+    let count : c.told_fields-n.result ≡ field_count t = c.told_fields-n.ensures ∙ told_fields_few t c.requires.0 in
     let same = pieces.same_byte t a.byte a.bytes.now a.values.now c.in-Global.is in
     omega (arith, count, c.requires.2, pieces.length-settings t a.byte a.bytes.now a.values.now c.requires.1 same.0 same.1, length-replicate (field_count t) a.byte)
 
@@ -37,7 +37,7 @@ pub returns-in-Global : goal.returns-in-Global
 returns-in-Global c =
     let a = c.args in
     let t = a.told in
-    let count : c.told_fields-n.result ≡ field_count t = c.told_fields-n.ensures ∙ told-fields t c.requires.0 in
+    let count : c.told_fields-n.result ≡ field_count t = c.told_fields-n.ensures ∙ told_fields_few t c.requires.0 in
     let same = pieces.same_byte t a.byte a.bytes.now a.values.now c.in-Global.is in
     let small = below-replicate (field_count t) a.byte 256 (omega arith) (omega arith) in
     let long = length-replicate (field_count t) a.byte in

@@ -17,8 +17,7 @@ use Rattle.parts.specs.Parts.{known, part_of, outputs, multiplex}
 use Rattle.schedule.specs.Moments.{InSchedule}
 use Rattle.schedule.proofs.Visits.{visited}
 use Rattle.schedule.proofs.Lit.{moment-over}
-use Rattle.subframes.specs.declared.answer.Asked.{Asked}
-use Rattle.subframes.specs.declared.answer.Asked.TheVariants.{Is, Refused}
+use Rattle.std.specs.Prelude.{Result, Ok, Err}
 use Rattle.device.specs.declared.device.Device.{Device}
 use Rattle.device.specs.Judgement.{fits, judgement}
 use Rattle.device.proofs.Kept.{parts-of}
@@ -89,12 +88,12 @@ module _ (d : Device) (output : ℕ) (k : known d.registers.part ≡ true) (h : 
       (ap not k, (or-second (ap not h) (moment-over (part_of r.part) r.configuration output m o (moment-in d h)), tt))
 
   device-asked : device_answer d output (moment_of d.registers).subframe (moment_of d.registers).clock (moment_of d.registers).phase
-      ≡ Is (is_lit_now d.registers output)
+      ≡ Ok (is_lit_now d.registers output)
   unfolding device_answer
-  device-asked = sym (accepted Refused refl rows-clear refl)
+  device-asked = sym (accepted Err refl rows-clear refl)
 
   pub asked-shown : asked_now d output ≡ shown_now d.registers output
-  asked-shown = ap (λ (a : Asked). answered a (moment_of d.registers).phase) device-asked
+  asked-shown = ap (λ (a : Result Bool ℕ). answered a (moment_of d.registers).phase) device-asked
 
   pub by-schedule : BySchedule d.registers output (shown_now d.registers output)
   by-schedule =

@@ -4,18 +4,15 @@ ghost use Rattle.lit_now.specs.LitNow.{lit_now};
 
 use crate::now::{LitNow, ask_now, refuse};
 use device::Device;
-use judgement::judge;
-use refusals::output_refusal;
 
 // Is an output, counted from 0 in wire order, of a device, 1 to N, lit at the device's position, and in which phase?
 #[unsafe(no_mangle)]
 pub extern "C" fn bb_lit_now(chain: &[Device], device: usize, output: u32) -> LitNow
     ensures { result ≡ lit_now chain.now device output }
 {
-    let judged = judge(chain);
-    let number = output_refusal(judged, chain.len(), device, output);
-    if number != 0 {
-        return refuse(number);
+    let judged = judgement::judge(chain);
+    match refusals::judge_output(judged, chain.len(), device, output) {
+        Ok(()) => ask_now(chain[device - 1], output),
+        Err(refusal) => refuse(refusal),
     }
-    ask_now(chain[device - 1], output)
 }

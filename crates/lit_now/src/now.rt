@@ -1,10 +1,11 @@
 // The answer for one record, by value.
-ghost use Rattle.std.specs.Prelude.{◌≡◌, ◌<◌};
+ghost use Rattle.std.specs.Prelude.{◌≡◌};
+ghost use Rattle.tables.specs.Refusals.{number_of};
 ghost use Rattle.lit_now.specs.LitNow.{refused};
-ghost use Rattle.lit_now.specs.Asked.{asked_now, answered};
+ghost use Rattle.lit_now.specs.Asked.{asked_now};
 
 use device::Device;
-use subframes::Asked;
+use tables::Refusal;
 
 // Lit or not, 1 or 0, and the phase, 0 MUX0 and 1 MUX1; or the refusal's number, and both are 0.
 #[repr(C)]
@@ -21,37 +22,22 @@ pub fn ask_now(device: Device, output: u32) -> LitNow
 {
     let registers = device.registers;
     let moment = schedule::moment_at(registers.part, registers.configuration, registers.position);
-    let asked = device_light::is_device_lit(
-        device,
-        output,
-        moment.subframe,
-        moment.clock,
-        moment.phase,
-    );
-    answer_in(asked, moment.phase)
-}
-
-// A phase is 0 or 1.
-fn answer_in(asked: Asked, phase: u32) -> LitNow
-    requires { phase < 2 }
-    ensures { result ≡ answered asked phase }
-{
-    match asked {
-        Asked::Is(lit) => LitNow {
-            lit: lit as u8,
-            phase: phase as u8,
+    match device_light::is_device_lit(device, output, moment) {
+        Ok(lit) => LitNow {
+            lit: u8::from(lit),
+            phase: moment.phase as u8,
             refusal: 0,
         },
-        Asked::Refused(number) => refuse(number),
+        Err(refusal) => refuse(refusal),
     }
 }
 
-pub fn refuse(number: u8) -> LitNow
-    ensures { result ≡ refused number }
+pub fn refuse(refusal: Refusal) -> LitNow
+    ensures { result ≡ refused (number_of refusal) }
 {
     LitNow {
         lit: 0,
         phase: 0,
-        refusal: number,
+        refusal: u8::from(refusal),
     }
 }

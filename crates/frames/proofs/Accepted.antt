@@ -1,9 +1,8 @@
 -- What a call knows once none of the rows 1 to 3 applies: the tests as facts, by name. Assumes nothing.
-use mathlib.Core.Path.{◌≡◌, refl, sym, ◌∙◌}
+use mathlib.Core.Path.{◌≡◌}
 use mathlib.Core.Bool.{true}
 use Prim.Native.Nat.{ℕ, ◌<◌, ◌≤◌}
 use borrow.Author.Tests.{ltb-false, not-false}
-use Rattle.tables.specs.Refusals.{first}
 use Rattle.parts.specs.Parts.{known, most_devices}
 use Rattle.tables.proofs.Rows as rows
 use Rattle.parts.proofs.Laws.{count-bounds}
@@ -26,6 +25,3 @@ module _ (part devices : ℕ) (tail : Tail) where
         few = count.1;
         short = ltb-false 64 tail.length c.1.1.0;
       }
-
-  pub told-accepted : {n : ℕ} → n ≡ first (told_rows part devices tail) → n ≡ 0 → ToldAccepted part devices tail
-  told-accepted e z = told_accepted (rows.clear (told_rows part devices tail) refl (sym e ∙ z))

@@ -1,22 +1,16 @@
 -- The laws of tests: of one number, of each number of a list, and of a tail's bits. Assumes nothing.
-use mathlib.Core.Path.{◌≡◌, refl, sym, ap, ◌∙◌}
+use mathlib.Core.Path.{◌≡◌, refl, ap, ◌∙◌}
 use mathlib.Core.Bool.{Bool, true, false, not, ◌&&◌}
 use mathlib.Core.List.{List, [], ◌∷◌}
 use Prim.Native.Nat.{ℕ, zero, suc, ◌%◌, ◌^◌, ◌<◌, ◌≤◌}
 use native.Mathlib.Nat.{mod-lt, mod-eq_of_lt}
 use native.Mathlib.Omega.{arith}
-use lib.Dec.{eqb, ltb, leb}
+use lib.Dec.{eqb, ltb}
 use lib.Pow.{pow_pos}
 use lib.ListN.{length, get_or, replicate, length-replicate, get_or-replicate}
-use borrow.Author.Tests.{le-leb, lt-leb, lt-ltb, eq-eqb, ne_eqb, ltb-true, ltb-false}
+use borrow.Author.Tests.{lt-ltb, eq-eqb, ne_eqb, ltb-true, ltb-false}
 use Rattle.tables.specs.Lists.{all_below}
 use Rattle.tables.proofs.Booleans.{and_left, and_right}
-
-pub leb-not : (a b : ℕ) → leb a b ≡ not (ltb b a)
-leb-not a b = at (ltb b a) refl where
-  at : (d : Bool) → ltb b a ≡ d → leb a b ≡ not (ltb b a)
-  at true e = lt-leb a b (ltb-true b a e) ∙ sym (ap not e)
-  at false e = le-leb a b (ltb-false b a e) ∙ sym (ap not e)
 
 -- ---- a test of each number
 

@@ -14,6 +14,7 @@ use lib.Bits.{bit_or, or_lt}
 use Rattle.bits.specs.Bits.{bits, number, fields, split, over_at}
 use Rattle.unpacking.specs.Reading.{ahead, from, Pulled, Filled, Loaded}
 use Rattle.unpacking.specs.declared.reader.Reader.{Reader}
+use Rattle.unpacking.specs.declared.reader.Taken.{Taken}
 use Rattle.bits.proofs.Laws.{length-bits, bits-add, bits-mod-self, bits-push, below-nil, below-append, take-over_at}
 use Rattle.bits.proofs.Laws.{fields-append, fields-one, length_fields, drop-fields, length-split, split-lt, split-fields, fields_split}
 
@@ -76,8 +77,8 @@ below_one w v l zero = l
 below_one w v l (suc i) = pow_pos w
 
 -- `low_bits(acc >> h, w)` of a reader that has w + h bits
-pub pulled-one : (w h : ℕ) {src : List ℕ} {p q : Reader} {v : ℕ} → q.have ≡ w + h → h < 32 → v ≡ q.acc / 2 ^ h % 2 ^ w → Filled src p q w
-    → Pulled src p (record { at = q.at; acc = q.acc; have = h }) w (v ∷ [])
+pub pulled-one : (w h : ℕ) {src : List ℕ} {p : Reader} {q : Taken} {v : ℕ} → q.have ≡ w + h → (small : h < 32) → v ≡ q.acc / 2 ^ h % 2 ^ w → Filled src p q w
+    → Pulled src p (record { at = q.at; acc = q.acc; have = h; few = small }) w (v ∷ [])
 unfolding ahead
 pulled-one w h {src} {p} {q} {v} n small e d =
     let rest : List Bool = ahead src q.at h q.acc in
@@ -89,7 +90,6 @@ pulled-one w h {src} {p} {q} {v} n small e d =
           ∙ append_assoc (bits w (q.acc / 2 ^ h)) (bits h q.acc) (fields 8 (drop q.at src))
           ∙ ap (λ (z : List Bool). z ++ rest) (sym (fields-one w v ∙ low));
       below = below_one w v (rw e (mod-lt (q.acc / 2 ^ h) (pow_pos w)));
-      small = small;
       count = omega (arith, d.count, one-mul w);
       within = d.within;
     }
@@ -112,14 +112,13 @@ pulled-wide w {src} {p} {q} {r} {x} {y} l m d e =
           d.said ∙ ap₂ (λ (i j : List Bool). i ++ j) (fields-one (w - 32) x) (e.said ∙ ap (λ (i : List Bool). i ++ s) (fields-one 32 y))
           ∙ sym (append_assoc (bits (w - 32) x) (bits 32 y) s) ∙ ap (λ (i : List Bool). i ++ s) (sym (fields-one w v ∙ both));
       below = below_one w v (rw whole (or_lt w (x * 2 ^ 32) y fits small));
-      small = e.small;
       count = omega (arith, d.count, e.count, one-mul w, one-mul (w - 32));
       within = e.within;
     }
 
-pub pulled-none : (w : ℕ) {src : List ℕ} {p : Reader} → p.have < 32 → p.at ≤ length src → Pulled src p p w []
+pub pulled-none : (w : ℕ) {src : List ℕ} {p : Reader} → p.at ≤ length src → Pulled src p p w []
 unfolding fields
-pulled-none w h l = record { said = refl; below = below-nil w; small = h; count = omega (arith, zero-mul w); within = l }
+pulled-none w l = record { said = refl; below = below-nil w; count = omega (arith, zero-mul w); within = l }
 
 -- a run, and then one right behind it
 pub pulled-append : {src : List ℕ} {p q r : Reader} {w : ℕ} {vs us : List ℕ} → Pulled src p q w vs → Pulled src q r w us → Pulled src p r w (vs ++ us)
@@ -130,7 +129,6 @@ pulled-append {src} {p} {q} {r} {w} {vs} {us} d e =
           d.said ∙ ap (λ (z : List Bool). fields w vs ++ z) e.said ∙ sym (append_assoc (fields w vs) (fields w us) s)
           ∙ ap (λ (z : List Bool). z ++ s) (sym (fields-append w vs us));
       below = below-append (2 ^ w) vs us d.below e.below;
-      small = e.small;
       count = omega (arith, d.count, e.count, ap (λ (n : ℕ). n * w) (length-append vs us), add-mul (length vs) (length us) w);
       within = e.within;
     }
@@ -165,7 +163,6 @@ pulled-parts n w {src} {p} {r} {xs} d =
     record {
       said = d.said ∙ ap (λ (z : List Bool). z ++ ahead src r.at r.have r.acc) (sym same);
       below = split-lt w (n * length xs) all;
-      small = d.small;
       count = omega (arith, d.count, ap (λ (k : ℕ). k * w) (length-split w (n * length xs) all));
       within = d.within;
     }
@@ -189,7 +186,6 @@ pulled-bytes n {src} {at} {x} f room d =
           from_start src at 0 ∙ sym d.said
           ∙ ap₂ (λ (y z : List Bool). y ++ z) (sym (fields-one (8 * n) x)) (sym (from_start src (at + n) 0));
       below = below_one (8 * n) x f;
-      small = omega arith;
       count = omega (arith, one-mul (8 * n));
       within = room;
     }

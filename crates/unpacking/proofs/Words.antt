@@ -1,6 +1,6 @@
 -- Groups of four values, read one by one and by blocks. A group's number is cut into its values; the words of a block hold the next groups'
 -- numbers in their high bits; and the values of the words are stored one group behind the other. Assumes nothing.
-use mathlib.Core.Path.{◌≡◌, refl, sym, ap, ap₂, ◌∙◌, subst}
+use mathlib.Core.Path.{◌≡◌, sym, ap, ap₂, ◌∙◌, subst}
 use mathlib.Core.List.{List, [], ◌∷◌, ◌++◌}
 use Prim.Native.Nat.{ℕ, ◌+◌, ◌-◌, ◌*◌, ◌/◌, ◌%◌, ◌^◌, ◌≤◌, ◌<◌}
 use native.Mathlib.Nat.{add-zero, zero-mul, mod-le, lt_of_le_of_lt, lt_of_lt_of_le}
@@ -81,9 +81,9 @@ pub record Staged (src : List ℕ) (first s n k : ℕ) (words : List ℕ) (j : �
   pub read : Pulled src (from first) (from (first + j * s)) n (high_bits n (take j words))
   pub long : length words ≡ k
 
-pub staged-none : (first s n : ℕ) {src words : List ℕ} → first ≤ length src → Staged src first s n (length words) words 0
+pub staged-none : (first s n : ℕ) {k : ℕ} {src words : List ℕ} → first ≤ length src → length words ≡ k → Staged src first s n k words 0
 unfolding high_bits
-staged-none first s n l = record { read = rw (zero-mul, add-zero) (pulled-none n (omega arith) l); long = refl }
+staged-none first s n l long = record { read = rw (zero-mul, add-zero) (pulled-none n l); long = long }
 
 pub staged-more : (j : ℕ) {src words : List ℕ} {first s n k at x i : ℕ} → s ≤ 8 → n ≡ 8 * s → at ≡ first + j * s → i ≡ j + 1 → at + 8 ≤ length src
     → x < 2 ^ 64 → j < k → Loaded src at 8 x → Staged src first s n k words j → Staged src first s n k (set words j x) i

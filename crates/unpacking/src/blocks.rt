@@ -3,10 +3,10 @@ ghost use Rattle.std.specs.Prelude.{◌≡◌, ◌+◌, ◌*◌, ◌-◌, ◌/�
 ghost use Rattle.bits.specs.Bits.{bytes_for, over_at};
 ghost use Rattle.unpacking.specs.Reading.{Pulled, from};
 ghost use Rattle.bits.specs.Words.{high_bits};
-ghost use Rattle.unpacking.specs.Blocks.{two_masks, group_values};
+ghost use Rattle.unpacking.specs.Blocks.{group_values};
 
-use crate::groups::{four_of, set_four, two_masks};
-use crate::reader::load_long;
+use crate::groups::{Lanes, set_four};
+use crate::load::load_long;
 
 // Blocks of 128 values at 12 and 14 bits, from the byte `at` on, as long as more values are behind them; none at another width. The
 // answer is how many values they are.
@@ -18,67 +18,72 @@ pub fn take_blocks(src: &[u8], at: usize, width: u32, values: &mut [u16]) -> usi
     if width != 12 && width != 14 {
         return 0;
     }
-    let mask = two_masks(width);
-    let block = 16 * width as usize;
-    let mut words: [u64; 32] = [0; 32];
+    let lanes = Lanes::new(width);
+    let count = values.len().saturating_sub(1) / 128;
+    let mut words = [0; 32];
     let mut here = at;
-    let mut i: usize = 0;
-    while 128 < values.len() - i {
+    // by index: of what is written through `chunks_mut` a proof knows nothing
+    for k in 0..count {
         load_words(src, here, width, &mut words);
-        spread_words(&words, width, mask, values, i);
-        here += block;
-        i += 128;
+        spread_words(&words, lanes, values, 128 * k);
+        here += 16 * width as usize;
     }
-    i
+    128 * count
 }
 
 // A word for each of the next groups of four values, from the byte `first` on: eight bytes from the group's start on. Those that it has too
-// many are the next group's.
-fn load_words(src: &[u8], first: usize, width: u32, words: &mut [u64])
-    requires width_bound { (width ≤ 16) × (width % 2 ≡ 0) × (length words.old % 4 ≡ 0) }
-    requires width_in_bounds { first + length words.old * (width / 2) + (8 - width / 2) ≤ length src.now }
-    ensures { Pulled src.now (from first) (from (first + length words.old * (width / 2))) (4 * width)
-        (high_bits (4 * width) words.new) }
+// many are the next group's. They are loaded by fours: a `for` over the words, one by one, takes a seventh longer.
+fn load_words(src: &[u8], first: usize, width: u32, words: &mut [u64; 32])
+    requires { (width ≤ 16) × (width % 2 ≡ 0) × (first + 32 * (width / 2) + (8 - width / 2) ≤ length src.now) }
+    ensures { Pulled src.now (from first) (from (first + 32 * (width / 2))) (4 * width) (high_bits (4 * width) words.new) }
 {
     let step = (width / 2) as usize;
     let mut at = first;
-    let mut j: usize = 0;
-    while j < words.len() {
-        words[j] = load_long(src, at);
-        words[j + 1] = load_long(src, at + step);
-        words[j + 2] = load_long(src, at + 2 * step);
-        words[j + 3] = load_long(src, at + 3 * step);
+    for j in 0..8 {
+        words[4 * j] = load_long(src, at);
+        words[4 * j + 1] = load_long(src, at + step);
+        words[4 * j + 2] = load_long(src, at + 2 * step);
+        words[4 * j + 3] = load_long(src, at + 3 * step);
         at += 4 * step;
-        j += 4;
     }
 }
 
 // The values of each word's group, from the value `first` on. The two widths have a loop each, which knows its width.
-fn spread_words(words: &[u64], width: u32, mask: u64, values: &mut [u16], first: usize)
-    requires le_width { (12 ≤ width) × (width ≤ 14) × (width % 2 ≡ 0) × (mask ≡ two_masks width) }
-    requires words_in_bounds { first + 4 * length words.now ≤ length values.old }
-    ensures { values.new ≡ over_at first (group_values width words.now) values.old }
+fn spread_words(words: &[u64; 32], lanes: Lanes, values: &mut [u16], first: usize)
+    requires le_width { (12 ≤ lanes.width) × (lanes.width ≤ 14) × (lanes.width % 2 ≡ 0) }
+    requires words_in_bounds { first + 128 ≤ length values.old }
+    ensures { values.new ≡ over_at first (group_values lanes.width words.now) values.old }
 {
-    if width == 14 {
-        spread_words_of(words, 14, mask, values, first);
+    if lanes.width == 14 {
+        spread_words_of(
+            words,
+            Lanes {
+                width: 14,
+                mask: lanes.mask,
+            },
+            values,
+            first,
+        );
     } else {
-        spread_words_of(words, 12, mask, values, first);
+        spread_words_of(
+            words,
+            Lanes {
+                width: 12,
+                mask: lanes.mask,
+            },
+            values,
+            first,
+        );
     }
 }
 
-// The same at any width up to 14.
-fn spread_words_of(words: &[u64], width: u32, mask: u64, values: &mut [u16], first: usize)
-    requires width_nonzero { (0 < width) × (width ≤ 14) × (mask ≡ two_masks width) }
-    requires words_in_bounds { first + 4 * length words.now ≤ length values.old }
-    ensures { values.new ≡ over_at first (group_values width words.now) values.old }
+// The same at any width.
+fn spread_words_of(words: &[u64; 32], lanes: Lanes, values: &mut [u16], first: usize)
+    requires { (0 < lanes.width) × (first + 128 ≤ length values.old) }
+    ensures { values.new ≡ over_at first (group_values lanes.width words.now) values.old }
 {
-    let mut j: usize = 0;
-    while j < words.len() {
-        set_four(
-            values,
-            first + 4 * j,
-            four_of(words[j] >> (64 - 4 * width), width, mask),
-        );
-        j += 1;
+    for (j, word) in words.iter().enumerate() {
+        let number = *word >> (64 - 4 * lanes.width);
+        set_four(values, first + 4 * j, lanes.four_of(number));
     }
 }

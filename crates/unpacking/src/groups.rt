@@ -1,11 +1,12 @@
 // Lists unpacked in groups. Four values are moved together in a number of 64 bits: they are seven bytes at 14 bits, and six at 12.
-ghost use Rattle.std.specs.Prelude.{◌∷◌, [], ◌≡◌, ◌+◌, ◌*◌, ◌/◌, ◌%◌, ◌^◌, ◌<◌, ◌≤◌, length, take};
+ghost use Rattle.std.specs.Prelude.{◌∷◌, [], ◌≡◌, ◌+◌, ◌*◌, ◌/◌, ◌%◌, ◌^◌, ◌<◌, ◌≤◌, length};
 ghost use Rattle.bits.specs.Bits.{bits, split, over_at};
 ghost use Rattle.bits.specs.Words.{side_by_side};
 ghost use Rattle.unpacking.specs.Reading.{Pulled, from};
 ghost use Rattle.unpacking.specs.Blocks.{two_masks, apart};
 
-use crate::reader::{Reader, load_word, pull_each};
+use crate::load::load_word;
+use crate::reader::Reader;
 use bits::low_bits;
 
 // `values` is filled with the numbers from the byte `at` on, of `width` bits each: in fours at 12 and 14 bits, and what is left, or all at
@@ -14,48 +15,28 @@ pub fn pull_all(src: &[u8], at: usize, width: u32, values: &mut [u16]) -> Reader
     requires { (width ≤ 16) × (at ≤ length src.now) × (8 * at + length values.old * width ≤ 8 * length src.now) }
     ensures { Pulled src.now (from at) result width values.new }
 {
-    if width != 12 && width != 14 {
-        return pull_each(
-            src,
-            Reader {
-                at,
-                acc: 0,
-                have: 0,
-            },
-            width,
-            values,
-        );
+    match width {
+        12 => pull_fours::<12>(src, at, values),
+        14 => pull_fours::<14>(src, at, values),
+        _ => Reader::new(at).pull_each(src, width, values),
     }
-    let whole = values.len() / 4 * 4;
-    let end = pull_fours(src, at, width, values);
-    pull_each(
-        src,
-        Reader {
-            at: end,
-            acc: 0,
-            have: 0,
-        },
-        width,
-        &mut values[whole..],
-    )
 }
 
-// The numbers from the byte `at` on in fours, as many as there are whole fours of in `values`. The answer is the byte behind them.
-fn pull_fours(src: &[u8], at: usize, width: u32, values: &mut [u16]) -> usize
-    requires le_width { (8 ≤ width) × (width ≤ 16) × (width % 2 ≡ 0) × (at ≤ length src.now) }
-    requires width_bound { 8 * at + length values.old * width ≤ 8 * length src.now }
-    ensures { Pulled src.now (from at) (from result) width (take (length values.old / 4 * 4) values.new) }
+// The same at `WIDTH` bits: in fours, and what is left one by one. Each of the two widths has a loop that knows it.
+fn pull_fours<const WIDTH: u32>(src: &[u8], at: usize, values: &mut [u16]) -> Reader
+    requires width { (8 ≤ WIDTH) × (WIDTH ≤ 16) × (WIDTH % 2 ≡ 0) }
+    requires room { (at ≤ length src.now) × (8 * at + length values.old * WIDTH ≤ 8 * length src.now) }
+    ensures { Pulled src.now (from at) result WIDTH values.new }
 {
-    let mask = two_masks(width);
-    let step = (width / 2) as usize;
+    let lanes = Lanes::new(WIDTH);
+    let count = values.len() / 4;
     let mut here = at;
-    let mut i: usize = 0;
-    while 4 <= values.len() - i {
-        set_four(values, i, four_of(load_four(src, here, width), width, mask));
-        here += step;
-        i += 4;
+    // by index: of what is written through `chunks_mut` a proof knows nothing
+    for k in 0..count {
+        set_four(values, 4 * k, lanes.four_of(load_four(src, here, WIDTH)));
+        here += (WIDTH / 2) as usize;
     }
-    here
+    Reader::new(here).pull_each(src, WIDTH, &mut values[4 * count..])
 }
 
 // Four numbers of `width` bits from the byte `at` on, as one: its first four bytes, and its last four over the end of those.
@@ -68,22 +49,35 @@ fn load_four(src: &[u8], at: usize, width: u32) -> u64
     (high << 32) | last
 }
 
-// The mask of `width` bits for each of two numbers, 32 bits apart.
-pub fn two_masks(width: u32) -> u64
-    requires { width ≤ 16 }
-    ensures { result ≡ two_masks width }
-{
-    low_bits(0xffff, width) * 0x1_0000_0001
+// A width of up to 16 bits, and the mask of so many bits for each of two numbers, 32 bits apart.
+#[derive(Clone, Copy)]
+pub struct Lanes {
+    pub width: u32,
+    pub mask: u64,
+    ghost narrow: { width ≤ 16 },
+    ghost masks: { mask ≡ two_masks width },
 }
 
-// The four values of `width` bits of a number, side by side, 16 bits to each, the first one lowest: the number is parted into two and two
-// values, 32 bits apart, and then each two into one and one.
-pub fn four_of(x: u64, width: u32, mask: u64) -> u64
-    requires { (width ≤ 16) × (x < 2 ^ (4 * width)) × (mask ≡ two_masks width) }
-    ensures { result ≡ side_by_side (split width 4 (bits (4 * width) x)) }
-{
-    let pairs = (x >> (2 * width)) | (low_bits(x, 2 * width) << 32);
-    ((pairs >> width) & mask) | ((pairs & mask) << 16)
+impl Lanes {
+    pub fn new(width: u32) -> Lanes
+        requires { width ≤ 16 }
+        ensures { result.width ≡ width }
+    {
+        Lanes {
+            width,
+            mask: low_bits(0xffff, width) * 0x1_0000_0001,
+        }
+    }
+
+    // The four values of `width` bits of a number, side by side, 16 bits to each, the first one lowest: the number is parted into two and
+    // two values, 32 bits apart, and then each two into one and one.
+    pub fn four_of(self, x: u64) -> u64
+        requires { x < 2 ^ (4 * self.width) }
+        ensures { result ≡ side_by_side (split self.width 4 (bits (4 * self.width) x)) }
+    {
+        let pairs = (x >> (2 * self.width)) | (low_bits(x, 2 * self.width) << 32);
+        ((pairs >> self.width) & self.mask) | ((pairs & self.mask) << 16)
+    }
 }
 
 // Four values that stand side by side, from the value `i` on.

@@ -4,6 +4,7 @@
 
 mod blocks; // blocks of groups
 mod groups; // four values at once
+mod load; // bytes loaded as words
 mod reader; // bits taken out of bytes
 mod unpacking; // the public operations
 

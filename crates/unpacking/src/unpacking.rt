@@ -3,7 +3,8 @@
 ghost use Rattle.std.specs.Prelude.{◌≡◌, length};
 ghost use Rattle.unpacking.specs.Unpacking.{unpacked, unpacked_out, number_at};
 
-use super::{blocks, groups, reader};
+use crate::reader::Reader;
+use crate::{blocks, groups};
 
 // All of `values` is filled with numbers of `width` bits each, from the byte `at` of `src` on, where there are so many.
 pub fn unpack(src: &[u8], at: usize, width: u32, values: &mut [u16]) -> bool
@@ -28,16 +29,10 @@ pub fn number_at(src: &[u8], at: usize, width: u32) -> Option<u64>
     }
     let first = at / 8;
     let skipped = (at % 8) as u32;
-    if src.len() < first + ((skipped + width + 7) / 8) as usize {
+    if src.len() < first + (skipped + width).div_ceil(8) as usize {
         return None;
     }
-    let start = reader::Reader {
-        at: first,
-        acc: 0,
-        have: 0,
-    };
-    let before = reader::pull(src, start, skipped);
-    let here = before.reader;
-    let found = reader::pull_wide(src, here, width);
+    let before = Reader::new(first).pull(src, skipped);
+    let found = before.reader.pull_wide(src, width);
     Some(found.value)
 }

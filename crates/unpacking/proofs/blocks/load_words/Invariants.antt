@@ -1,12 +1,8 @@
--- The words below `j` are loaded. Assumes nothing.
+-- The words of the fours before this one are loaded. Assumes nothing.
 use mathlib.Core.Path.{◌≡◌}
-use Prim.Native.Nat.{◌+◌, ◌*◌, ◌-◌, ◌%◌, ◌≤◌}
-use lib.ListN.{length}
+use Prim.Native.Nat.{◌+◌, ◌*◌}
 use Rattle.unpacking.proofs.Words as law
 use Rattle.unpacking.proofs.blocks.load_words.Given as goal
 
 abbrev pub invariant-loop-j : goal.invariant-loop-j
-invariant-loop-j l = law.Staged l.src l.first l.step (4 * l.width) (length l.initial.words) l.words l.j × (l.at ≡ l.first + l.j * l.step) × (l.j % 4 ≡ 0) × (l.j ≤ length l.initial.words)
-
-abbrev pub decreases-loop-j : goal.decreases-loop-j
-decreases-loop-j l = length l.initial.words - l.j
+invariant-loop-j l = law.Staged l.src l.first l.step (4 * l.width) 32 l.words (4 * l.j) × (l.at ≡ l.first + 4 * l.j * l.step)

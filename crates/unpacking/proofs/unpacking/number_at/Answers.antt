@@ -18,6 +18,6 @@ returns-then-src-first c = sym (answers.number_at-short _ _ _ (omega arith))
 pub returns : goal.returns
 returns c = let a = c.args in
     let e : a.at / 8 * 8 + a.at % 8 ≡ a.at = omega arith in
-    ap Some (reading.pulled-number (a.at / 8) (a.at % 8) (omega arith) c.pull-before.ensures c.pull_wide-found.ensures
+    ap Some (reading.pulled-number (a.at / 8) (a.at % 8) (omega arith) (rw c.new.ensures at c.pull-before.ensures) c.pull_wide-found.ensures
     ∙ ap (λ (k : ℕ). number (take a.width (drop k (fields 8 a.src.now)))) e)
     ∙ sym (answers.number_at-within a.at a.width a.src.now (omega arith) (omega arith))

@@ -31,12 +31,11 @@ pull_all-requires c = let a = c.args in
     (w, f.ensures.0.within, omega (arith, room))
 
 pub returns : goal.returns
-returns c = let f = c in
-    let s = f in
-    let a = s.args in
-    let e = sym s.has_room.ensures ∙ s.if-not-has_room.false in
+returns c = let a = c.args in
+    let done = c.take_blocks-done in
+    let e = sym c.has_room.ensures ∙ c.if-not-has_room.false in
     let all = fields 8 (drop a.at a.src.now) in
-    let read = reading.pulled-behind f.take_blocks-done.result _ f.take_blocks-done.ensures.0 c.pull_all.ensures in record {
+    let read = reading.pulled-behind done.result _ done.ensures.0 c.pull_all.ensures in record {
       value = sym e;
       values_after = reading.pulled-split all read (reading.from_start a.src.now a.at 0) ∙ ap (λ (k : ℕ). split a.width k all) (omega arith)
           ∙ sym (answers.unpacked_out-room_fits a.width a.src.now a.at a.values.now e);

@@ -2,9 +2,9 @@
 use Prim.Native.Nat.{◌-◌}
 use native.Mathlib.Omega.{arith}
 use Rattle.unpacking.proofs.Reading as reading
-use Rattle.unpacking.proofs.reader.pull.Goals as goal
+use Rattle.unpacking.proofs.reader.Reader.pull.Goals as goal
 
 pub returns : goal.returns
-returns c = let f = c.fill-filled in
+returns c = let taken = c.fill-at in
     let w = c.args.width in
-    reading.pulled-one w (f.result.have - w) (omega (arith, f.ensures.enough)) (omega (arith, f.ensures.small)) c.low_bits-value.ensures f.ensures
+    reading.pulled-one w (taken.result.have - w) (omega (arith, taken.ensures.enough)) _ c.low_bits.ensures taken.ensures

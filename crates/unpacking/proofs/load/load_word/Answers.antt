@@ -4,7 +4,7 @@ use native.Mathlib.Omega.{arith}
 use lib.ListN.{length, get_or}
 use Rattle.unpacking.specs.Reading.{Loaded}
 use Rattle.unpacking.proofs.Reading as reading
-use Rattle.unpacking.proofs.reader.load_word.Goals as goal
+use Rattle.unpacking.proofs.load.load_word.Goals as goal
 
 pub returns : goal.returns
 returns c = let a = c.args in

@@ -4,7 +4,7 @@ use Rattle.parts.specs.Parts.{code}
 use Rattle.phases.specs.declared.phase.Sent.{Sent}
 use Rattle.phases.specs.declared.phase.Sent.TheVariants as S
 use Rattle.device.specs.declared.device.Device.{Device}
-use Rattle.device.specs.declared.device.Answer.{Answer as Judged}
+use Rattle.device.specs.Judgement.{Answer as Judged}
 use Rattle.capi_device.specs.declared.steps.Stepped.{Stepped}
 
 -- a step as numbers: what was sent, and the refusal

@@ -33,8 +33,10 @@ pub extern "C" fn bb_judge(device: Device) -> u8
 pub extern "C" fn bb_step(device: Device, state: u8) -> Stepped
     ensures { result ≡ of_step (step_answer device state) }
 {
-    let answer = device.step(state);
-    of_sent(answer.device, answer.sent, answer.refusal)
+    match device.step(state) {
+        Ok(next) => of_sent(next.device, next.sent, 0),
+        Err(refusal) => of_sent(device, Sent::Nothing, refusal.into()),
+    }
 }
 
 fn of_sent(device: Device, sent: Sent, refusal: u8) -> Stepped

@@ -19,9 +19,8 @@ use Rattle.frame_reader.specs.Reading.{held_fields, found, read_table, read_refu
 use Rattle.return_reader.specs.Returns.{return_table, return_refusal, return_read}
 use Rattle.frames.specs.declared.told.Told.{Told}
 use Rattle.frames.specs.declared.told.Tail.{Tail}
-use Rattle.device.specs.Judgement.{judgement, step_refusals, refused_with}
+use Rattle.device.specs.Judgement.{Answer, judgement, step_refusals, refused_with}
 use Rattle.device.specs.declared.device.Device.{Device}
-use Rattle.device.specs.declared.device.Answer.{Answer}
 use Rattle.calls.specs.Calls.{fresh_refusal, run_table, run_refusal, returned as chain_returned, fault_refusal}
 use Rattle.calls.specs.History.{Call, fresh, run, fault, table_of, refusal_of, effect, after}
 use Rattle.model.specs.Set.{Set, Own, owned}

@@ -23,9 +23,8 @@ use Rattle.phases.specs.Phases.{phase_of, window_of}
 use Rattle.positions.specs.Positions.{length_in}
 use Rattle.watch.specs.Watch.{enabled}
 use Rattle.device.specs.Step.{single_step, slice_length}
-use Rattle.device.specs.Judgement.{fits, judgement, step_refusals, accepted_step, refused_with, step_answer}
+use Rattle.device.specs.Judgement.{Answer, fits, judgement, step_refusals, accepted_step, refused_with, step_answer}
 use Rattle.device.specs.declared.device.Device.{Device}
-use Rattle.device.specs.declared.device.Answer.{Answer}
 use Rattle.calls.specs.Chain.{blank}
 use Rattle.calls.specs.Calls.{room_for, run_devices, returned, run_table, run_room}
 use Rattle.calls.specs.History.{Call, fresh, run, table_of, refusal_of, effect, after, after_calls, states_given, answered, answers, Runs, Settles}

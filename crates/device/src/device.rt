@@ -4,7 +4,7 @@ ghost use Rattle.watch.specs.Watch.{watch_fits};
 ghost use Rattle.positions.specs.Positions.{position_fits};
 ghost use Rattle.device.specs.Step.{sending, collected, step_high, step, single_step, faulted, fresh_device};
 ghost use Rattle.tables.specs.Refusals.{first, carried};
-ghost use Rattle.device.specs.Judgement.{contents_fit, fits, judgement, step_refusals, refused_with, step_answer};
+ghost use Rattle.device.specs.Judgement.{contents_fit, fits, judgement, step_refusals, answered, step_answer};
 
 use parts::Command;
 use phases::{Phase, Place, Sent};
@@ -25,29 +25,13 @@ pub struct Stepped {
     pub sent: Sent,
 }
 
-// The refusal's number, 0 where the step was taken. A refused device comes back as it came in, and nothing is sent: that is what
-// `step_answer` says, so this is no Result, in whose error there would be no device.
-#[derive(Clone, Copy)]
-pub struct Answer {
-    pub refusal: u8,
-    pub device: Device,
-    pub sent: Sent,
-}
-
 impl Device {
-    // One line state.
-    pub fn step(self, state: u8) -> Answer
-        ensures { result ≡ step_answer self state }
+    // One line state. A refused device stays as it is, and sends nothing.
+    pub fn step(self, state: u8) -> Result<Stepped, Refusal>
+        ensures { answered self result ≡ step_answer self state }
     {
-        if let Err(refusal) = self.judge_step(state) {
-            return refused_with(self, refusal.into());
-        }
-        let Stepped { device, sent } = self.single_step(state);
-        Answer {
-            refusal: 0,
-            device,
-            sent,
-        }
+        self.judge_step(state)?;
+        Ok(self.single_step(state))
     }
 
     // The refusals of a step: its record's, and a line state over 3.
@@ -125,17 +109,6 @@ fn clocks_fit(registers: Registers) -> bool
     ensures { result ≡ (position_fits registers && watch_fits registers.watch) }
 {
     positions::position_fits(registers) && watch::watch_fits(registers.watch)
-}
-
-// A refused device comes back as it came in.
-fn refused_with(device: Device, refusal: u8) -> Answer
-    ensures { result ≡ refused_with device refusal }
-{
-    Answer {
-        refusal,
-        device,
-        sent: Sent::Nothing,
-    }
 }
 
 // High load.

@@ -4,4 +4,4 @@
 mod device;
 mod judgement;
 
-pub use device::{Answer, Device, Stepped, judge};
+pub use device::{Device, Stepped, judge};

@@ -47,15 +47,23 @@ pub fn step(fed: Fed, state: u8) -> Fed {
     if fed.refusal != 0 {
         return fed;
     }
-    let answer = fed.device.step(state);
-    let (states, count) = match answer.sent {
+    let next = match fed.device.step(state) {
+        Ok(next) => next,
+        Err(refusal) => {
+            return Fed {
+                refusal: refusal.into(),
+                ..fed
+            };
+        }
+    };
+    let (states, count) = match next.sent {
         Sent::Nothing => (0, fed.count),
         Sent::One(_) => (1, fed.count),
         Sent::Header { count, .. } => (24, count),
     };
     Fed {
-        device: answer.device,
-        refusal: answer.refusal,
+        device: next.device,
+        refusal: 0,
         sent: fed.sent.saturating_add(states),
         count,
     }

@@ -2,4 +2,3 @@
 pub mod Laws
 pub mod Rows
 pub mod Frames
-pub mod Cases

@@ -1,9 +1,8 @@
 -- The lines of the bench program, as the bytes of their text (ASCII), and a text in a lent buffer. docs/RULES.md, "The bench program".
-use Rattle.std.specs.Prelude.{ℕ, zero, suc, ◌+◌, ◌/◌, ◌%◌, cond, List, [], ◌∷◌, ◌++◌, ltb}
+use Rattle.std.specs.Prelude.{ℕ, zero, suc, ◌+◌, ◌/◌, ◌%◌, cond, List, [], ◌∷◌, ◌++◌, ltb, Result, Ok, Err}
 use Rattle.parts.specs.declared.command.Command.{Command}
 use Rattle.parts.specs.declared.command.Command.TheVariants.{Individual, Calibration, Global, Configuration}
 use Rattle.frame_reader.specs.declared.answer.Read.{Read}
-use Rattle.frame_reader.specs.declared.answer.Read.TheVariants as R
 
 -- a number in decimal, in at most so many digits
 unfoldable pub digits_in : ℕ → ℕ → List ℕ
@@ -65,12 +64,10 @@ part_line part devices mux =
     labelled part_text part ++ (labelled devices_text devices ++ (labelled multiplexed_text mux ++ newline))
 
 -- how a frame's line ends, by what the reader answers: accepted, or refused 4
-abbrev pub ending : Read → List ℕ
-ending (R.Refused number) = labelled (32 ∷ refused_text) number ++ newline
-ending (R.Byte b) = accepted_text
-ending (R.Bytes n) = accepted_text
-ending (R.Values n) = accepted_text
+abbrev pub ending : Result Read ℕ → List ℕ
+ending (Err number) = labelled (32 ∷ refused_text) number ++ newline
+ending (Ok read) = accepted_text
 
 -- a frame's line, with the bits that it should have: configuration bits 48 accepted
-abbrev pub frame_line : Command → ℕ → Read → List ℕ
+abbrev pub frame_line : Command → ℕ → Result Read ℕ → List ℕ
 frame_line c bits answer = labelled (name_text c) bits ++ ending answer

@@ -1,7 +1,7 @@
 -- The whole report: what the bench program writes for what its arguments ask and for its standard input, which is four frames without
 -- tails back to back in restore order. Each frame is what stands at the front of the input, at the length that it should have, and is
 -- read by the frame reader. docs/RULES.md, "The bench program".
-use Rattle.std.specs.Prelude.{ℕ, ◌+◌, Bool, true, false, cond, List, [], ◌∷◌, ◌++◌, Result, Ok, Err, eqb, length, take, drop}
+use Rattle.std.specs.Prelude.{ℕ, ◌+◌, Bool, true, false, cond, List, [], ◌∷◌, ◌++◌, Option, Some, None, Result, Ok, Err, eqb, length, take, drop}
 use Rattle.bits.specs.Bits.{bytes_for}
 use Rattle.parts.specs.Parts.{multiplex, restore_order}
 use Rattle.parts.specs.declared.command.Command.{Command}
@@ -27,18 +27,23 @@ abbrev pub behind : Told → List ℕ → List ℕ
 behind t input = drop (bytes_for (frame_size t)) input
 
 -- what the reader answers for it, with room for the bytes and the values of 512 devices of any part
-unfoldable pub answer_of : Told → List ℕ → Read
+unfoldable pub answer_of : Told → List ℕ → Result Read ℕ
 answer_of t input = read t no_tail (front_of t input) 1536 24576
 
 -- the reader refused the frame
-abbrev pub is_refused : Read → Bool
-is_refused (R.Refused number) = true
-is_refused (R.Byte b) = false
-is_refused (R.Bytes n) = false
-is_refused (R.Values n) = false
+abbrev pub is_refused : Result Read ℕ → Bool
+is_refused (Err number) = true
+is_refused (Ok read) = false
+
+-- the byte of a global or a configuration frame
+abbrev pub byte_in : Result Read ℕ → Option ℕ
+byte_in (Ok (R.Byte b)) = Some b
+byte_in (Ok (R.Bytes n)) = None
+byte_in (Ok (R.Values n)) = None
+byte_in (Err number) = None
 
 -- its line
-abbrev pub line_of : Told → Read → List ℕ
+abbrev pub line_of : Told → Result Read ℕ → List ℕ
 line_of t answer = frame_line t.command (frame_size t) answer
 
 -- the frames behind the configuration frame, in restore order
@@ -59,14 +64,14 @@ abbrev pub configuration_of : ℕ → ℕ → Told
 configuration_of part devices = told_of part devices Configuration 0
 
 -- the lines of all four frames, by what the reader answers for the configuration frame: its byte says what the others should be
-unfoldable pub all_lines : ℕ → ℕ → List ℕ → Read → List ℕ
-all_lines part devices input (R.Byte b) =
+unfoldable pub all_lines : ℕ → ℕ → List ℕ → Result Read ℕ → List ℕ
+all_lines part devices input (Ok (R.Byte b)) =
     part_line part devices (multiplex b)
-    ++ (line_of (configuration_of part devices) (R.Byte b)
+    ++ (line_of (configuration_of part devices) (Ok (R.Byte b))
     ++ lines_of part devices b later_commands (behind (configuration_of part devices) input))
-all_lines part devices input (R.Bytes n) = line_of (configuration_of part devices) (R.Bytes n)
-all_lines part devices input (R.Values n) = line_of (configuration_of part devices) (R.Values n)
-all_lines part devices input (R.Refused number) = line_of (configuration_of part devices) (R.Refused number)
+all_lines part devices input (Ok (R.Bytes n)) = line_of (configuration_of part devices) (Ok (R.Bytes n))
+all_lines part devices input (Ok (R.Values n)) = line_of (configuration_of part devices) (Ok (R.Values n))
+all_lines part devices input (Err number) = line_of (configuration_of part devices) (Err number)
 
 -- the report
 unfoldable pub report_of : Result Chain ℕ → List ℕ → List ℕ

@@ -1,12 +1,14 @@
 // The lines. Each takes at most 96 bytes.
 ghost use Rattle.std.specs.Prelude.{◌≡◌, ◌+◌, ◌≤◌, ◌++◌};
 ghost use Rattle.arrayvec.specs.ArrayVec.{array_vec_len};
+ghost use Rattle.tables.specs.Refusals.{number_of, numbered};
 ghost use Rattle.report.specs.Lines.{refused_line, trailing_line, part_line, ending, frame_line};
 
 use crate::text::{Lines, put, put_labelled};
 use arguments::Chain;
 use frame_reader::Read;
 use parts::Command;
+use tables::Refusal;
 
 // The line of the chain.
 pub fn put_part(lines: &mut Lines, chain: Chain, multiplexed: u8)
@@ -21,9 +23,9 @@ pub fn put_part(lines: &mut Lines, chain: Chain, multiplexed: u8)
 }
 
 // A frame's line.
-pub fn put_frame(lines: &mut Lines, command: Command, bits: usize, answer: Read)
+pub fn put_frame(lines: &mut Lines, command: Command, bits: usize, answer: Result<Read, Refusal>)
     requires { array_vec_len lines.old + 96 ≤ 640 }
-    ensures text { lines.new.items ≡ lines.old.items ++ frame_line command bits answer }
+    ensures text { lines.new.items ≡ lines.old.items ++ frame_line command bits (numbered answer) }
     ensures room { array_vec_len lines.new ≤ array_vec_len lines.old + 96 }
 {
     let name = match command {
@@ -37,24 +39,26 @@ pub fn put_frame(lines: &mut Lines, command: Command, bits: usize, answer: Read)
 }
 
 // How it ends.
-fn put_ending(lines: &mut Lines, answer: Read)
+fn put_ending(lines: &mut Lines, answer: Result<Read, Refusal>)
     requires { array_vec_len lines.old + 40 ≤ 640 }
-    ensures text { lines.new.items ≡ lines.old.items ++ ending answer }
+    ensures text { lines.new.items ≡ lines.old.items ++ ending (numbered answer) }
     ensures room { array_vec_len lines.new ≤ array_vec_len lines.old + 40 }
 {
-    let Read::Refused(number) = answer else {
-        return put(lines, b" accepted\n");
-    };
-    put_labelled(lines, b" refused ", u64::from(number));
-    put(lines, b"\n");
+    match answer {
+        Ok(_) => put(lines, b" accepted\n"),
+        Err(refusal) => {
+            put_labelled(lines, b" refused ", u64::from(u8::from(refusal)));
+            put(lines, b"\n");
+        }
+    }
 }
 
 // The line of refused arguments.
-pub fn put_refused(lines: &mut Lines, number: u8)
+pub fn put_refused(lines: &mut Lines, refusal: Refusal)
     requires { array_vec_len lines.old + 96 ≤ 640 }
-    ensures { lines.new.items ≡ lines.old.items ++ refused_line number }
+    ensures { lines.new.items ≡ lines.old.items ++ refused_line (number_of refusal) }
 {
-    put_labelled(lines, b"refused ", u64::from(number));
+    put_labelled(lines, b"refused ", u64::from(u8::from(refusal)));
     put(lines, b"\n");
 }
 

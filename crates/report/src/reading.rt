@@ -1,9 +1,11 @@
 // One frame of the input.
 ghost use Rattle.std.specs.Prelude.{◌≡◌, ◌<◌, take, drop};
-ghost use Rattle.report.specs.Report.{frame_size, answer_of, is_refused};
+ghost use Rattle.tables.specs.Refusals.{numbered};
+ghost use Rattle.report.specs.Report.{frame_size, answer_of, byte_in};
 
 use frame_reader::Read;
 use frames::{Tail, Told};
+use tables::Refusal;
 
 // The bits that a frame should have.
 pub fn frame_size(told: Told) -> usize
@@ -16,9 +18,9 @@ pub fn frame_size(told: Told) -> usize
 }
 
 // What the reader answers for the frame at the front of the input. What it reads goes to memory that is not kept.
-pub fn read_front(told: Told, input: &[u8]) -> Read
+pub fn read_front(told: Told, input: &[u8]) -> Result<Read, Refusal>
     requires { told.devices < 65536 }
-    ensures { result ≡ answer_of told input.now }
+    ensures { numbered result ≡ answer_of told input.now }
 {
     let tail = Tail {
         number: 0,
@@ -28,10 +30,14 @@ pub fn read_front(told: Told, input: &[u8]) -> Read
     frame_reader::read(told, tail, frame, &mut [0; 1536], &mut [0; 24576])
 }
 
-pub fn is_refused(answer: Read) -> bool
-    ensures { result ≡ is_refused answer }
+// The byte that a frame holds.
+pub fn byte_in(answer: Result<Read, Refusal>) -> Option<u8>
+    ensures { result ≡ byte_in (numbered answer) }
 {
-    matches!(answer, Read::Refused(_))
+    match answer {
+        Ok(Read::Byte(byte)) => Some(byte),
+        _ => None,
+    }
 }
 
 // The first n bytes, or all where there are fewer.

@@ -7,10 +7,9 @@ ghost use Rattle.frames.specs.Frames.{told_of};
 ghost use Rattle.report.specs.Report.{lines_of, later_commands, all_lines, configuration_of, answer_of, report_of};
 
 use crate::lines::{put_frame, put_part, put_refused, put_trailing};
-use crate::reading::{back, frame_size, is_refused, read_front};
+use crate::reading::{back, byte_in, frame_size, read_front};
 use crate::text::Lines;
 use arguments::Chain;
-use frame_reader::Read;
 use frames::Told;
 use parts::Command;
 use tables::Refusal;
@@ -35,7 +34,7 @@ fn gathered(asked: Result<Chain, Refusal>, input: &[u8]) -> Lines
     let mut lines = Lines::new();
     match asked {
         Ok(chain) => put_all(&mut lines, chain, input),
-        Err(refusal) => put_refused(&mut lines, u8::from(refusal)),
+        Err(refusal) => put_refused(&mut lines, refusal),
     }
     lines
 }
@@ -49,7 +48,7 @@ fn put_all(lines: &mut Lines, chain: Chain, input: &[u8])
     let told = told_of(chain, Command::Configuration, 0);
     let bits = frame_size(told);
     let answer = read_front(told, input);
-    let Read::Byte(configuration) = answer else {
+    let Some(configuration) = byte_in(answer) else {
         return put_frame(lines, Command::Configuration, bits, answer);
     };
     put_part(lines, chain, configuration % 2);
@@ -68,7 +67,7 @@ fn put_rest(lines: &mut Lines, chain: Chain, configuration: u8, input: &[u8])
         let bits = frame_size(told);
         let answer = read_front(told, rest);
         put_frame(lines, command, bits, answer);
-        if is_refused(answer) {
+        if answer.is_err() {
             return;
         }
         rest = back(rest, bits.div_ceil(8));

@@ -4,8 +4,8 @@ use Rattle.report.specs.Report.{frame_size, answer_of}
 use Rattle.report.proofs.Restoring as laws
 use Rattle.report.proofs.whole.put_rest.Goals as goal
 
-pub returns-then-is_refused : goal.returns-then-is_refused
-returns-then-is_refused c = let l = c.loop-command in
+pub returns-then-is_err : goal.returns-then-is_err
+returns-then-is_err c = let l = c.loop-command in
     laws.last-put c.args.chain.part c.args.chain.devices c.args.configuration c.args.lines.now.items _ l.lines.items
     (record {
       early = omega arith;
@@ -15,7 +15,7 @@ returns-then-is_refused c = let l = c.loop-command in
     })
     l.invariant.text
     c.put_frame.ensures.text
-    (sym c.is_refused.ensures ∙ c.if-is_refused.true)
+    (laws.refused-err c.read_front-answer.result ∙ sym c.is_err.ensures.value ∙ c.if-is_err.true)
 
 pub loop-command-preserved : goal.loop-command-preserved
 loop-command-preserved c = let l = c.loop-command in
@@ -34,7 +34,7 @@ loop-command-preserved c = let l = c.loop-command in
           })
           l.invariant.text
           c.put_frame.ensures.text
-          (sym c.is_refused.ensures ∙ c.if-is_refused.false);
+          (laws.refused-err c.read_front-answer.result ∙ sym c.is_err.ensures.value ∙ c.if-is_err.false);
       room = omega (arith, c.put_frame.ensures.room);
     }
 

@@ -1,15 +1,19 @@
 -- What each definition of the intake does with the state at index i: at the end, at a state that stops it, and at one that it takes. Each
 -- is the definition's own clause, for the rest of a list from i on. Assumes nothing.
-use mathlib.Core.Path.{◌≡◌, refl, sym}
-use mathlib.Core.Bool.{true, false}
-use mathlib.Core.List.{List, ◌∷◌}
+use mathlib.Core.Path.{◌≡◌, refl, sym, subst, ◌∙◌}
+use mathlib.Core.Bool.{Bool, true, false}
+use mathlib.Core.List.{List, [], ◌∷◌}
 use Prim.Native.Nat.{ℕ, zero, suc, ◌+◌, ◌-◌, ◌%◌, ◌<◌, ◌≤◌}
 use native.Mathlib.Omega.{arith}
-use native.Mathlib.Nat.{add_assoc}
+use native.Mathlib.Nat.{add_assoc, add-zero}
 use native.Mathlib.Numerals.{add-one}
 use lib.ListN.{length, get_or, drop, drop_of_length-le}
+use Rattle.std.specs.List.{position, position_or_len}
+use Rattle.std.specs.Option.{unwrap_or}
 use lib.Seq.{drop-cons}
-use borrow.Author.Tests.{lt-ltb, le-ltb}
+use borrow.Author.Tests.{lt-ltb, le-ltb, ltb-false}
+use Rattle.std.proofs.lemmas.List.Sums.{prefix_len-le-length}
+use Rattle.std.specs.Prelude.{ltb, nat_lt, not}
 use Rattle.phases.specs.Phases.{pushed, in_header, headed}
 use Rattle.phases.specs.declared.phase.Phase.{Phase}
 use Rattle.phases.specs.declared.phase.Sent.TheVariants.{Nothing}
@@ -39,6 +43,9 @@ pub headed-on : (p : Phase) (ss : List ℕ) (i k : ℕ) → i < length ss → in
 unfolding headed_all
 headed-on p ss i k h o l = rw (drop-on ss i h, o, le-ltb (get_or ss i 0) 2 l) refl
 
+-- the four, for the code that goes state by state
+pub ruleset headed_clauses = (headed-end, headed-out, headed-low, headed-on)
+
 -- ---- high states
 
 pub highs-end : (ss : List ℕ) (i k : ℕ) → length ss ≤ i → highs_end (drop i ss) k ≡ k
@@ -53,17 +60,46 @@ pub highs-on : (ss : List ℕ) (i k : ℕ) → i < length ss → 2 ≤ get_or ss
 unfolding highs_end
 highs-on ss i k h l = rw (drop-on ss i h, le-ltb (get_or ss i 0) 2 l) refl
 
--- the three, for the code that looks for the end
-pub ruleset highs_clauses = (highs-end, highs-low, highs-on)
-
 -- m states behind i, a high one moves the end on
 pub highs-further : (ss : List ℕ) (i m : ℕ) → i + m < length ss → 2 ≤ get_or ss (i + m) 0
     → highs_end (drop (i + m) ss) (i + m) ≡ highs_end (drop (i + (m + 1)) ss) (i + (m + 1))
 highs-further ss i m h l = rw (sym (add_assoc i m 1)) (highs-on ss (i + m) (i + m) h l)
 
--- the same place, by another name
-pub highs-same : (ss : List ℕ) (e i m n : ℕ) → m ≡ n → e ≡ highs_end (drop (i + m) ss) (i + m) → e ≡ highs_end (drop (i + n) ss) (i + n)
-highs-same ss e i m n s h = rw (sym s) h
+-- high states up to a place are passed
+pub highs_passed : (ss : List ℕ) (i e : ℕ) → i ≤ e → ((k : ℕ) → i ≤ k → k < e → (k < length ss) × (2 ≤ get_or ss k 0))
+    → highs_end (drop i ss) i ≡ highs_end (drop e ss) e
+highs_passed ss i e l h = subst (λ (k : ℕ). highs_end (drop i ss) i ≡ highs_end (drop k ss) k) there (go (e - i) (omega arith))
+  where
+    there : i + (e - i) ≡ e
+    there = omega arith
+
+    go : (n : ℕ) → i + n ≤ e → highs_end (drop i ss) i ≡ highs_end (drop (i + n) ss) (i + n)
+    go zero b = rw add-zero refl
+    go (suc n) b =
+        let w = h (i + n) (omega arith) (omega arith) in
+        let more : n + 1 ≡ suc n = omega arith in
+        subst (λ (k : ℕ). highs_end (drop i ss) i ≡ highs_end (drop (i + k) ss) (i + k)) more (go n (omega arith) ∙ highs-further ss i n w.0 w.1)
+
+-- they end at the first low state, or at the end
+highs_at : (ss : List ℕ) (i : ℕ) → i + position_or_len (λ s. ltb s 2) ss ≡ highs_end ss i
+unfolding highs_end
+highs_at [] i = add-zero i
+highs_at (s ∷ ss) i = go (ltb s 2) refl (highs_at ss (i + 1))
+  where
+    go : (b : Bool) → ltb s 2 ≡ b → (i + 1) + position_or_len (λ x. ltb x 2) ss ≡ highs_end ss (i + 1)
+        → i + position_or_len (λ x. ltb x 2) (s ∷ ss) ≡ highs_end (s ∷ ss) i
+    go true e h = rw (e, add-zero) refl
+    go false e h = rw e (omega (arith, h))
+
+pub highs_first : (ss : List ℕ) (i : ℕ) → i + unwrap_or (position (λ s. nat_lt s 2) ss) (length ss) ≡ highs_end ss i
+highs_first ss i = go (nat_lt (position_or_len (λ s. nat_lt s 2) ss) (length ss)) refl
+  where
+    go : (b : Bool) → nat_lt (position_or_len (λ s. nat_lt s 2) ss) (length ss) ≡ b
+        → i + unwrap_or (position (λ s. nat_lt s 2) ss) (length ss) ≡ highs_end ss i
+    go true e = rw e (highs_at ss i)
+    go false e =
+        let all : length ss ≡ position_or_len (λ s. nat_lt s 2) ss = omega (arith, ltb-false _ _ e, prefix_len-le-length (λ s. not (nat_lt s 2)) ss) in
+        rw (e, all) (highs_at ss i)
 
 -- ---- a field
 

@@ -1,5 +1,6 @@
 -- Four states at once, by their word under the mask. Assumes nothing.
-use mathlib.Core.Path.{◌≡◌, sym}
+use mathlib.Core.Path.{◌≡◌}
+use Rattle.std.specs.Prelude.{Some, None}
 use Prim.Native.Nat.{ℕ, ◌-◌, ◌*◌, ◌/◌, ◌%◌, ◌≤◌}
 use native.Mathlib.Omega.{arith}
 use lib.Bits.{bit_and}
@@ -13,11 +14,11 @@ module _ (a b c d : ℕ) (la : Fits w8 a) (lb : Fits w8 b) (lc : Fits w8 c) (ld 
   high : bit_and (word_of a b c d) 0xfefefefe ≡ 0x02020202 → Halves a b c d
   high e = halves-one a b c d la.fits lb.fits lc.fits ld.fits e
 
-  pub bits_high : bit_and (word_of a b c d) 0xfefefefe ≡ 0x02020202 → four_bits a b c d ≡ (word_of a b c d - 0x02020202) * 0x08040201 / 0x1000000 % 16
-  bits_high e = sym (four-high a b c d (high e))
+  pub bits_high : bit_and (word_of a b c d) 0xfefefefe ≡ 0x02020202 → four_bits a b c d ≡ Some ((word_of a b c d - 0x02020202) * 0x08040201 / 0x1000000 % 16)
+  bits_high e = four-high a b c d (high e)
 
-  pub bits_other : (bit_and (word_of a b c d) 0xfefefefe ≡ 0x02020202 → ⊥) → four_bits a b c d ≡ 16
-  bits_other h = sym (four-other a b c d (λ t. h (halves-word a b c d la.fits lb.fits lc.fits ld.fits t)))
+  pub bits_other : (bit_and (word_of a b c d) 0xfefefefe ≡ 0x02020202 → ⊥) → four_bits a b c d ≡ None
+  bits_other h = four-other a b c d (λ t. h (halves-word a b c d la.fits lb.fits lc.fits ld.fits t))
 
   pub word_least : bit_and (word_of a b c d) 0xfefefefe ≡ 0x02020202 → 0x02020202 ≤ word_of a b c d
   word_least e = let h = high e in omega (arith, h.first, h.second, h.third, h.fourth)

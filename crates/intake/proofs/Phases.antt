@@ -30,7 +30,7 @@ use Rattle.device.specs.declared.device.Stepped.{Stepped}
 use Rattle.intake.specs.Intake.{stopped, dated_step, step_in, high_taken, unless_sent, headed_all, highs_end, full}
 use Rattle.intake.specs.declared.taken.Taken.{Taken}
 use Rattle.intake.specs.declared.highs.Headed.{Headed}
-use Rattle.intake.proofs.Clauses.{drop-on}
+use Rattle.intake.proofs.Clauses.{drop-on, high_end}
 
 -- ---- the step, by the phase
 
@@ -63,7 +63,8 @@ high-low-at d ss i h l =
     ap (λ (rest : List ℕ). high_taken d rest i) (drop-on ss i h) ∙ high-low d (get_or ss i 0) (drop (i + 1) ss) i (lt-ltb (get_or ss i 0) 2 l)
 
 -- it, for the code that stops at a low state
-pub ruleset low_clauses = high-low-at
+-- at a low state, or at the end
+pub ruleset stop_clauses = (high-low-at, high_end)
 
 pub high-cons : (d : Device) (s : ℕ) (rest : List ℕ) (i : ℕ) → ltb s 2 ≡ false → high_taken d (s ∷ rest) i ≡ after (step_in (i + 1) d s) rest i
 unfolding high_taken
@@ -186,6 +187,9 @@ high-passing r ss i h l =
 -- the registers after one bit more than the slice has
 abbrev pub overfilled : Registers → Command → ℕ → ℕ → Registers
 overfilled r c t s = took r (t / field_width (part_of r.part) c) (s % 2) (field_limit (part_of r.part) c)
+
+-- a passing device, at any state or at the end
+pub ruleset passing_clauses = (high-low-at, high_end, high-passing)
 
 pub high-over : (r : Registers) (c : Command) (n t : ℕ) (ss : List ℕ) (i : ℕ) → slice_length r c ≤ t → i < length ss → 2 ≤ get_or ss i 0
     → high_taken (at r (Slice c n t)) (drop i ss) i ≡ full r (overfilled r c t (get_or ss i 0)).slice c n (i + 1)

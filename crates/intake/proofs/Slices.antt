@@ -3,14 +3,14 @@
 use mathlib.Core.Path.{◌≡◌, refl, sym, ap, ◌∙◌, subst}
 use mathlib.Core.Bool.{Bool, true, false, cond}
 use mathlib.Core.List.{List, [], ◌∷◌}
-use Prim.Native.Nat.{ℕ, zero, suc, ◌+◌, ◌-◌, ◌*◌, ◌/◌, ◌%◌, ◌^◌, ◌<◌, ◌≤◌}
+use Prim.Native.Nat.{ℕ, zero, suc, ◌+◌, ◌-◌, ◌*◌, ◌/◌, ◌%◌, ◌^◌, ◌<◌, ◌≤◌, min}
 use native.Mathlib.Nat.{div-add-mod, div-add-mod', div-mul-le_self, div-eq_of_lt-le, div-lt_iff_lt-mul, mod-lt, mod-mod_of_dvd, dvd_of_mod-eq-zero, mul-add-mod_self_left, mul-mod_right, mul_assoc, mul-le-mul_right, le_trans}
 use native.Mathlib.Omega.{arith}
-use lib.Dec.{eqb, ltb, leb, lit<}
+use lib.Dec.{eqb, ltb, lit<}
 use lib.Pow.{pow-add}
 use lib.ListN.{length, get_or, set, drop}
 use lib.Seq.{get_or-set_same, set-set}
-use borrow.Author.Tests.{eqb-true, eqb-false, lt-ltb, le-ltb, ltb-true, ltb-false, leb-true, leb-false}
+use borrow.Author.Tests.{eqb-true, eqb-false, lt-ltb, le-ltb, ltb-true, ltb-false}
 use Rattle.parts.specs.Parts.{part_of, multiplex, field_width, field_limit, slice_fields}
 use Rattle.parts.proofs.Laws.{usable}
 use Rattle.parts.specs.declared.command.Command.{Command}
@@ -18,12 +18,11 @@ use Rattle.phases.specs.Phases.{pushed}
 use Rattle.registers.specs.Held.{with_slice, fault, raised}
 use Rattle.storing.specs.Stored.{stored}
 use Rattle.device.specs.Step.{at, moved, sending, slice_length}
-use Rattle.tables.proofs.Booleans.{cond_both}
 use Rattle.parts.proofs.Rows.{field-width-pos, field-narrow, fields_le, field_of}
 use Rattle.phases.specs.declared.phase.Phase.TheVariants.{Slice, Passing}
 use Rattle.phases.specs.declared.phase.Sent.TheVariants.{Header}
 use Rattle.registers.specs.declared.registers.Registers.{Registers}
-use Rattle.intake.specs.Intake.{stopped, dated_step, high_taken, filled, field_after, lack_after, least, collecting, full}
+use Rattle.intake.specs.Intake.{stopped, dated_step, high_taken, filled, field_after, lack_after, collecting, full}
 use Rattle.intake.specs.declared.taken.Taken.{Taken}
 use Rattle.intake.specs.declared.field.Filled.{Filled}
 use Rattle.intake.proofs.Clauses.{drop-on, filled_none, filled-end, filled-low, filled_on}
@@ -240,15 +239,6 @@ module _ (r : Registers) (c : Command) (n : ℕ) (ss : List ℕ) where
 
 -- ---- one turn of the loop over fields
 
-pub least-left : (a b : ℕ) → least a b ≤ a
-least-left a b = cond_both (λ (x : ℕ). x ≤ a) (leb a b) a b (λ _. omega arith) (λ h. omega (arith, leb-false a b h))
-
-pub least-right : (a b : ℕ) → least a b ≤ b
-least-right a b = cond_both (λ (x : ℕ). x ≤ b) (leb a b) a b (λ h. omega (arith, leb-true a b h)) (λ _. omega arith)
-
-least-pos : (a b : ℕ) → 0 < a → 0 < b → 0 < least a b
-least-pos a b p q = cond_both (λ (x : ℕ). 0 < x) (leb a b) a b (λ _. p) (λ _. q)
-
 -- a slice is no longer than 48 fields of 14 bits
 pub slice-le : (r : Registers) (c : Command) → slice_length r c ≤ 672
 slice-le r c =
@@ -257,7 +247,7 @@ slice-le r c =
 
 -- the bits that field t / w lacks, or as many as there are states
 abbrev pub lacking : ℕ → ℕ → ℕ → ℕ
-lacking w t room = least (w - t % w) room
+lacking w t room = min (w - t % w) room
 
 pub record FieldTaken (r : Registers) (c : Command) (n : ℕ) (ss sl : List ℕ) (t i w m : ℕ) (f : Filled) : Type 0 where
   pub same : high_taken (collecting r sl c n t) (drop i ss) i ≡ goes_on r c n ss (set sl (t / w) (f.value % m)) (t + (f.at - i)) f.at
@@ -275,10 +265,10 @@ exactly r c n ss sl t i p l h g = at_least (lacking w t (length ss - i)) refl wh
   at_least : (b : ℕ) → lacking w t (length ss - i) ≡ b → FieldTaken r c n ss sl t i w (field_limit (part_of r.part) c) (filled (get_or sl (t / w) 0) b (drop i ss) i)
   at_least zero e =
       let m = mod-lt t (field-width-pos (part_of r.part) (usable r.part) c) in
-      absurd (omega (arith, least-pos (w - t % w) (length ss - i) (omega arith) (omega arith)))
+      absurd (omega arith)
   at_least (suc b) e =
       record {
-        same = field-taken r c n ss (suc b) sl t i p l h g (omega arith) (omega (arith, least-left (w - t % w) (length ss - i)));
+        same = field-taken r c n ss (suc b) sl t i p l h g (omega arith) (omega arith);
         more =
             rw (filled_on (get_or sl (t / w) 0) b ss i h g)
             (omega (arith, filled-ge (pushed (get_or sl (t / w) 0) (get_or ss i 0 % 2) 65536) b (drop (i + 1) ss) (i + 1)));
@@ -286,10 +276,9 @@ exactly r c n ss sl t i p l h g = at_least (lacking w t (length ss - i)) refl wh
             omega (
               arith,
               filled-le (get_or sl (t / w) 0) (suc b) (drop i ss) i,
-              least-left (w - t % w) (length ss - i),
               field-narrow (part_of r.part) (usable r.part) c,
             );
-        own = omega (arith, filled-le (get_or sl (t / w) 0) (suc b) (drop i ss) i, least-left (w - t % w) (length ss - i));
+        own = omega (arith, filled-le (get_or sl (t / w) 0) (suc b) (drop i ss) i);
       }
 
 -- the same, as the code has the width, the limit and the field

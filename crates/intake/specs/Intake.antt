@@ -1,6 +1,6 @@
 -- Inside: one device takes as many of the high states at hand as it can at once: until it sends, a low state or the end. Below it, what the
 -- loops do: they keep the phase or one field of the slice, and no record.
-use Rattle.std.specs.Prelude.{ℕ, zero, suc, ◌+◌, ◌%◌, cond, List, [], ◌∷◌, eqb, ltb, leb}
+use Rattle.std.specs.Prelude.{ℕ, zero, suc, ◌+◌, ◌%◌, cond, List, [], ◌∷◌, eqb, ltb}
 use Rattle.parts.specs.declared.command.Command.{Command}
 use Rattle.phases.specs.Phases.{place_of, pushed, in_header, headed}
 use Rattle.registers.specs.Held.{with_slice, fault, raised}
@@ -100,10 +100,6 @@ field_after k left = cond (eqb left 0) (k + 1) k
 
 abbrev pub lack_after : ℕ → ℕ → ℕ
 lack_after width left = cond (eqb left 0) width left
-
--- the smaller of two numbers
-abbrev pub least : ℕ → ℕ → ℕ
-least a b = cond (leb a b) a b
 
 -- within a slice, whose fields so far are sl; and once it is full
 abbrev pub collecting : Registers → List ℕ → Command → ℕ → ℕ → Device

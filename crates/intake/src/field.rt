@@ -1,5 +1,5 @@
 // A field of a slice takes high states: four at a time, moved together as one word, and the others one by one.
-ghost use Rattle.std.specs.Prelude.{◌≡◌, ◌+◌, ◌-◌, ◌≤◌, length, get_or, drop};
+ghost use Rattle.std.specs.Prelude.{◌≡◌, ◌-◌, ◌<◌, ◌≤◌, IfSome, length, get_or, drop};
 ghost use Rattle.intake.specs.Intake.{filled};
 ghost use Rattle.intake.specs.Words.{four_bits};
 
@@ -15,20 +15,16 @@ pub fn fill(value: u16, states: &[u8], from: usize, end: usize) -> Filled
     requires { (from ≤ end) × (end ≤ length states.now) }
     ensures { result ≡ filled value (end - from) (drop from states.now) from }
 {
-    let mut v = value;
-    let mut i = from;
-    while i < end {
-        if end - i < 4 {
-            return fill_each(v, states, i, end);
-        }
-        let bits = four_bits(states, i);
-        if bits >= 16 {
-            return fill_each(v, states, i, end);
-        }
-        v = (((v as u32) * 16 + bits) % 65536) as u16;
-        i += 4;
+    let mut value = value;
+    let mut at = from;
+    for four in states[from..end].chunks_exact(4) {
+        let Some(bits) = four_bits(four) else {
+            break;
+        };
+        value = ((u32::from(value) * 16 + bits) % 65536) as u16;
+        at += 4;
     }
-    Filled { value: v, at: i }
+    fill_each(value, states, at, end)
 }
 
 // One by one.
@@ -37,33 +33,32 @@ fn fill_each(value: u16, states: &[u8], from: usize, end: usize) -> Filled
     requires { (from ≤ end) × (end ≤ length states.now) }
     ensures { result ≡ filled value (end - from) (drop from states.now) from }
 {
-    let mut v = value;
-    let mut i = from;
-    while i < end {
-        let s = states[i];
-        if s < 2 {
-            return Filled { value: v, at: i };
+    let mut value = value;
+    for at in from..end {
+        let state = states[at];
+        if state < 2 {
+            return Filled { value, at };
         }
-        v = (((v as u32) * 2 + ((s % 2) as u32)) % 65536) as u16;
-        i += 1;
+        value = ((u32::from(value) * 2 + u32::from(state % 2)) % 65536) as u16;
     }
-    Filled { value: v, at: i }
+    Filled { value, at: end }
 }
 
-// The data bits of four states at high load, the first one on top, or 16 where one of them is anything else. Each state's bit is
-// the lowest of its byte; the product brings the four together.
+// The data bits of four states at high load, the first one on top. Each state's bit is the lowest of its byte; the product brings
+// the four together.
 #[tactic(auto, using(crate::proofs::Four::bits_high, crate::proofs::Four::bits_other, crate::proofs::Four::word_least))]
-fn four_bits(states: &[u8], i: usize) -> u32
-    requires { i + 4 ≤ length states.now }
-    ensures { result ≡ four_bits (get_or states.now i 0) (get_or states.now (i + 1) 0) (get_or states.now (i + 2) 0) (get_or states.now (i + 3) 0) }
+fn four_bits(states: &[u8]) -> Option<u32>
+    requires { length states.now ≡ 4 }
+    ensures bits { result ≡ four_bits (get_or states.now 0 0) (get_or states.now 1 0) (get_or states.now 2 0) (get_or states.now 3 0) }
+    ensures bound { IfSome result (λ n. n < 16) }
 {
-    let a = states[i] as u64;
-    let b = states[i + 1] as u64;
-    let c = states[i + 2] as u64;
-    let d = states[i + 3] as u64;
+    let a = u64::from(states[0]);
+    let b = u64::from(states[1]);
+    let c = u64::from(states[2]);
+    let d = u64::from(states[3]);
     let word = a + b * 0x100 + c * 0x1_0000 + d * 0x100_0000;
     if word & 0xfefe_fefe != 0x0202_0202 {
-        return 16;
+        return None;
     }
-    ((((word - 0x0202_0202) * 0x0804_0201) / 0x100_0000) % 16) as u32
+    Some(((((word - 0x0202_0202) * 0x0804_0201) / 0x100_0000) % 16) as u32)
 }

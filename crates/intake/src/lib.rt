@@ -2,11 +2,13 @@
 // slice or flood and not once a clock. Where high states end is asked by a chain that passes them too.
 #![tactic(auto)]
 
+mod blocks;
 mod field;
 mod highs;
 mod slice;
 mod taken;
 
+pub use blocks::blocks_end;
 pub use highs::{highs_end, take};
-pub use slice::{smaller, take_slice};
-pub use taken::{Progress, Taken, settle};
+pub use slice::take_slice;
+pub use taken::{Progress, Taken, settle, stop, take_none};

@@ -2,7 +2,7 @@
 ghost use Rattle.std.specs.Prelude.{◌≡◌, ◌-◌, ◌<◌, ◌≤◌, length, drop};
 ghost use Rattle.device.specs.Step.{at, slice_length};
 ghost use Rattle.phases.specs.declared.phase.Phase.TheVariants.{Slice};
-ghost use Rattle.intake.specs.Intake.{high_taken, progress_of, halfway, completed, field_after, lack_after, least};
+ghost use Rattle.intake.specs.Intake.{high_taken, progress_of, halfway, completed, field_after, lack_after};
 
 use crate::taken::{Progress, stop};
 use parts::Command;
@@ -19,17 +19,30 @@ pub fn take_slice(
 ) -> Progress
     ensures { result ≡ progress_of (high_taken (at registers (Slice command count 0)) (drop from states.now) from) }
 {
-    let part = registers.part;
-    let bits = slices::slice_bits(command, part, registers.configuration);
-    if bits == 0 {
-        return overfill(registers, command, count, 0, states, from);
-    }
-    gather(registers, command, count, 0, states, from)
+    take_on(registers, command, count, 0, states, from)
 }
 
-// A device within a slice takes high states, field by field.
-#[tactic(auto, using(crate::proofs::Phases::low_clauses))]
-pub fn gather(
+// A device within a slice takes high states.
+pub fn take_on(
+    registers: Registers,
+    command: Command,
+    count: u16,
+    taken: u16,
+    states: &[u8],
+    from: usize,
+) -> Progress
+    ensures { result ≡ progress_of (high_taken (at registers (Slice command count taken)) (drop from states.now) from) }
+{
+    if taken < slices::slice_bits(command, registers.part, registers.configuration) {
+        gather(registers, command, count, taken, states, from)
+    } else {
+        overfill(registers, command, count, taken, states, from)
+    }
+}
+
+// The same where the slice lacks bits: field by field.
+#[tactic(auto, using(crate::proofs::Phases::stop_clauses))]
+fn gather(
     registers: Registers,
     command: Command,
     count: u16,
@@ -53,16 +66,15 @@ pub fn gather(
         if states[i] < 2 {
             return part_of(slice, command, count, t as u16, i);
         }
-        let v = slice[k];
-        let end = i + smaller(lack, states.len() - i);
-        let f = crate::field::fill(v, states, i, end);
-        slice[k] = f.value % below;
-        t += f.at - i;
+        let end = i + lack.min(states.len() - i);
+        let filled = crate::field::fill(slice[k], states, i, end);
+        slice[k] = filled.value % below;
+        t += filled.at - i;
         if t >= bits {
-            return whole(registers, slice, command, count, f.at);
+            return whole(registers, slice, command, count, filled.at);
         }
-        let left = lack - (f.at - i);
-        i = f.at;
+        let left = lack - (filled.at - i);
+        i = filled.at;
         k = field_after(k, left);
         lack = lack_after(width, left);
     }
@@ -84,15 +96,9 @@ fn lack_after(width: usize, left: usize) -> usize
     if left == 0 { width } else { left }
 }
 
-// The smaller of two numbers.
-pub fn smaller(a: usize, b: usize) -> usize
-    ensures { result ≡ least a b }
-{
-    if a <= b { a } else { b }
-}
-
 // A slice that has all its bits takes one more, and is whole: no record that fits stands so.
-pub fn overfill(
+#[tactic(auto, using(crate::proofs::Phases::stop_clauses))]
+fn overfill(
     registers: Registers,
     command: Command,
     count: u16,
@@ -103,16 +109,13 @@ pub fn overfill(
     requires { slice_length registers command ≤ taken }
     ensures { result ≡ progress_of (high_taken (at registers (Slice command count taken)) (drop from states.now) from) }
 {
-    if from < states.len() {
-        let s = states[from];
-        if s >= 2 {
-            let filled = registers.take_bit(command, taken, s % 2);
-            let slice = filled.slice;
-            return whole(registers, slice, command, count, from + 1);
+    match states.get(from) {
+        Some(&state) if state >= 2 => {
+            let filled = registers.take_bit(command, taken, state % 2);
+            whole(registers, filled.slice, command, count, from + 1)
         }
+        _ => part_of(registers.slice, command, count, taken, from),
     }
-    let slice = registers.slice;
-    part_of(slice, command, count, taken, from)
 }
 
 // The states end, or a low one comes, within a slice.
@@ -140,14 +143,13 @@ fn whole(
 ) -> Progress
     ensures { result ≡ completed registers slice command count from }
 {
-    let raised = registers::raise(count, registers.fault_of(command));
     Progress {
         slice,
         place: phases::place_of(Phase::Passing),
         at: from,
         sent: Sent::Header {
             command,
-            count: raised,
+            count: registers::raise(count, registers.fault_of(command)),
         },
     }
 }

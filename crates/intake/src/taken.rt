@@ -1,6 +1,6 @@
 // How far a device got with the states at hand, and what that makes of it.
 ghost use Rattle.std.specs.Prelude.{◌≡◌};
-ghost use Rattle.intake.specs.Intake.{halfway, settled_by};
+ghost use Rattle.intake.specs.Intake.{stopped, progress_of, halfway, settled_by};
 
 use device::Device;
 use phases::{Phase, Place, Sent};
@@ -24,6 +24,19 @@ pub struct Progress {
     pub sent: Sent,
 }
 
+// A device that takes none of the states at hand.
+pub fn take_none(device: Device, from: usize, sent: Sent) -> Progress
+    ensures { result ≡ progress_of (stopped device from sent) }
+{
+    let slice = device.registers.slice;
+    Progress {
+        slice,
+        place: device.place,
+        at: from,
+        sent,
+    }
+}
+
 // The states end, or one comes that the device does not take, and nothing was sent.
 pub fn stop(slice: [u16; 48], phase: Phase, from: usize) -> Progress
     ensures { result ≡ halfway slice phase from }
@@ -40,14 +53,16 @@ pub fn stop(slice: [u16; 48], phase: Phase, from: usize) -> Progress
 pub fn settle(registers: Registers, progress: Progress) -> Registers
     ensures { result ≡ settled_by progress.sent progress.at registers progress.slice }
 {
-    let slice = progress.slice;
-    let at = progress.at;
-    let sent = progress.sent;
-    if let Sent::Header { command, .. } = sent {
-        let stored = storing::store(registers, slice, command);
-        return positions::date(registers, stored, at);
+    let Progress {
+        slice,
+        at,
+        sent,
+        ..
+    } = progress;
+    match sent {
+        Sent::Header { command, .. } => {
+            positions::date(registers, storing::store(registers, slice, command), at)
+        }
+        _ => Registers { slice, ..registers },
     }
-    let mut next = registers;
-    next.slice = slice;
-    next
 }

@@ -1,5 +1,5 @@
 // What the device of a turn takes.
-ghost use Rattle.std.specs.Prelude.{◌≡◌, true, ℕ, ◌<◌, ◌≤◌, ◌+◌, length, get_or, drop};
+ghost use Rattle.std.specs.Prelude.{◌≡◌, ℕ, ◌<◌, ◌≤◌, length, get_or, drop};
 ghost use Rattle.intake.specs.Intake.{progress_of};
 ghost use Rattle.turns.specs.Front.{is_lost, low_taken, device_taken};
 ghost use Rattle.phases.specs.declared.phase.Sent.TheVariants.{Nothing};
@@ -36,14 +36,7 @@ pub fn device_take(device: Device, pending: Sent, states: &[u8], at: usize) -> P
             return low_take(device, states, at);
         }
         if device.place.phase == 4 {
-            let slice = device.registers.slice;
-            let place = device.place;
-            return Progress {
-                slice,
-                place,
-                at,
-                sent: Sent::One(0),
-            };
+            return intake::take_none(device, at, Sent::One(0));
         }
     }
     intake::take(device, states, at)
@@ -53,18 +46,10 @@ pub fn device_take(device: Device, pending: Sent, states: &[u8], at: usize) -> P
 fn low_take(device: Device, states: &[u8], at: usize) -> Progress
     ensures { result ≡ progress_of (low_taken device Nothing (drop at states.now) at) }
 {
-    let place = device.place;
-    let before = phases::phase_of(place);
+    let before = phases::phase_of(device.place);
     let heard = hear_all(phases::window_of(before), states, at);
     let run = run_phase(hunt_on(before, at, heard), states, heard.at);
-    let phase = run.phase;
-    let slice = device.registers.slice;
-    Progress {
-        slice,
-        place: phases::place_of(phase),
-        at: run.at,
-        sent: Sent::Nothing,
-    }
+    intake::stop(device.registers.slice, run.phase, run.at)
 }
 
 // Low states: behind blocks of them the window is that of the last nine, whatever it was before.
@@ -82,55 +67,26 @@ fn hear_all(window: u16, states: &[u8], from: usize) -> Heard
 fn low_blocks(states: &[u8], from: usize) -> usize
     ensures { (from ≤ result) × ((k : ℕ) → from ≤ k → k < result → (k < length states.now) × (get_or states.now k 0 < 2)) }
 {
-    let mut i = from;
-    while i < states.len() {
-        if states.len() - i < 64 {
-            return i;
-        }
-        // A frame's first block is seen at once not to be low.
-        if states[i + 63] >= 2 {
-            return i;
-        }
-        if !block_low(states, i) {
-            return i;
-        }
-        i += 64;
-    }
-    i
-}
-
-// Whether a block of states is low: whether the greatest is. No early end, so that the loop is vectorised.
-fn block_low(states: &[u8], from: usize) -> bool
-    requires { from + 64 ≤ length states.now }
-    ensures { result ≡ true → (k : ℕ) → from ≤ k → k < from + 64 → (k < length states.now) × (get_or states.now k 0 < 2) }
-{
-    let mut most: u8 = 0;
-    let mut j: usize = 0;
-    while j < 64 {
-        let s = states[from + j];
-        if s > most {
-            most = s;
-        }
-        j += 1;
-    }
-    most < 2
+    intake::blocks_end::<64, _>(states, from, |state| state < 2)
 }
 
 // Low states are heard one after the other, the window in a local.
+#[tactic(auto, using(crate::proofs::Phases::hear_clauses))]
 fn hear_each(window: u16, states: &[u8], from: usize) -> Heard
     ensures { result ≡ hear_all window (drop from states.now) from }
 {
-    let mut w = window;
-    let mut i = from;
-    while i < states.len() {
-        let s = states[i];
-        if s >= 2 {
-            return Heard { window: w, at: i };
+    let mut window = window;
+    for at in from..states.len() {
+        let state = states[at];
+        if state >= 2 {
+            return Heard { window, at };
         }
-        w = (((w as u32) * 2 + (s as u32)) % 512) as u16;
-        i += 1;
+        window = ((u32::from(window) * 2 + u32::from(state)) % 512) as u16;
     }
-    Heard { window: w, at: i }
+    Heard {
+        window,
+        at: from.max(states.len()),
+    }
 }
 
 // The phase after the low states from a place on: where there were none, the one before.
@@ -146,26 +102,28 @@ fn hunt_on(before: Phase, from: usize, heard: Heard) -> Phase
 }
 
 // A phase goes on as long as no register is touched.
-fn run_phase(phase: Phase, states: &[u8], at: usize) -> PhaseRun
-    ensures { result ≡ phase_run phase (drop at states.now) at }
+#[tactic(auto, using(crate::proofs::Phases::run_clauses))]
+fn run_phase(phase: Phase, states: &[u8], from: usize) -> PhaseRun
+    ensures { result ≡ phase_run phase (drop from states.now) from }
 {
-    let mut p = phase;
-    let mut i = at;
-    while i < states.len() {
-        let s = states[i];
-        if !is_phase_only(p, s) {
-            return PhaseRun { phase: p, at: i };
+    let mut phase = phase;
+    for at in from..states.len() {
+        let state = states[at];
+        if !is_phase_only(phase, state) {
+            return PhaseRun { phase, at };
         }
-        p = step_phase(p, s);
-        i += 1;
+        phase = step_phase(phase, state);
     }
-    PhaseRun { phase: p, at: i }
+    PhaseRun {
+        phase,
+        at: from.max(states.len()),
+    }
 }
 
 fn is_phase_only(phase: Phase, state: u8) -> bool
     ensures { result ≡ phase_only phase state }
 {
-    state < 2 || (phases::in_header(phase) || is_lost(phase))
+    state < 2 || phases::in_header(phase) || is_lost(phase)
 }
 
 fn step_phase(phase: Phase, state: u8) -> Phase
@@ -181,5 +139,5 @@ fn step_phase(phase: Phase, state: u8) -> Phase
 fn is_lost(phase: Phase) -> bool
     ensures { result ≡ is_lost phase }
 {
-    if let Phase::Lost = phase { true } else { false }
+    matches!(phase, Phase::Lost)
 }

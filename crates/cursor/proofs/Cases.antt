@@ -1,6 +1,6 @@
 -- No header is under way: what is sent under the `else` of an `if let` is nothing or one state. Assumes nothing.
 use mathlib.Core.Path.{◌≡◌, refl}
-use mathlib.Core.List.{List, [], ◌∷◌}
+use mathlib.Core.List.{[], ◌∷◌}
 use mathlib.Core.Logic.{⊎_elim, inl, inr}
 use Rattle.parts.specs.declared.command.Command.{Command}
 use Prim.Native.Nat.{ℕ}

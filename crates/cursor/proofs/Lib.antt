@@ -1,2 +1,3 @@
 -- The cases that a match leaves.
 pub mod Cases
+pub mod Answered

@@ -1,8 +1,11 @@
--- Inside: where a run begins, by its refusal. A refused run begins at its end. What it answers is in Answer.
-use Rattle.std.specs.Prelude.{ℕ, cond, List, eqb}
-use Rattle.cursor.specs.declared.entry.Entry.{Entry}
-use Rattle.cursor.specs.Cursor.{halted, begin_run}
+-- Inside: where a run begins, or the number of its refusal. What it answers is in Answer.
+use Rattle.std.specs.Prelude.{ℕ, List, Result, Ok, Err}
+use Rattle.tables.specs.Refusals.{first, answer}
+use Rattle.judgement.specs.declared.judging.Judged.{Judged}
+use Rattle.refusals.specs.Rows.{run_rows}
+use Rattle.cursor.specs.declared.cursor.Cursor.{Cursor}
+use Rattle.cursor.specs.Cursor.{begin_run}
 
--- where a run begins: at its end if it is refused
-abbrev pub entry_under : ℕ → ℕ → List ℕ → Entry
-entry_under refusal n ss = record { refusal = refusal; cursor = cond (eqb refusal 0) (begin_run n ss) halted }
+-- where a run of n records begins: nowhere if it is refused
+abbrev pub entered : Judged → ℕ → List ℕ → ℕ → Result Cursor ℕ
+entered j n ss room = answer (first (run_rows j n ss room)) Err (Ok (begin_run n ss))

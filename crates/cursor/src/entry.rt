@@ -1,19 +1,12 @@
 // Where a run begins, and its answer.
 ghost use Rattle.std.specs.Prelude.{◌≡◌};
-ghost use Rattle.tables.specs.Refusals.{first};
-ghost use Rattle.refusals.specs.Rows.{run_rows};
-ghost use Rattle.cursor.specs.Answer.{ran};
-ghost use Rattle.cursor.specs.Entry.{entry_under};
+ghost use Rattle.tables.specs.Refusals.{carried, numbered};
+ghost use Rattle.cursor.specs.Answer.{answered};
+ghost use Rattle.cursor.specs.Entry.{entered};
 
-use crate::cursor::Cursor;
+use crate::cursor::{Cursor, turn_by_state};
 use judgement::Judged;
-
-// The refusal's number, or 0, and where the run begins: a refused one is at its end.
-#[derive(Clone, Copy)]
-pub struct Entry {
-    pub refusal: u8,
-    pub cursor: Cursor,
-}
+use tables::Refusal;
 
 // How many states were returned, and the refusal's number: one of them is 0.
 #[repr(C)]
@@ -23,33 +16,29 @@ pub struct Ran {
     pub refusal: u8,
 }
 
-// A run of a chain of n records, with room for some states.
-pub fn enter(judged: Judged, n: usize, states: &[u8], room: usize) -> Entry
-    ensures { result ≡ entry_under (first (run_rows judged n states.now room)) n states.now }
+// Where a run of a chain of n records begins, with room for some states.
+pub fn enter(judged: Judged, n: usize, states: &[u8], room: usize) -> Result<Cursor, Refusal>
+    ensures { numbered result ≡ entered judged n states.now room }
 {
-    enter_under(refusals::run_refusal(judged, n, states, room), n, states)
+    refusals::judge_run(judged, n, states, room)?;
+    Ok(Cursor {
+        end: intake::highs_end(states, 0),
+        ..turn_by_state(n, 0, 0, 0, states)
+    })
 }
 
-fn enter_under(refusal: u8, n: usize, states: &[u8]) -> Entry
-    ensures { result ≡ entry_under refusal n states.now }
+// The answer of a run that returned some states, or was refused.
+pub fn answer(returned: Result<usize, Refusal>) -> Ran
+    ensures { result ≡ answered (numbered returned) }
 {
-    let cursor = if refusal == 0 {
-        Cursor {
-            end: intake::highs_end(states, 0),
-            ..crate::cursor::turn_by_state(n, 0, 0, 0, states)
-        }
-    } else {
-        crate::cursor::halt()
-    };
-    Entry { refusal, cursor }
-}
-
-// The answer of a run under a refusal, or 0, that returned n states.
-pub fn answer(refusal: u8, n: usize) -> Ran
-    ensures { result ≡ ran refusal n }
-{
-    Ran {
-        returned: if refusal == 0 { n } else { 0 },
-        refusal,
+    match returned {
+        Ok(returned) => Ran {
+            returned,
+            refusal: 0,
+        },
+        Err(refusal) => Ran {
+            returned: 0,
+            refusal: u8::from(refusal),
+        },
     }
 }

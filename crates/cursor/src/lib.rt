@@ -5,4 +5,4 @@ mod cursor;
 mod entry;
 
 pub use cursor::{Cursor, halt, next_turn};
-pub use entry::{Entry, Ran, answer, enter};
+pub use entry::{Ran, answer, enter};

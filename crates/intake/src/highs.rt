@@ -8,7 +8,7 @@ ghost use Rattle.intake.specs.Intake.{high_taken, progress_of, headed_all, highs
 use crate::blocks::{ahead, blocks_end};
 use crate::taken::{Progress, stop, take_none};
 use device::Device;
-use phases::{Phase, Sent};
+use phases::{Phase, Place, Sent};
 use registers::Registers;
 
 // A phase, and the place of the next state.
@@ -38,7 +38,7 @@ fn pass(registers: Registers, states: &[u8], from: usize) -> Progress
     match states.get(from) {
         Some(&state) if state >= 2 => Progress {
             slice,
-            place: phases::place_of(Phase::Passing),
+            place: Place::from(Phase::Passing),
             at: from + 1,
             sent: Sent::One(state),
         },
@@ -51,7 +51,7 @@ fn high(device: Device, states: &[u8], from: usize) -> Progress
     requires { (from < length states.now) × (2 ≤ get_or states.now from 0) }
     ensures { result ≡ progress_of (high_taken device (drop from states.now) from) }
 {
-    let Headed { phase, at } = head_all(phases::phase_of(device.place), states, from);
+    let Headed { phase, at } = head_all(Phase::from(device.place), states, from);
     match phase {
         Phase::Slice {
             command,

@@ -6,7 +6,7 @@ ghost use Rattle.intake.specs.Intake.{high_taken, progress_of, halfway, complete
 
 use crate::taken::{Progress, stop};
 use parts::Command;
-use phases::{Phase, Sent};
+use phases::{Phase, Place, Sent};
 use registers::Registers;
 
 // A device before the first bit of a slice takes high states.
@@ -145,7 +145,7 @@ fn whole(
 {
     Progress {
         slice,
-        place: phases::place_of(Phase::Passing),
+        place: Place::from(Phase::Passing),
         at: from,
         sent: Sent::Header {
             command,

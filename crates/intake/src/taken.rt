@@ -43,7 +43,7 @@ pub fn stop(slice: [u16; 48], phase: Phase, from: usize) -> Progress
 {
     Progress {
         slice,
-        place: phases::place_of(phase),
+        place: Place::from(phase),
         at: from,
         sent: Sent::Nothing,
     }

@@ -3,13 +3,14 @@
 use mathlib.Core.Path.{◌≡◌, refl, ap, sym, ◌∙◌}
 use mathlib.Core.Bool.{Bool, true, false, cond}
 use mathlib.Core.List.{List, [], ◌∷◌, ◌++◌, map}
-use Prim.Native.Nat.{ℕ, zero, suc, ◌+◌, ◌-◌, ◌/◌, ◌%◌, ◌^◌, ◌<◌, ◌≤◌}
+use Prim.Native.Nat.{ℕ, zero, suc, ◌+◌, ◌-◌, ◌/◌, ◌%◌, ◌^◌, ◌<◌, ◌≤◌, min}
 use native.Mathlib.Numerals.{add-one}
 use native.Mathlib.Nat.{mod-lt}
 use native.Mathlib.Omega.{arith}
 use lib.Dec.{ltb, leb, lit<}
 use lib.ListN.{length, get_or, set, take, drop, length-set, length-drop, drop_of_length-le}
 use lib.Seq.{set_out, length-take-le}
+use borrow.Rule.Slice.PartMut.{put_mid, Post-is}
 use borrow.Author.Tests.{le-leb, lt-leb, leb-true, leb-false}
 use Rattle.bits.specs.Bits.{is_one, digit, bits, over}
 use Rattle.parts.specs.Parts.{code}
@@ -17,8 +18,7 @@ use Rattle.parts.specs.Wire.{high, state_code, command_count, header, clocked_at
 use Rattle.parts.specs.declared.command.Command.{Command}
 use Rattle.parts.specs.declared.command.Command.TheVariants.{Individual, Calibration, Global, Configuration}
 use Rattle.tables.proofs.Booleans.{cond_both}
-use Rattle.intake.specs.Intake.{highs_end, least}
-use Rattle.intake.proofs.Slices.{least-left, least-right}
+use Rattle.intake.specs.Intake.{highs_end}
 use Rattle.intake.proofs.Clauses.{drop-on}
 use Rattle.turns.specs.Front.{put_all, put_end, high_count}
 
@@ -45,36 +45,12 @@ pub put_on : (os : List ℕ) (w : ℕ) (xs : List ℕ) (i : ℕ) → i < length 
 unfolding put_all
 put_on os w xs i h = rw (drop-on xs i h) refl
 
--- as many as there is room for: either all are written, or the room is full
-pub put-enough : (os : List ℕ) (w : ℕ) (xs : List ℕ) (i n room : ℕ) → n ≡ least (length xs) (room - w) → length os ≡ room → w ≤ room → n ≤ i
-    → put_all os (w + i) (drop i xs) ≡ os
-put-enough os w xs i n room e l k h = by_cases (leb (length xs) (room - w)) refl
+pub put-end-is : (room w k : ℕ) → w ≤ room → w + min k (room - w) ≡ put_end room w k
+put-end-is room w k h = by_cases (leb (w + k) room) refl
   where
-    by_cases : (t : Bool) → leb (length xs) (room - w) ≡ t → put_all os (w + i) (drop i xs) ≡ os
-    by_cases true q = put-end os (w + i) xs i (omega (arith, h, e ∙ ap (λ (u : Bool). cond u (length xs) (room - w)) q))
-    by_cases false q = put_full os (w + i) (drop i xs) (omega (arith, h, l, k, e ∙ ap (λ (u : Bool). cond u (length xs) (room - w)) q))
-
-pub put-end-is : (room w k n : ℕ) → n ≡ least k (room - w) → w ≤ room → w + n ≡ put_end room w k
-put-end-is room w k n e h = by_cases (leb k (room - w)) refl
-  where
-    by_cases : (t : Bool) → leb k (room - w) ≡ t → w + n ≡ put_end room w k
-    by_cases true q = rw (le-leb (w + k) room (fits q)) (omega (arith, e ∙ ap (λ (u : Bool). cond u k (room - w)) q))
-      where
-        fits : leb k (room - w) ≡ true → w + k ≤ room
-        fits p = omega (arith, leb-true k (room - w) p, h)
-    by_cases false q = rw (lt-leb (w + k) room (over q)) (omega (arith, h, e ∙ ap (λ (u : Bool). cond u k (room - w)) q))
-      where
-        over : leb k (room - w) ≡ false → room < w + k
-        over p = omega (arith, leb-false k (room - w) p, h)
-
-pub smaller-within : (n a b : ℕ) → n ≡ least a b → (n ≤ a) × (n ≤ b)
-smaller-within n a b e = (omega (arith, e, least-left a b), omega (arith, e, least-right a b))
-
-pub put_next : (os : List ℕ) (w : ℕ) (xs : List ℕ) (i : ℕ) → i < length xs → put_all os (w + i) (drop i xs) ≡ put_all (set os (w + i) (get_or xs i 0)) (w + (i + 1)) (drop (i + 1) xs)
-put_next os w xs i h = put_on os (w + i) xs i h ∙ ap (λ (k : ℕ). put_all (set os (w + i) (get_or xs i 0)) k (drop (i + 1) xs)) (omega arith)
-
-pub put-start : (os : List ℕ) (w : ℕ) (xs : List ℕ) → put_all os w xs ≡ put_all os (w + 0) xs
-put-start os w xs = ap (λ (k : ℕ). put_all os k xs) (omega arith)
+    by_cases : (t : Bool) → leb (w + k) room ≡ t → w + min k (room - w) ≡ put_end room w k
+    by_cases true q = rw q (omega (arith, leb-true (w + k) room q))
+    by_cases false q = rw q (omega (arith, leb-false (w + k) room q, h))
 
 pub high_count-fit : (ss : List ℕ) → high_count ss ≤ length ss
 unfolding high_count
@@ -122,6 +98,42 @@ unfolding put_all over
 put-over os [] h = refl
 put-over [] (x ∷ xs) h = absurd (omega (arith, h))
 put-over (o ∷ os) (x ∷ xs) h = put-after os x 0 xs ∙ ap (λ (r : List ℕ). x ∷ r) (put-over os xs (omega (arith, h)))
+
+-- ---- as many states as there is room for are copied
+
+put-first : (os xs : List ℕ) → put_all os 0 xs ≡ take (min (length xs) (length os)) xs ++ drop (min (length xs) (length os)) os
+unfolding put_all
+put-first [] [] = refl
+put-first [] (x ∷ xs) =
+    let none : 0 ≡ min (suc (length xs)) 0 = omega arith in
+    put_full [] 1 xs (omega arith) ∙ ap (λ (n : ℕ). take n (x ∷ xs) ++ drop n []) none
+put-first (o ∷ os) [] =
+    let none : 0 ≡ min 0 (suc (length os)) = omega arith in
+    ap (λ (n : ℕ). take n [] ++ drop n (o ∷ os)) none
+put-first (o ∷ os) (x ∷ xs) =
+    let more : suc (min (length xs) (length os)) ≡ min (suc (length xs)) (suc (length os)) = omega arith in
+    put-after os x 0 xs ∙ ap (λ (r : List ℕ). x ∷ r) (put-first os xs)
+    ∙ ap (λ (n : ℕ). take n (x ∷ xs) ++ drop n (o ∷ os)) more
+
+put-copied : (os : List ℕ) (w n : ℕ) (xs : List ℕ) → w ≤ length os → n ≡ min (length xs) (length os - w)
+    → take w os ++ (take n xs ++ drop (w + n) os) ≡ put_all os w xs
+put-copied os zero n xs h e =
+    let m : n ≡ min (length xs) (length os) = omega (arith, e) in
+    let z : 0 + n ≡ n = omega arith in
+    ap (λ (k : ℕ). take n xs ++ drop k os) z ∙ ap (λ (k : ℕ). take k xs ++ drop k os) m ∙ sym (put-first os xs)
+put-copied [] (suc w) n xs h e = absurd (omega (arith, h))
+put-copied (o ∷ os) (suc w) n xs h e =
+    let z : suc w + n ≡ suc (w + n) = omega arith in
+    ap (λ (k : ℕ). o ∷ (take w os ++ (take n xs ++ drop k (o ∷ os)))) z
+    ∙ ap (λ (r : List ℕ). o ∷ r) (put-copied os w n xs (omega (arith, h)) (omega (arith, e)))
+    ∙ sym (put-after os o w xs)
+    ∙ ap (λ (k : ℕ). put_all (o ∷ os) k xs) (add-one w)
+
+-- the same, as a copy into a part of the room leaves it
+pub put-mid : (os : List ℕ) (w n : ℕ) (xs ys : List ℕ) → w ≤ length os → n ≡ min (length xs) (length os - w) → ys ≡ take n xs
+    → put_mid w (w + n - w) os ys ≡ put_all os w xs
+put-mid os w n xs ys h e y =
+    rw (y, Post-is w (w + n) os (omega arith)) (put-copied os w n xs h e)
 
 -- ---- the 24 states of a header
 

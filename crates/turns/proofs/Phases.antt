@@ -126,6 +126,9 @@ phase_run-next p ss i k h e =
     ap (λ (xs : List ℕ). phase_run p xs k) (drop-on ss i h)
     ∙ ap (λ (t : Bool). cond t (phase_run (phase_step p (get_or ss i 0)) (drop (i + 1) ss) (k + 1)) (record { phase = p; at = k })) e
 
+-- the three, for the code that goes state by state
+pub ruleset run_clauses = (phase_run-end, phase_run-stop, phase_run-next)
+
 -- ---- low states first
 
 hear-low : (w s : ℕ) (ss : List ℕ) (i : ℕ) → ltb s 2 ≡ true → hear_all w (s ∷ ss) i ≡ hear_all (pushed w s 512) ss (i + 1)
@@ -145,6 +148,9 @@ hear-stop w ss i k h l = ap (λ (xs : List ℕ). hear_all w xs k) (drop-on ss i 
 
 pub hear-next : (w : ℕ) (ss : List ℕ) (i k : ℕ) → i < length ss → get_or ss i 0 < 2 → hear_all w (drop i ss) k ≡ hear_all (pushed w (get_or ss i 0) 512) (drop (i + 1) ss) (k + 1)
 hear-next w ss i k h l = ap (λ (xs : List ℕ). hear_all w xs k) (drop-on ss i h) ∙ hear-low w (get_or ss i 0) (drop (i + 1) ss) k (lt-ltb (get_or ss i 0) 2 l)
+
+-- the three, for the code that goes state by state
+pub ruleset hear_clauses = (hear-end, hear-stop, hear-next)
 
 -- it goes on
 hear-far : (w : ℕ) (ss : List ℕ) (i : ℕ) → i ≤ (hear_all w ss i).at

@@ -15,9 +15,9 @@ use Rattle.cursor.specs.declared.entry.Ran.{Ran}
 use Rattle.cursor.specs.Cursor.{begin_run, halted}
 use Rattle.turns.specs.Front.{put_all, put_end, Running, now_at, turning, turns, started, enough, front_run}
 use Rattle.cursor.specs.Answer.{ran, run_answer}
-use Rattle.cursor.specs.Entry.{entry_under}
 use Rattle.turns.specs.Ending.{run_under, run_end, by_clock_device}
 use Rattle.turns.proofs.LeavingStates.{put-over, put-end-all}
+use borrow.Author.Tests.{eq-eqb}
 use Rattle.turns.proofs.Turns.{no_way, Good, measure, good_start, good-next, nearer-next, turns-on, turns-stop, near-start}
 use Rattle.turns.proofs.Late.{Packet, singles, relay_late, states_in}
 use Rattle.turns.proofs.Same.{all-neat, front-run-same}
@@ -64,18 +64,21 @@ stands-zero n ss room fin s h v =
 pub stands-end : (n : ℕ) (ss : List ℕ) (room t : ℕ) (fin s : Running) → Stands n ss room t fin s → s.cursor.going ≡ false → s ≡ fin
 stands-end n ss room t fin s h v = sym (turns-stop t ss s v) ∙ h.last
 
-pub stands-start : (ds : List Device) (ss os : List ℕ)
-    → Stands (length ds) ss (length os) (enough ss) (run_end ds ss os) (now_at ds (entry_under (run_refusal ds ss (length os)) (length ds) ss).cursor os)
+-- an accepted run begins
+pub stands-start : (ds : List Device) (ss os : List ℕ) → run_refusal ds ss (length os) ≡ 0
+    → Stands (length ds) ss (length os) (enough ss) (run_end ds ss os) (now_at ds (begin_run (length ds) ss) os)
 unfolding run_under front_run
-stands-start ds ss os = go (eqb (run_refusal ds ss (length os)) 0) refl
-  where
-    go : (t : Bool) → eqb (run_refusal ds ss (length os)) 0 ≡ t
-        → Stands (length ds) ss (length os) (enough ss) (cond t (front_run ds ss os) (now_at ds halted os)) (now_at ds (cond t (begin_run (length ds) ss) halted) os)
-    go false e = record { devices = refl; out = refl; written = omega arith; last = turns-stop (enough ss) ss (now_at ds halted os) refl; live = λ v. absurd (no_way v) }
-    go true e =
-        let h : Accepted ds ss (length os) = accepted-run ds ss (length os) e in
-        let g : Good (length ds) ss (length os) (started ds ss os) = good_start ds ss os h.some in
-        record { devices = refl; out = refl; written = g.written; last = refl; live = λ _. record { good = g; near = near-start ds ss h.few; some = h.some; few = h.few } }
+stands-start ds ss os z =
+    let e = eq-eqb (run_refusal ds ss (length os)) 0 z in
+    let h : Accepted ds ss (length os) = accepted-run ds ss (length os) e in
+    let g : Good (length ds) ss (length os) (started ds ss os) = good_start ds ss os h.some in
+    record {
+      devices = refl;
+      out = refl;
+      written = g.written;
+      last = rw e refl;
+      live = λ _. record { good = g; near = near-start ds ss h.few; some = h.some; few = h.few };
+    }
 
 -- ---- what it leaves
 

@@ -46,7 +46,7 @@ pub fn device_take(device: Device, pending: Sent, states: &[u8], at: usize) -> P
 fn low_take(device: Device, states: &[u8], at: usize) -> Progress
     ensures { result ≡ progress_of (low_taken device Nothing (drop at states.now) at) }
 {
-    let before = phases::phase_of(device.place);
+    let before = Phase::from(device.place);
     let heard = hear_all(phases::window_of(before), states, at);
     let run = run_phase(hunt_on(before, at, heard), states, heard.at);
     intake::stop(device.registers.slice, run.phase, run.at)

@@ -14,11 +14,10 @@ pub fn leave(cursor: Cursor, states: &[u8], returned: &mut [u8]) -> Cursor
     requires { (cursor.at ≤ length states.now) × (cursor.written ≤ length returned.old) }
     ensures { (result ≡ leave_cursor cursor.pending cursor states.now (length returned.old)) × (returned.new ≡ leave_out cursor states.now returned.old) }
 {
-    let pending = cursor.pending;
-    if let Sent::Header { command, count } = pending {
-        return leave_header(cursor, command, count, states, returned);
+    match cursor.pending {
+        Sent::Header { command, count } => leave_header(cursor, command, count, states, returned),
+        _ => leave_states(cursor, states, returned),
     }
-    leave_states(cursor, states, returned)
 }
 
 // A header leaves the chain.
@@ -32,14 +31,12 @@ fn leave_header(
     requires { cursor.written ≤ length returned.old }
     ensures { (result ≡ next_turn cursor.count cursor.front cursor.at (put_end (length returned.old) cursor.written 24) Nothing (drop cursor.at states.now)) × (returned.new ≡ put_all returned.old cursor.written (states_of (header command count))) }
 {
-    let h = header_states(command, count);
-    let from = cursor.written;
-    let w = append(returned, from, &h);
+    let written = append(returned, cursor.written, &header_states(command, count));
     cursor::next_turn(
         cursor.count,
         cursor.front,
         cursor.at,
-        w,
+        written,
         Sent::Nothing,
         states,
     )
@@ -50,11 +47,16 @@ fn leave_states(cursor: Cursor, states: &[u8], returned: &mut [u8]) -> Cursor
     requires { (cursor.at ≤ length states.now) × (cursor.written ≤ length returned.old) }
     ensures { (result ≡ passed_to cursor states.now (length returned.old)) × (returned.new ≡ put_all returned.old cursor.written (take (high_count (drop cursor.at states.now)) (drop cursor.at states.now))) }
 {
-    let at = cursor.at;
-    let from = cursor.written;
-    let end = intake::highs_end(states, at);
-    let w = append(returned, from, &states[at..end]);
-    cursor::next_turn(cursor.count, cursor.front, end, w, Sent::Nothing, states)
+    let end = intake::highs_end(states, cursor.at);
+    let written = append(returned, cursor.written, &states[cursor.at..end]);
+    cursor::next_turn(
+        cursor.count,
+        cursor.front,
+        end,
+        written,
+        Sent::Nothing,
+        states,
+    )
 }
 
 // States are written from a place on, as many as there is room for.
@@ -62,22 +64,19 @@ fn append(returned: &mut [u8], from: usize, states: &[u8]) -> usize
     requires { from ≤ length returned.old }
     ensures { (result ≡ put_end (length returned.old) from (length states.now)) × (returned.new ≡ put_all returned.old from states.now) }
 {
-    let n = intake::smaller(states.len(), returned.len() - from);
-    let mut i: usize = 0;
-    while i < n {
-        returned[from + i] = states[i];
-        i += 1;
-    }
-    from + n
+    let count = states.len().min(returned.len() - from);
+    returned[from..from + count].copy_from_slice(&states[..count]);
+    from + count
 }
 
 // The 24 states of a header: SYNC at low load, command and count at high.
 fn header_states(command: Command, count: u16) -> [u8; 24]
     ensures { result ≡ states_of (header command count) }
 {
-    let c = parts::number_of(command) as u16;
-    let a = high_bit(c, 2);
-    let b = high_bit(c, 1);
+    let code = u16::from(u8::from(command));
+    let a = high_bit(code, 2);
+    let b = high_bit(code, 1);
+    // One line a state, as the layout has it: a loop over the bits would be no plainer, as SYNC, the command's pairs and the count differ.
     [
         1,
         1,

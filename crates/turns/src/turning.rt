@@ -25,12 +25,15 @@ pub struct Turn {
 pub fn take_turn(device: Device, cursor: Cursor, states: &[u8]) -> Turn
     ensures { result ≡ turn_taken device cursor states.now }
 {
-    let at = cursor.at;
-    let ear = cursor.ear;
+    let Cursor {
+        at,
+        ear,
+        end,
+        pending,
+        ..
+    } = cursor;
     if cursor.front < cursor.count {
-        let pending = cursor.pending;
         let progress = crate::front::device_take(device, pending, states, at);
-        let end = cursor.end;
         return crate::watching::watched_take(device, pending, progress, ear, states, at, end);
     }
     Turn {
@@ -52,13 +55,16 @@ pub fn turn_after(
 ) -> Cursor
     ensures { (result ≡ cursor_after cursor at sent ear states.now (length returned.old)) × (returned.new ≡ turned_out cursor states.now returned.old) }
 {
-    let mut next = turn_to(cursor, at, sent, states, returned);
-    next.end = end_at(cursor.end, next.at, states);
-    next.ear = ear;
-    next
+    let next = turn_to(cursor, at, sent, states, returned);
+    Cursor {
+        end: end_at(cursor.end, next.at, states),
+        ear,
+        ..next
+    }
 }
 
 // The same, but for what the cursor knows of the high states ahead.
+#[tactic(auto, unfolding(crate::specs::Front::turned_out))]
 fn turn_to(cursor: Cursor, at: usize, sent: Sent, states: &[u8], returned: &mut [u8]) -> Cursor
     ensures { (result ≡ cond (ltb cursor.front cursor.count) (cursor_to cursor at sent states.now) (leave_after cursor states.now (length returned.old))) × (returned.new ≡ turned_out cursor states.now returned.old) }
 {
@@ -77,9 +83,10 @@ fn end_at(end: usize, at: usize, states: &[u8]) -> usize
     ensures { result ≡ cond (ltb at end) end (highs_end (drop at states.now) at) }
 {
     if at < end {
-        return end;
+        end
+    } else {
+        intake::highs_end(states, at)
     }
-    intake::highs_end(states, at)
 }
 
 // A device that sent, or passes, is no longer the front.

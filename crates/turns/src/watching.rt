@@ -30,26 +30,18 @@ pub fn watched_take(
     let heard = overhear(watch, before, pending, sent, states, at, to);
     let on = watch::is_enabled(watch, configuration_after(device.registers, progress));
     let ahead = hear_on(heard.watch, before, on, sent, ear, states, to, end);
-    let next = ahead.ear;
     let place = progress.place;
     let listened = with_heard(device.registers, heard.expired, ahead.heard.watch);
     let settled = intake::settle(listened, progress);
-    if ahead.heard.expired {
-        let registers = settled.clear();
-        return Turn {
-            device: Device { registers, place },
-            at: to,
-            ear: next,
-            sent,
-        };
-    }
+    let registers = if ahead.heard.expired {
+        settled.clear()
+    } else {
+        settled
+    };
     Turn {
-        device: Device {
-            registers: settled,
-            place,
-        },
+        device: Device { registers, place },
         at: to,
-        ear: next,
+        ear: ahead.ear,
         sent,
     }
 }
@@ -58,12 +50,12 @@ pub fn watched_take(
 fn configuration_after(registers: Registers, progress: Progress) -> u8
     ensures { result ≡ (settled_by progress.sent progress.at registers progress.slice).configuration }
 {
-    let sent = progress.sent;
-    let slice = progress.slice;
-    if let Sent::Header { command, .. } = sent {
-        return storing::configuration_after(registers, slice, command);
+    match progress.sent {
+        Sent::Header { command, .. } => {
+            storing::configuration_after(registers, progress.slice, command)
+        }
+        _ => registers.configuration,
     }
-    registers.configuration
 }
 
 // The watchdog's bit is set.
@@ -95,6 +87,7 @@ fn with_heard(registers: Registers, expired: bool, watch: Watch) -> Registers
 }
 
 // What is under way, and then its own states but for that of a store.
+#[tactic(auto, unfolding(crate::specs::Watching::overheard))]
 fn overhear(
     watch: Watch,
     on: bool,
@@ -111,7 +104,7 @@ fn overhear(
     let late = is_late(own.watch, on, sent, to);
     Listened {
         watch: own.watch,
-        expired: reached.expired || (own.expired || late),
+        expired: reached.expired || own.expired || late,
     }
 }
 
@@ -119,15 +112,15 @@ fn overhear(
 fn reach(watch: Watch, on: bool, pending: Sent, clock: usize) -> Listened
     ensures { result ≡ reached pending on clock watch }
 {
-    if let Sent::Header { count, .. } = pending {
-        return Listened {
+    match pending {
+        Sent::Header { count, .. } => Listened {
             watch: watch::move_lines(watch, on, clock, (count % 2) as u8, 1),
-            expired: watch::has_expired(watch, on, one_less(clock)),
-        };
-    }
-    Listened {
-        watch,
-        expired: false,
+            expired: watch::has_expired(watch, on, clock.saturating_sub(1)),
+        },
+        _ => Listened {
+            watch,
+            expired: false,
+        },
     }
 }
 
@@ -136,7 +129,7 @@ fn heard_to(sent: Sent, to: usize) -> usize
     ensures { result ≡ heard_to sent to }
 {
     match sent {
-        Sent::Header { .. } => one_less(to),
+        Sent::Header { .. } => to.saturating_sub(1),
         _ => to,
     }
 }
@@ -146,12 +139,13 @@ fn is_late(watch: Watch, on: bool, sent: Sent, to: usize) -> bool
     ensures { result ≡ late_by sent on to watch }
 {
     match sent {
-        Sent::Header { .. } => watch::has_expired(watch, on, one_less(to)),
+        Sent::Header { .. } => watch::has_expired(watch, on, to.saturating_sub(1)),
         _ => false,
     }
 }
 
 // The clock of a store, and the high states that follow.
+#[tactic(auto, unfolding(crate::specs::Watching::onward))]
 fn hear_on(
     watch: Watch,
     before: bool,
@@ -184,12 +178,5 @@ fn hear_on(
 fn state_before(states: &[u8], to: usize) -> u8
     ensures { result ≡ get_or states.now (to - 1) 0 }
 {
-    let at = one_less(to);
-    if at < states.len() { states[at] } else { 0 }
-}
-
-fn one_less(n: usize) -> usize
-    ensures { result ≡ n - 1 }
-{
-    if n == 0 { 0 } else { n - 1 }
+    states.get(to.saturating_sub(1)).copied().unwrap_or(0)
 }

@@ -28,7 +28,7 @@ another Lost f g h = absurd (h refl)
 
 -- the phase behind the header
 header : (c : After-head_all-phase) → c.head_all-phase.result ≡ headed_all (phase_of c.args.device.place) (drop c.args.from c.args.states.now) c.args.from
-header c = c.head_all-phase.ensures ∙ ap (λ (x : Phase). headed_all x (drop c.args.from c.args.states.now) c.args.from) c.phase_of.ensures
+header c = c.head_all-phase.ensures ∙ ap (λ (x : Phase). headed_all x (drop c.args.from c.args.states.now) c.args.from) c.from.ensures
 
 -- what is left to do behind it
 after : (c : After-head_all-phase) → high_taken c.args.device (drop c.args.from c.args.states.now) c.args.from ≡ onward c.args.device.registers c.args.states.now c.head_all-phase.result

@@ -23,24 +23,22 @@ pub returns-in-Header : goal.returns-in-Header
 returns-in-Header c = rw (c.take_slice.ensures, c.in-Header.is)
 
 pub returns-then-states-at-lt2 : goal.returns-then-states-at-lt2
-returns-then-states-at-lt2 c = let t = c in
-    let m = t in
-    let a = m.args in
+returns-then-states-at-lt2 c =
+    let a = c.args in
     c.low_take.ensures
-    ∙ ap progress_of (front_low a.device a.states.now a.at t.if-at-states.true c.if-states-at-lt2.true
+    ∙ ap progress_of (front_low a.device a.states.now a.at c.if-at-states.true c.if-states-at-lt2.true
     ∙ device-front a.device a.pending (drop a.at a.states.now) a.at (no_header a.pending c.in_default.not-Header))
 
 pub returns-then-device-eq4 : goal.returns-then-device-eq4
-returns-then-device-eq4 c = let e = c in
-    let f = e in
-    let t = f in
-    let m = t in
-    let a = m.args in
-    ap progress_of (front-passes a.device a.states.now a.at t.if-at-states.true f.if-states-at-lt2.false (passes-yes a.device e.if-device-eq4.true)
+returns-then-device-eq4 c =
+    let a = c.args in
+    c.take_none.ensures
+    ∙ ap progress_of (front-passes a.device a.states.now a.at c.if-at-states.true c.if-states-at-lt2.false (passes-yes a.device c.if-device-eq4.true)
     ∙ device-front a.device a.pending (drop a.at a.states.now) a.at (no_header a.pending c.in_default.not-Header))
 
 pub returns : goal.returns
-returns c = let a = c.args in
+returns c =
+    let a = c.args in
     let e : high_taken a.device (drop a.at a.states.now) a.at ≡ front_taken a.device (drop a.at a.states.now) a.at = elim c.if-at-states.branch [
       | then-at-states+else-states-at-lt2+else-device-eq4 w ↦ front-high a.device a.states.now a.at w.if-at-states.true w.if-states-at-lt2.false (passes-no a.device w.if-device-eq4.false)
       | else-at-states w ↦ front-end a.device a.states.now a.at w.if-at-states.false

@@ -26,6 +26,6 @@ returns c = let p = c in
     let h = p in
     let a = h.args in
     let e = h.highs_end-end.ensures ∙ highs_end-high_count _ _ in (
-      rw (c.next_turn.ensures, p.append-w.ensures.0, part_length a.states.now a.cursor.at _ e, e),
-      p.append-w.ensures.1 ∙ ap (λ (xs : List ℕ). put_all a.returned.now a.cursor.written xs) (part-list _ _ _ e),
+      rw (c.next_turn.ensures, p.append-written.ensures.0, part_length a.states.now a.cursor.at _ e, e),
+      p.append-written.ensures.1 ∙ ap (λ (xs : List ℕ). put_all a.returned.now a.cursor.written xs) (part-list _ _ _ e),
     )

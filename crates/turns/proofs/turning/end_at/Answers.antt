@@ -1,8 +1,0 @@
-use borrow.Author.Tests.{lt-ltb, le-ltb}
-use Rattle.turns.proofs.turning.end_at.Goals as goal
-
-pub returns-then-at-end : goal.returns-then-at-end
-returns-then-at-end c = rw (lt-ltb _ _ c.if-at-end.true)
-
-pub returns : goal.returns
-returns c = rw (le-ltb _ _ c.if-at-end.false, c.highs_end.ensures)

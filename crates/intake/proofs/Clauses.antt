@@ -48,14 +48,6 @@ pub ruleset headed_clauses = (headed-end, headed-out, headed-low, headed-on)
 
 -- ---- high states
 
-pub highs-end : (ss : List ℕ) (i k : ℕ) → length ss ≤ i → highs_end (drop i ss) k ≡ k
-unfolding highs_end
-highs-end ss i k h = rw (drop_of_length-le ss h) refl
-
-pub highs-low : (ss : List ℕ) (i k : ℕ) → i < length ss → get_or ss i 0 < 2 → highs_end (drop i ss) k ≡ k
-unfolding highs_end
-highs-low ss i k h l = rw (drop-on ss i h, lt-ltb (get_or ss i 0) 2 l) refl
-
 pub highs-on : (ss : List ℕ) (i k : ℕ) → i < length ss → 2 ≤ get_or ss i 0 → highs_end (drop i ss) k ≡ highs_end (drop (i + 1) ss) (k + 1)
 unfolding highs_end
 highs-on ss i k h l = rw (drop-on ss i h, le-ltb (get_or ss i 0) 2 l) refl

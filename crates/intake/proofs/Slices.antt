@@ -102,10 +102,6 @@ slot-within r c t h =
     let k = field_of (part_of r.part) c (multiplex r.configuration) t p h in
     omega (arith, fields_le (part_of r.part) (usable r.part) c (multiplex r.configuration) (mod-lt r.configuration (lit< tt)))
 
--- the same, as the code has the width
-pub slot-width : (r : Registers) (c : Command) (t w : ℕ) → w ≡ field_width (part_of r.part) c → t < slice_length r c → t / w < 48
-slot-width r c t w e h = subst (λ (x : ℕ). t / x < 48) (sym e) (slot-within r c t h)
-
 -- ---- a field's place
 
 pub filled-ge : (v b : ℕ) (l : List ℕ) (i : ℕ) → i ≤ (filled v b l i).at

@@ -1,9 +1,9 @@
 -- The device of a turn after the header that is under way, if one is. Assumes nothing.
-use mathlib.Core.Path.{◌≡◌, refl, sym, ap, ◌∙◌}
+use mathlib.Core.Path.{◌≡◌, refl, sym, ap}
 use mathlib.Core.Bool.{true, false, true≢false}
 use mathlib.Core.List.{List}
 use Prim.Native.Nat.{ℕ, ◌<◌, ◌≤◌}
-use lib.ListN.{length, get_or, drop, drop_of_length-le}
+use lib.ListN.{length, get_or, drop}
 use Rattle.phases.specs.declared.phase.Sent.{Sent}
 use Rattle.phases.specs.declared.phase.Sent.TheVariants.{Nothing, One, Header}
 use Rattle.phases.specs.Phases.{phase_of}
@@ -11,7 +11,7 @@ use Rattle.device.specs.declared.device.Device.{Device}
 use Rattle.intake.specs.Intake.{stopped, high_taken}
 use Rattle.intake.proofs.Phases.{high-low-at}
 use Rattle.cursor.proofs.Cases.{NoHeader, not_last}
-use Rattle.turns.specs.Front.{passes, phase_run, phase_taken, front_taken, slice_start, device_taken, after_header, low_taken}
+use Rattle.turns.specs.Front.{passes, phase_run, phase_taken, slice_start, device_taken, after_header, low_taken}
 use Rattle.turns.specs.declared.front.PhaseRun.{PhaseRun}
 use Rattle.turns.proofs.Taking.{front-end, front_low, front-passes, front-high}
 

@@ -1,25 +1,16 @@
 -- What an enum is in the `else` of an `if let`, or under `_`: the tag says which cases are left. And what a device's
 -- watchdog makes of a turn, put together from its parts. Assumes nothing.
 use mathlib.Core.Path.{◌≡◌, refl, sym, ap, ◌∙◌}
-use mathlib.Core.Bool.{Bool, true, false, ◌||◌}
-use mathlib.Core.List.{List, [], ◌∷◌}
-use mathlib.Core.Logic.{⊎_elim}
-use Prim.Native.Nat.{ℕ, ◌+◌, ◌-◌}
-use lib.ListN.{take, drop}
-use native.Mathlib.Omega.{arith}
-use types.Run.{OneOf}
-use denote.Enum.Declared.{tag_of}
-use Rattle.phases.specs.declared.phase.Phase.{Phase}
-use Rattle.phases.specs.declared.phase.Phase.TheVariants.{Hunting, Opening, Counting, Slice, Passing, Lost}
+use mathlib.Core.Bool.{Bool, true, false}
+use mathlib.Core.List.{List}
+use Prim.Native.Nat.{ℕ}
 use Rattle.phases.specs.declared.phase.Sent.{Sent}
 use Rattle.phases.specs.declared.phase.Sent.TheVariants.{Nothing, One, Header}
 use Rattle.device.specs.declared.device.Device.{Device}
-use Rattle.phases.specs.contracts.phase.Phase as P
-use Rattle.phases.specs.contracts.phase.Sent as S
 use Rattle.registers.specs.Held.{with_watch, with_slice, cleared}
 use Rattle.registers.specs.declared.registers.Registers.{Registers}
 use Rattle.watch.specs.Watch.{line, with_lines, enabled}
-use Rattle.watch.specs.Kept.{watch_by, expired_by, listened}
+use Rattle.watch.specs.Kept.{watch_by, expired_by}
 use Rattle.positions.specs.Positions.{placed_at}
 use Rattle.positions.specs.Running.{has_ended, position_by, by_clock, dated}
 use Rattle.turns.proofs.Stored.{stored-watch, stored-cleared, stored-keeps}
@@ -30,44 +21,12 @@ use Rattle.watch.specs.declared.ear.Followed.{Followed}
 use Rattle.turns.specs.declared.turning.Turn.{Turn}
 use Rattle.intake.specs.Intake.{settled_by}
 use Rattle.intake.specs.declared.taken.Progress.{Progress}
-use Rattle.turns.specs.Watching.{is_on, cleared_if, cleared_device, reached, heard_to, late_by, overheard, onward, hearing, watched_turn, watched_by}
-use Rattle.turns.specs.Ending.{by_clock_device, shown_with, shown_if}
-use Rattle.turns.specs.Front.{is_lost, front_after, leave_cursor, leaving, passed_to}
-use Rattle.cursor.specs.declared.cursor.Cursor.{Cursor}
-use Rattle.cursor.proofs.Cases.{NoHeader, not_last}
-
-pub leave_cursor-none : (p : Sent) (c : Cursor) (ss : List ℕ) (room : ℕ) → NoHeader p → passed_to c ss room ≡ leave_cursor p c ss room
-leave_cursor-none Nothing c ss room h = refl
-leave_cursor-none (One s) c ss room h = refl
-leave_cursor-none (Header k n) c ss room h = absurd (not_last h)
-
-pub leaving-none : (p : Sent) (ss : List ℕ) → NoHeader p → leaving Nothing ss ≡ leaving p ss
-leaving-none Nothing ss h = refl
-leaving-none (One s) ss h = refl
-leaving-none (Header k n) ss h = absurd (not_last h)
+use Rattle.turns.specs.Watching.{is_on, cleared_if, overheard, onward, watched_turn, watched_by}
+use Rattle.turns.specs.Ending.{by_clock_device, shown_if}
 
 -- what a watchdog hears where no header is under way, or none is sent
 
-pub reached-none : (p : Sent) (on : Bool) (t : ℕ) (w : Watch) → NoHeader p → ◌≡◌ {A = Listened} (record { watch = w; expired = false }) (reached p on t w)
-reached-none Nothing on t w h = refl
-reached-none (One s) on t w h = refl
-reached-none (Header c n) on t w h = absurd (not_last h)
-
-pub heard_to-none : (q : Sent) (to : ℕ) → NoHeader q → to ≡ heard_to q to
-heard_to-none Nothing to h = refl
-heard_to-none (One s) to h = refl
-heard_to-none (Header c n) to h = absurd (not_last h)
-
-pub late_by-none : (q : Sent) (on : Bool) (to : ℕ) (w : Watch) → NoHeader q → false ≡ late_by q on to w
-late_by-none Nothing on to w h = refl
-late_by-none (One s) on to w h = refl
-late_by-none (Header c n) on to w h = absurd (not_last h)
-
 -- what it hears, and the whole turn, from their parts
-
-pub overheard-is : (p q : Sent) (on : Bool) (ss : List ℕ) (at to : ℕ) (w : Watch) {a b : Listened} {n : ℕ} {l x : Bool} → a ≡ reached p on at w → n ≡ heard_to q to → b ≡ listened on at (take (n - at) (drop at ss)) a.watch → l ≡ late_by q on to b.watch → x ≡ (a.expired || (b.expired || l)) → ◌≡◌ {A = Listened} (record { watch = b.watch; expired = x }) (overheard p q on ss at to w)
-unfolding overheard
-overheard-is p q on ss at to w ea en eb el ex = rw (ex, el, eb, en, ea)
 
 -- what is settled of registers with another watchdog
 pub settled-watch : (x : Sent) (t : ℕ) (r : Registers) (w : Watch) (sl : List ℕ) → settled_by x t (with_watch r w) sl ≡ with_watch (settled_by x t r sl) w
@@ -83,11 +42,6 @@ settled-configuration false x t r sl = refl
 settled-configuration true Nothing t r sl = refl
 settled-configuration true (One s) t r sl = refl
 settled-configuration true (Header c n) t r sl = stored-cleared (with_slice r sl) c
-
-pub settled-none : (x : Sent) (t : ℕ) (r : Registers) (sl : List ℕ) → NoHeader x → r.configuration ≡ (settled_by x t r sl).configuration
-settled-none Nothing t r sl h = refl
-settled-none (One s) t r sl h = refl
-settled-none (Header c n) t r sl h = absurd (not_last h)
 
 pub watched_turn-is : (d : Device) (p : Sent) (q : Progress) (e : Ear) (ss : List ℕ) (at end : ℕ) {before on x : Bool} {a : Listened} {b : Followed} {n : ℕ} {c u v : Registers}
     → before ≡ is_on d.registers → a ≡ overheard p q.sent before ss at q.at d.registers.watch → n ≡ (settled_by q.sent q.at d.registers q.slice).configuration
@@ -119,22 +73,11 @@ watched_turn-is d p q e ss at end {before} {on} {x} {a} {b} {n} {c} {u} {v} e1 e
     settled-bit false (Header c n) t r sl = stored-keeps (with_slice r sl) c
     settled-bit true (Header c n) t r sl = stored-keeps (with_slice (cleared r) sl) c
 
--- it hears, and is cleared: in either order
-pub hearing-cleared : (b : Bool) (w : Watch) (d : Device) → hearing (record { watch = w; expired = b }) d ≡ cleared_device b (record { registers = with_watch d.registers w; place = d.place })
-hearing-cleared true w d = refl
-hearing-cleared false w d = refl
-
 -- a device at a position, with the counts of a watchdog
 abbrev pub counted_with : Device → ℕ → Watch → Device
 counted_with d n w =
     let v : Watch = d.registers.watch in
     record { registers = with_watch (placed_at d.registers n) (with_lines v (line w.din.still v.din.level) (line w.loadi.still v.loadi.level)); place = d.place }
-
--- a record brought up to a clock: what is shown by then, the counts, and no value where its watchdog has expired
-pub brought-is : (t : ℕ) (d : Device) {on x : Bool} {w : Watch} → on ≡ is_on d.registers → w ≡ watch_by on t d.registers.watch → x ≡ expired_by on t d.registers.watch
-    → cleared_device x (shown_with d w t) ≡ by_clock_device t d
-unfolding watched_by
-brought-is t d {on} {x} {w} eo ew ex = rw (ew, ex, eo)
 
 -- a record brought up to a clock: its position, the counts, what is shown by then, and no value where its watchdog has expired
 pub brought-counted : (t : ℕ) (d : Device) {on x ended : Bool} {w : Watch} {n : ℕ} → on ≡ is_on d.registers → w ≡ watch_by on t d.registers.watch → x ≡ expired_by on t d.registers.watch
@@ -145,18 +88,3 @@ brought-counted t d {on} {x} {ended} {w} {n} eo ew ex en ee = go ended ee
     go : (b : Bool) → b ≡ has_ended t d.registers → record { registers = shown_if b x (counted_with d n w).registers; place = d.place } ≡ by_clock_device t d
     go true e = rw (ew, ex, eo, en, sym e)
     go false e = rw (ew, ex, eo, en, sym e)
-
--- something was sent
-pub front_after-sent : (f : ℕ) (x : Sent) → OneOf (1 ∷ 2 ∷ []) (tag_of S.the_type x) → f + 1 ≡ front_after f x
-front_after-sent f Nothing h = absurd (⊎_elim (λ e. omega arith) (λ e. omega arith) h)
-front_after-sent f (One s) h = refl
-front_after-sent f (Header c n) h = refl
-
--- any phase but the last
-pub is_lost-not : (p : Phase) → OneOf (0 ∷ 1 ∷ 2 ∷ 3 ∷ 4 ∷ []) (tag_of P.the_type p) → false ≡ is_lost p
-is_lost-not (Hunting w) h = refl
-is_lost-not (Opening r) h = refl
-is_lost-not (Counting c r) h = refl
-is_lost-not (Slice c n t) h = refl
-is_lost-not Passing h = refl
-is_lost-not Lost h = absurd (⊎_elim (λ e. omega arith) (λ i. ⊎_elim (λ e. omega arith) (λ j. ⊎_elim (λ e. omega arith) (λ k. ⊎_elim (λ e. omega arith) (λ e. omega arith) k) j) i) h)

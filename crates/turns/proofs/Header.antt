@@ -10,18 +10,17 @@ use native.Mathlib.Omega.{arith}
 use lib.Dec.{lit<}
 use lib.Arith.{mod-mul}
 use lib.Pow.{pow_pos}
-use borrow.Author.Tests.{lt-ltb, le-ltb}
+use borrow.Author.Tests.{eq-eqb, ne_eqb, lt-ltb, le-ltb}
 use Rattle.machine.specs.Machine as machine
 use Rattle.parts.specs.Parts.{code}
 use Rattle.parts.proofs.Laws.{command-code}
 use Rattle.parts.specs.Wire.{header, states_of}
 use Rattle.parts.specs.declared.command.Command.{Command}
 use Rattle.parts.specs.declared.command.Command.TheVariants.{Individual, Calibration, Global, Configuration}
-use Rattle.phases.specs.Phases.{phase_of, place_of, window_of, pushed}
+use Rattle.phases.specs.Phases.{phase_of, place_of, window_of, pushed, rising}
 use Rattle.device.specs.Step.{step, step_high, at}
 use Rattle.phases.specs.declared.phase.Phase.{Phase}
 use Rattle.phases.specs.declared.phase.Phase.TheVariants.{Opening, Counting, Slice}
-use Rattle.phases.proofs.Rising.{rising-exact}
 use Rattle.registers.specs.declared.registers.Registers.{Registers}
 use Rattle.device.specs.declared.device.Device.{Device}
 use Rattle.turns.specs.Front.{slice_start}
@@ -41,6 +40,10 @@ synced w = push (push (push (push (push (push (push ((w * 2 + 1) % 512) 1) 1) 0)
 -- they are its last eight
 eight : (w : ℕ) → synced w % 512 % 256 ≡ 0xE8
 eight w = omega arith
+
+-- a rising edge behind the whole of SYNC is the exact one
+rising-exact : (w b : ℕ) → w % 256 ≡ 0xE8 → Opening (2 + b) ≡ rising w b
+rising-exact w b e = rw (ne_eqb (w % 128) 0x74 (λ f. omega (arith, f)), eq-eqb (w % 256) 0xE8 e)
 
 -- SYNC, and the first command bit with the exact edge
 opens : (d : Device) (b : ℕ) (xs : List ℕ) → b < 2 → run_plain d (1 ∷ 1 ∷ 1 ∷ 0 ∷ 1 ∷ 0 ∷ 0 ∷ 0 ∷ (2 + b) ∷ xs) ≡ run_plain (at d.registers (Opening (2 + b))) xs

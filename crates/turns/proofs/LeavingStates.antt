@@ -8,10 +8,10 @@ use native.Mathlib.Numerals.{add-one}
 use native.Mathlib.Nat.{mod-lt}
 use native.Mathlib.Omega.{arith}
 use lib.Dec.{ltb, leb, lit<}
-use lib.ListN.{length, get_or, set, take, drop, length-set, length-drop, drop_of_length-le}
+use lib.ListN.{length, set, take, drop, length-set, length-drop}
 use lib.Seq.{set_out, length-take-le}
 use borrow.Rule.Slice.PartMut.{put_mid, Post-is}
-use borrow.Author.Tests.{le-leb, lt-leb, leb-true, leb-false}
+use borrow.Author.Tests.{le-leb, leb-true, leb-false}
 use Rattle.bits.specs.Bits.{is_one, digit, bits, over}
 use Rattle.parts.specs.Parts.{code}
 use Rattle.parts.specs.Wire.{high, state_code, command_count, header, clocked_at, states_of}
@@ -19,7 +19,6 @@ use Rattle.parts.specs.declared.command.Command.{Command}
 use Rattle.parts.specs.declared.command.Command.TheVariants.{Individual, Calibration, Global, Configuration}
 use Rattle.tables.proofs.Booleans.{cond_both}
 use Rattle.intake.specs.Intake.{highs_end}
-use Rattle.intake.proofs.Clauses.{drop-on}
 use Rattle.turns.specs.Front.{put_all, put_end, high_count}
 
 -- where high states end is as far on as there are of them
@@ -36,14 +35,6 @@ unfolding put_all
 put_full os w [] h = refl
 put_full os w (x ∷ xs) h =
     put_full (set os w x) (w + 1) xs (simp length-set (omega (arith, h))) ∙ set_out os w x h
-
-pub put-end : (os : List ℕ) (w : ℕ) (xs : List ℕ) (i : ℕ) → length xs ≤ i → put_all os w (drop i xs) ≡ os
-unfolding put_all
-put-end os w xs i h = rw (drop_of_length-le xs h) refl
-
-pub put_on : (os : List ℕ) (w : ℕ) (xs : List ℕ) (i : ℕ) → i < length xs → put_all os w (drop i xs) ≡ put_all (set os w (get_or xs i 0)) (w + 1) (drop (i + 1) xs)
-unfolding put_all
-put_on os w xs i h = rw (drop-on xs i h) refl
 
 pub put-end-is : (room w k : ℕ) → w ≤ room → w + min k (room - w) ≡ put_end room w k
 put-end-is room w k h = by_cases (leb (w + k) room) refl

@@ -19,9 +19,6 @@ abbrev pub Lows : List ℕ → ℕ → ℕ → Type 0
 Lows ss i e = (k : ℕ) → i ≤ k → k < e → (k < length ss) × (get_or ss k 0 < 2)
 
 module _ (ss : List ℕ) where
-  pub lows-none : (i : ℕ) → Lows ss i i
-  lows-none i k a b = absurd (omega (arith, a, b))
-
   -- one run behind another
   pub lows-join : (i m e : ℕ) → Lows ss i m → Lows ss m e → Lows ss i e
   lows-join i m e f g k a b = go (ltb k m) refl
@@ -29,13 +26,6 @@ module _ (ss : List ℕ) where
       go : (t : Bool) → ltb k m ≡ t → (k < length ss) × (get_or ss k 0 < 2)
       go true q = f k a (ltb-true k m q)
       go false q = g k (ltb-false k m q) b
-
-  -- one more
-  pub lows-more : (i e : ℕ) → e < length ss → get_or ss e 0 < 2 → Lows ss i e → Lows ss i (e + 1)
-  lows-more i e h l f = lows-join i e (e + 1) f one
-    where
-      one : Lows ss e (e + 1)
-      one k a b = let p : k ≡ e = omega (arith, a, b) in rw p (h, l)
 
   -- the same place, by another name
   pub lows-same : (i d e : ℕ) → d ≡ e → Lows ss i d → Lows ss i e

@@ -18,7 +18,7 @@ use Rattle.cursor.specs.Answer.{ran, run_answer}
 use Rattle.turns.specs.Ending.{run_under, run_end, by_clock_device}
 use Rattle.turns.proofs.LeavingStates.{put-over, put-end-all}
 use borrow.Author.Tests.{eq-eqb}
-use Rattle.turns.proofs.Turns.{no_way, Good, measure, good_start, good-next, nearer-next, turns-on, turns-stop, near-start}
+use Rattle.turns.proofs.Turns.{Good, measure, good_start, good-next, nearer-next, turns-on, turns-stop, near-start}
 use Rattle.turns.proofs.Late.{Packet, singles, relay_late, states_in}
 use Rattle.turns.proofs.Same.{all-neat, front-run-same}
 use Rattle.turns.proofs.ByClock.{run-by-clock}

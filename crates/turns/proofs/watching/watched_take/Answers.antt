@@ -1,4 +1,4 @@
-use mathlib.Core.Path.{◌≡◌, refl, ap, ◌∙◌}
+use mathlib.Core.Path.{◌≡◌, refl, ◌∙◌}
 use Rattle.turns.specs.Watching.{cleared_if}
 use Rattle.turns.proofs.Cases.{watched_turn-is}
 use Rattle.turns.proofs.watching.watched_take.Goals as goal

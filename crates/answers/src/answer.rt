@@ -1,6 +1,9 @@
 // What an exported operation gives.
 ghost use Rattle.std.specs.Prelude.{◌≡◌};
-ghost use Rattle.answers.specs.Answers.{accepted, refused};
+ghost use Rattle.tables.specs.Refusals.{numbered};
+ghost use Rattle.answers.specs.Answers.{of_answer};
+
+use tables::Refusal;
 
 // A number, or a refusal. The number is 0 where refused, and the refusal 0 where accepted.
 #[repr(C)]
@@ -10,17 +13,19 @@ pub struct Answer {
     pub refusal: u8,
 }
 
-pub fn accept(value: usize) -> Answer
-    ensures { result ≡ accepted value }
-{
-    Answer {
-        value: value as u64,
-        refusal: 0,
-    }
-}
+impl From<Result<usize, Refusal>> for Answer {
+    ghost from_gives = { λ given answer. answer ≡ of_answer (numbered given) };
 
-pub fn refuse(refusal: u8) -> Answer
-    ensures { result ≡ refused refusal }
-{
-    Answer { value: 0, refusal }
+    fn from(given: Result<usize, Refusal>) -> Answer {
+        match given {
+            Ok(value) => Answer {
+                value: value as u64,
+                refusal: 0,
+            },
+            Err(refusal) => Answer {
+                value: 0,
+                refusal: refusal.into(),
+            },
+        }
+    }
 }

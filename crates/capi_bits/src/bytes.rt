@@ -13,26 +13,27 @@ pub struct Packed {
     pub done: u8,
 }
 
+impl From<Option<usize>> for Packed {
+    ghost from_gives = { λ packed answer. answer ≡ of_packed packed };
+
+    fn from(packed: Option<usize>) -> Packed {
+        match packed {
+            Some(n) => Packed {
+                bytes: n as u64,
+                done: 1,
+            },
+            None => Packed { bytes: 0, done: 0 },
+        }
+    }
+}
+
 // The low bits of each value, most significant first and with no gap, from a byte of `out` on.
 #[unsafe(no_mangle)]
 pub extern "C" fn bb_pack(values: &[u16], width: u32, out: &mut [u8], at: usize) -> Packed
     ensures { (result ≡ of_packed (packed 16 width (length values.now) at (length out.old)))
         × (out.new ≡ packed_out 16 width values.now at out.old) }
 {
-    let packed = packing::pack(values, width, out, at);
-    of_packed(packed)
-}
-
-fn of_packed(packed: Option<usize>) -> Packed
-    ensures { result ≡ of_packed packed }
-{
-    let Some(n) = packed else {
-        return Packed { bytes: 0, done: 0 };
-    };
-    Packed {
-        bytes: n as u64,
-        done: 1,
-    }
+    packing::pack(values, width, out, at).into()
 }
 
 // Numbers from a byte of `src` on: 1 where done, else 0.
@@ -41,12 +42,5 @@ pub extern "C" fn bb_unpack(src: &[u8], at: usize, width: u32, values: &mut [u16
     ensures { (result ≡ digit (unpacked width (length values.old) at (length src.now)))
         × (values.new ≡ unpacked_out width src.now at values.old) }
 {
-    let done = unpacking::unpack(src, at, width, values);
-    of_done(done)
-}
-
-fn of_done(done: bool) -> u8
-    ensures { result ≡ digit done }
-{
-    if done { 1 } else { 0 }
+    u8::from(unpacking::unpack(src, at, width, values))
 }

@@ -3,16 +3,18 @@ ghost use Rattle.std.specs.Prelude.{◌≡◌};
 ghost use Rattle.parts.specs.Parts.{part_of, multiplex, command_at, subframes, slice_bits};
 ghost use Rattle.capi_bits.specs.PartAnswers.{of_part};
 
-use answers::{Answer, accept, refuse};
+use answers::Answer;
+use tables::Refusal;
 
 fn of_part(part: u16, number: u16) -> Answer
     ensures { result ≡ of_part part number }
 {
-    if parts::is_known(part) {
-        accept(number as usize)
+    let asked = if parts::is_known(part) {
+        Ok(usize::from(number))
     } else {
-        refuse(1)
-    }
+        Err(Refusal::UnknownPart)
+    };
+    asked.into()
 }
 
 // Subframes per frame.
@@ -28,6 +30,8 @@ pub extern "C" fn bb_subframes(part: u16, configuration: u8) -> Answer
 pub extern "C" fn bb_slice_bits(command: u8, part: u16, configuration: u8) -> Answer
     ensures { result ≡ of_part part (slice_bits (part_of part) (command_at command) (multiplex configuration)) }
 {
-    let named = parts::command_of(command);
-    of_part(part, slices::slice_bits(named, part, configuration))
+    of_part(
+        part,
+        slices::slice_bits(command.into(), part, configuration),
+    )
 }

@@ -5,13 +5,12 @@ ghost use Rattle.frames.specs.Frames.{tail_of};
 ghost use Rattle.frame_writer.specs.Writing.{written, written_out};
 ghost use Rattle.frame_reader.specs.Reading.{read, read_bytes, read_values};
 ghost use Rattle.return_reader.specs.Returns.{return_read};
-ghost use Rattle.capi_frames.specs.FrameAnswers.{told_by, of_written, value_given, listed, of_read, return_read_number, of_return_read};
+ghost use Rattle.answers.specs.Answers.{of_answer};
+ghost use Rattle.capi_frames.specs.FrameAnswers.{told_by, value_given, of_read};
 
-use answers::{Answer, accept, refuse};
+use answers::Answer;
 use frame_reader::Read;
-use frame_writer::Written;
 use frames::{Tail, Told};
-use return_reader::ReturnRead;
 
 // Writes a frame.
 #[unsafe(no_mangle)]
@@ -28,7 +27,7 @@ pub extern "C" fn bb_write(
     out: &mut [u8],
 ) -> Answer
     ensures value { result
-        ≡ of_written
+        ≡ of_answer
         (written (told_by part devices command configuration) (tail_of tail long) byte bytes.now values.now
         (length out.old)) }
     ensures out_after { out.new
@@ -40,8 +39,7 @@ pub extern "C" fn bb_write(
         number: tail,
         length: long,
     };
-    let written = frame_writer::write(told, behind, byte, bytes, values, out);
-    of_written(written)
+    frame_writer::write(told, behind, byte, bytes, values, out).into()
 }
 
 // Reads a host frame.
@@ -73,8 +71,9 @@ pub extern "C" fn bb_read(
         number: tail,
         length: long,
     };
-    let read = frame_reader::read(told, behind, frame, bytes, values);
-    of_read(read)
+    frame_reader::read(told, behind, frame, bytes, values)
+        .map(value_given)
+        .into()
 }
 
 // Reads what came back.
@@ -87,15 +86,15 @@ pub extern "C" fn bb_read_return(
     long: u32,
     frame: &[u8],
 ) -> Answer
-    ensures { result ≡ of_return_read (return_read part devices (command_at command) (tail_of tail long) frame.now) }
+    ensures { result ≡ of_answer (return_read part devices (command_at command) (tail_of tail long) frame.now) }
 {
-    let named = parts::command_of(command);
     let behind = Tail {
         number: tail,
         length: long,
     };
-    let returned = return_reader::read_return(part, devices, named, behind, frame);
-    of_return_read(returned)
+    return_reader::read_return(part, devices, command.into(), behind, frame)
+        .map(usize::from)
+        .into()
 }
 
 fn told_by(part: u16, devices: usize, command: u8, configuration: u8) -> Told
@@ -104,64 +103,17 @@ fn told_by(part: u16, devices: usize, command: u8, configuration: u8) -> Told
     Told {
         part,
         devices,
-        command: parts::command_of(command),
+        command: command.into(),
         configuration,
     }
-}
-
-fn of_written(written: Written) -> Answer
-    ensures { result ≡ of_written written }
-{
-    match written {
-        Written::Bytes(n) => accept(n),
-        Written::Refused(number) => refuse(number),
-    }
-}
-
-fn of_read(read: Read) -> Answer
-    ensures { result ≡ of_read read }
-{
-    let Read::Refused(number) = read else {
-        return accept(value_given(read));
-    };
-    refuse(number)
 }
 
 // What an accepted frame gives: its byte, or how much of the lent list.
 fn value_given(read: Read) -> usize
     ensures { result ≡ value_given read }
 {
-    let Read::Byte(byte) = read else {
-        return listed(read);
-    };
-    byte as usize
-}
-
-// How many bytes or values stand in the lent list.
-fn listed(read: Read) -> usize
-    ensures { result ≡ listed read }
-{
-    let (Read::Bytes(n) | Read::Values(n)) = read else {
-        return 0;
-    };
-    n
-}
-
-fn of_return_read(returned: ReturnRead) -> Answer
-    ensures { result ≡ of_return_read returned }
-{
-    let ReturnRead::Count(count) = returned else {
-        return refuse(return_read_number(returned));
-    };
-    accept(count as usize)
-}
-
-// The number of a refused return, else 0.
-fn return_read_number(returned: ReturnRead) -> u8
-    ensures { result ≡ return_read_number returned }
-{
-    let ReturnRead::Refused(refusal) = returned else {
-        return 0;
-    };
-    refusal
+    match read {
+        Read::Byte(byte) => usize::from(byte),
+        Read::Bytes(n) | Read::Values(n) => n,
+    }
 }

@@ -1,8 +1,0 @@
--- `capi_bits::of_done` meets its contract. Assumes nothing.
-use Rattle.capi_bits.proofs.bytes.of_done.Goals as goal
-
-pub returns-then-done : goal.returns-then-done
-returns-then-done c = rw c.if-done.true
-
-pub returns-else-done : goal.returns-else-done
-returns-else-done c = rw c.if-done.false

@@ -1,7 +1,0 @@
--- `capi_frames::bb_states` meets its contract. Assumes nothing.
-use mathlib.Core.Path.{ap, ◌∙◌}
-use Rattle.capi_frames.specs.FrameAnswers.{of_converted}
-use Rattle.capi_frames.proofs.conversion.bb_states.Goals as goal
-
-pub returns : goal.returns
-returns c = (c.of_converted.ensures ∙ ap of_converted c.frame_states-written.ensures.0, c.frame_states-written.ensures.1)

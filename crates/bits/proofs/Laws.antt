@@ -355,10 +355,6 @@ over_at-next at ys l v h =
 
 -- ---- loops that write from the front
 
-pub paste-over : (ys l : List ℕ) (n : ℕ) → length ys ≡ n → paste l 0 ys n ≡ over ys l
-unfolding over
-paste-over ys l n e = ap₂ (λ (k : ℕ) (xs : List ℕ). xs ++ drop k l) (zero-add n ∙ sym e) (ap (λ (k : ℕ). take k ys) (sym e) ∙ take-length ys)
-
 -- a turn: the next element at its place
 pub paste-next : (ys l out : List ℕ) (i v : ℕ) → out ≡ paste l 0 ys i → i < length ys → i < length l → v ≡ get_or ys i 0 → set out i v ≡ paste l 0 ys (i + 1)
 paste-next ys l out i v e h k q =

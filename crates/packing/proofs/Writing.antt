@@ -7,7 +7,7 @@ use Prim.Native.Nat.{ℕ, suc, ◌+◌, ◌-◌, ◌*◌, ◌/◌, ◌%◌, ◌^
 use native.Mathlib.Nat.{add-zero, mod-lt, add-mul, zero-mul, one-mul}
 use native.Mathlib.Omega.{arith}
 use lib.ListN.{length, get_or, take, drop, set, length-drop, take-append-drop}
-use lib.Seq.{length-take-le, take_all, take-suc-set, drop-drop, drop-set-lt}
+use lib.Seq.{length-take-le, take-suc-set, drop-drop, drop-set-lt}
 use lib.Pow.{pow_pos, shr-shr}
 use lib.Bits.{bit_or, bit_and, and_mask}
 use Rattle.bits.specs.Bits.{bits, number, fields}
@@ -176,12 +176,6 @@ pub pushed-group : (w n : ℕ) (vs : List ℕ) (i : ℕ) {x : ℕ} {a b : List �
 pushed-group w n vs i {x} {a} {b} {p} {q} l e d =
     let long : length (take n (drop i vs)) ≡ n = length-take-le n (drop i vs) (omega (arith, length-drop i vs)) in
     subst (λ (z : List Bool). Pushed a b p q (n * w) z) (ap (bits (n * w)) e ∙ group-bits n w (take n (drop i vs)) long) d
-
-pub pushed-all : (w : ℕ) (vs : List ℕ) (i : ℕ) {a b : List ℕ} {p q : Writer} → i ≤ length vs → length vs ≤ i
-    → Pushed a b p q (i * w) (fields w (take i vs)) → Pushed a b p q (length vs * w) (fields w vs)
-pushed-all w vs i {a} {b} {p} {q} h l d =
-    let e : i ≡ length vs = omega arith in
-    subst₂ (λ (n : ℕ) (z : List ℕ). Pushed a b p q (n * w) (fields w z)) e (take_all i vs l) d
 
 -- k of them, and then the others: how much room they take, and both
 pub rest-room : (w : ℕ) (vs ys : List ℕ) (k : ℕ) → k ≤ length vs → ys ≡ drop k vs → k * w + length ys * w ≡ length vs * w

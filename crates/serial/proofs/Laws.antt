@@ -171,8 +171,3 @@ number-next states at k h =
       single : (b : Bool) → digit b * 1 + 0 ≡ digit b
       single true = refl
       single false = refl
-
--- twice the load bit
-pub load-le : (t : Bool) → cond t 0 2 ≤ 2
-load-le true = omega arith
-load-le false = omega arith

@@ -3,20 +3,14 @@
 use mathlib.Core.Path.{◌≡◌, refl, sym, ap, ◌∙◌}
 use mathlib.Core.Bool.{Bool, true, false, ◌&&◌}
 use mathlib.Core.List.{List, [], ◌∷◌}
-use Prim.Native.Nat.{ℕ, zero, suc, ◌+◌, ◌<◌, ◌^◌}
-use native.Mathlib.Numerals.{add-one}
+use Prim.Native.Nat.{ℕ, zero, suc, ◌^◌}
 use native.Mathlib.Omega.{arith}
 use lib.Bits.{bit_or, or_lt, or_add_and, and_le_l, and_le_r}
-use lib.Dec.{eqb, ltb}
-use lib.ListN.{length, get_or, drop, replicate}
-use lib.Seq.{drop-cons}
+use lib.Dec.{ltb}
+use lib.ListN.{replicate}
 use borrow.Author.Tests.{eq-eqb, ltb-true, ltb-false, lt-ltb, le-ltb}
 use Rattle.tables.specs.Lists.{all_below, all_same, or_all}
 use Rattle.tables.proofs.Booleans.{and-true, and_assoc}
-
--- the rest of a list is its next number and what comes after
-pub all_same-drop : (xs : List ℕ) (b i : ℕ) → i < length xs → all_same (drop i xs) b ≡ (eqb (get_or xs i 0) b && all_same (drop (i + 1) xs) b)
-all_same-drop xs b i h = rw (add-one, drop-cons xs i 0)
 
 pub same-replicate : (n b : ℕ) → all_same (replicate n b) b ≡ true
 same-replicate zero b = refl

@@ -1,7 +1,7 @@
 -- A watchdog over a block of states is what it is clock by clock. A line goes by itself: it is left at its last level, with a count from its last
 -- change on (by induction on the states). Where neither count can come to the limit in so many clocks, no question of the block is answered by yes:
 -- a count that goes on stays below, and one that starts anew in the block is less. Behind an expiry the answers say nothing. Assumes nothing.
-use Rattle.std.proofs.Common.{◌≡◌, ℕ, zero, suc, ◌+◌, ◌-◌, ◌^◌, ◌<◌, ◌≤◌, min, Bool, true, false, cond, not, ◌&&◌, ◌||◌, eqb, leb, List, [], ◌∷◌, ◌++◌, map, length, get_or, take, drop, sym, refl, ap, ◌∙◌, add-zero, add-one, arith, length-take, take_all, get_or-take, take-suc, eq-eqb, ne_eqb, leb-false}
+use Rattle.std.proofs.Common.{◌≡◌, ℕ, zero, suc, ◌+◌, ◌-◌, ◌^◌, ◌<◌, ◌≤◌, min, Bool, true, false, cond, not, ◌&&◌, ◌||◌, eqb, leb, List, [], ◌∷◌, ◌++◌, map, length, get_or, take, drop, sym, refl, ap, ◌∙◌, add-one, arith, length-take, take_all, take-suc, eq-eqb, ne_eqb, leb-false}
 use mathlib.Core.Bool.{or_assoc}
 use mathlib.Core.List.{map-append}
 use lib.ListN.{length-map}
@@ -182,24 +182,15 @@ change-next level din block t j h =
     count : length (map (bit_of din) (take j block)) ≡ j
     count = simp (length-map, length-take) (omega (arith, h))
 
-last-before : (level : ℕ) (din : Bool) (block : List ℕ) (j : ℕ) → 0 < j → j < length block
-    → last_of level (map (bit_of din) (take j block)) ≡ bit_of din (get_or block (j - 1) 0)
-last-before level din block j p h =
-    last-at (bit_of din) level (take j block) (j - 1) (simp length-take (omega (arith, p, h))) ∙ ap (bit_of din) (get_or-take j block (j - 1) 0 (omega (arith, p)))
+-- a state that stands at the level behind those before it changes nothing
+pub change-back : (level : ℕ) (din : Bool) (xs : List ℕ) (t j : ℕ) → j < length xs
+    → bit_of din (get_or xs j 0) ≡ last_of level (map (bit_of din) (take j xs)) → change_of level din xs t (j + 1) ≡ change_of level din xs t j
+change-back level din xs t j h e =
+    ap (change_of level din xs t) (add-one j) ∙ change-next level din xs t j h
+    ∙ ap (λ (z : Bool). cond z (change_of level din xs t j) (t + j + 1)) (eq-eqb _ _ (sym e))
 
-pub change-back : (level : ℕ) (din : Bool) (block : List ℕ) (t j : ℕ) → 0 < j → j < length block
-    → bit_of din (get_or block j 0) ≡ bit_of din (get_or block (j - 1) 0) → change_of level din block t (j + 1) ≡ change_of level din block t j
-change-back level din block t j p h e =
-    ap (change_of level din block t) (add-one j) ∙ change-next level din block t j h
-    ∙ ap (λ (z : Bool). cond z (change_of level din block t j) (t + j + 1)) (eq-eqb _ _ (last-before level din block j p h ∙ sym e))
-
-pub change-here : (level : ℕ) (din : Bool) (block : List ℕ) (t j : ℕ) → 0 < j → j < length block
-    → (bit_of din (get_or block j 0) ≡ bit_of din (get_or block (j - 1) 0) → ⊥) → change_of level din block t (j + 1) ≡ t + j + 1
-change-here level din block t j p h e =
-    ap (change_of level din block t) (add-one j) ∙ change-next level din block t j h
-    ∙ ap (λ (z : Bool). cond z (change_of level din block t j) (t + j + 1)) (ne_eqb _ _ (λ z. e (sym z ∙ last-before level din block j p h)))
-
-pub change-first : (level : ℕ) (din : Bool) (block : List ℕ) (t : ℕ) → 0 < length block
-    → change_of level din block t 1 ≡ cond (eqb level (bit_of din (get_or block 0 0))) 0 (t + 1)
-unfolding last_of last_change
-change-first level din block t h = rw (add-zero t) at (change-next level din block t 0 h)
+pub change-here : (level : ℕ) (din : Bool) (xs : List ℕ) (t j : ℕ) → j < length xs
+    → (bit_of din (get_or xs j 0) ≡ last_of level (map (bit_of din) (take j xs)) → ⊥) → change_of level din xs t (j + 1) ≡ t + j + 1
+change-here level din xs t j h e =
+    ap (change_of level din xs t) (add-one j) ∙ change-next level din xs t j h
+    ∙ ap (λ (z : Bool). cond z (change_of level din xs t j) (t + j + 1)) (ne_eqb _ _ (λ z. e (sym z)))

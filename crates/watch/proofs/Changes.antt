@@ -9,8 +9,9 @@ use borrow.Author.Tests.{lt-leb, eqb-false}
 use Rattle.tables.proofs.Booleans.{cond_both}
 use Rattle.watch.specs.Watch.{data_bit, last_of}
 use Rattle.watch.specs.Ear.{next_change, or_else, last_change, last_long, level_at, levels_in, next_in, last_in}
-use Rattle.std.specs.List.{slice_range}
-use Rattle.std.proofs.lemmas.List.{take-take, drop-take}
+use Rattle.std.specs.Bool.{◌==◌}
+use Rattle.std.specs.List.{prefix_len}
+use Rattle.std.proofs.lemmas.List.{take-append-drop}
 use Rattle.watch.proofs.Clocks.{part-next, part_end, part-nothing, part-last}
 
 -- ---- the next change, by levels
@@ -218,14 +219,6 @@ next-change-none level ss q end h = ap (λ (bs : List ℕ). next_change level (m
 length_to : (ss : List ℕ) (q c : ℕ) → q ≤ c → c ≤ length ss → q + length (levels_in ss q c) ≡ c
 length_to ss q c h l = omega (arith, length-levels ss q c, h, l)
 
--- a part in which there is none is passed
-pub next-change-pass : (ss : List ℕ) (q c end : ℕ) → q ≤ c → c ≤ end → c ≤ length ss → last_in ss q c ≡ 0 → next_in ss q end ≡ next_in ss c end
-next-change-pass ss q c end h m l e =
-    ap (λ (bs : List ℕ). next_change (level_at ss q) bs q) (levels-split ss q c end h m)
-    ∙ next-change-over (level_at ss q) (levels_in ss q c) (levels_in ss c end) q e
-    ∙ ap (λ (level : ℕ). next_change level (levels_in ss c end) (q + length (levels_in ss q c))) (levels-last ss q c h l)
-    ∙ ap (next_change (level_at ss c) (levels_in ss c end)) (length_to ss q c h l)
-
 level-after : (ss : List ℕ) (q : ℕ) → level_at ss (q + 1) ≡ data_bit (get_or ss q 0)
 level-after ss q =
     let e : q + 1 - 1 ≡ q = omega arith in
@@ -260,47 +253,6 @@ next-change-is (suc k) ss q end h l n =
         let r : Changes ss (q + 1) (next_in ss (q + 1) end) = then (rw e at n) in
         rw e (omega (arith, r.0), r.1)
 
--- ---- the last change, by places
-
-pub last-change-none : (ss : List ℕ) (q end : ℕ) → end ≤ q → last_in ss q end ≡ 0
-unfolding last_change
-last-change-none ss q end h = ap (λ (bs : List ℕ). last_change (level_at ss q) bs q) (levels-none ss q end h)
-
-last-change-next : (ss : List ℕ) (q c : ℕ) → q ≤ c → c < length ss → last_in ss q (c + 1) ≡ cond (eqb (level_at ss c) (level_at ss (c + 1))) (last_in ss q c) (c + 1)
-last-change-next ss q c h l =
-    ap (λ (bs : List ℕ). last_change (level_at ss q) bs q) (levels-split ss q c (c + 1) h (omega arith) ∙ ap (λ (bs : List ℕ). levels_in ss q c ++ bs) one)
-    ∙ last-change-append (level_at ss q) (levels_in ss q c) (level_at ss (c + 1)) q
-    ∙ ap (λ (level : ℕ). cond (eqb level (level_at ss (c + 1))) (last_in ss q c) (q + length (levels_in ss q c) + 1)) (levels-last ss q c h (omega (arith, l)))
-    ∙ ap (cond (eqb (level_at ss c) (level_at ss (c + 1))) (last_in ss q c)) far
-  where
-    one : levels_in ss c (c + 1) ≡ level_at ss (c + 1) ∷ []
-    one = levels-next ss c (c + 1) (omega arith) l ∙ rw (levels-none ss (c + 1) (c + 1) (omega arith), level-after ss c)
-
-    far : q + length (levels_in ss q c) + 1 ≡ c + 1
-    far = ap (λ (n : ℕ). n + 1) (length_to ss q c h (omega (arith, l)))
-
-last-change-from : (ss : List ℕ) (q end : ℕ) → q < end → end ≤ length ss
-    → last_in ss q end ≡ cond (eqb (level_at ss (end - 1)) (level_at ss end)) (last_in ss q (end - 1)) end
-last-change-from ss q end h l =
-    let e : end - 1 + 1 ≡ end = omega (arith, h) in
-    rw e at (last-change-next ss q (end - 1) (omega (arith, h)) (omega (arith, h, l)))
-
-pub last-change-back : (ss : List ℕ) (q end : ℕ) → q < end → end ≤ length ss → level_at ss end ≡ level_at ss (end - 1) → last_in ss q end ≡ last_in ss q (end - 1)
-last-change-back ss q end h l e =
-    last-change-from ss q end h l
-    ∙ ap (λ (t : Bool). cond t (last_in ss q (end - 1)) end) (eq-eqb (level_at ss (end - 1)) (level_at ss end) (sym e))
-
-pub last-change-here : (ss : List ℕ) (q end : ℕ) → q < end → end ≤ length ss → (level_at ss end ≡ level_at ss (end - 1) → ⊥) → last_in ss q end ≡ end
-last-change-here ss q end h l e =
-    last-change-from ss q end h l
-    ∙ ap (λ (t : Bool). cond t (last_in ss q (end - 1)) end) (ne_eqb (level_at ss (end - 1)) (level_at ss end) (λ z. e (sym z)))
-
-pub last-change-pass : (ss : List ℕ) (q c end : ℕ) → q ≤ c → c ≤ end → end ≤ length ss → last_in ss c end ≡ 0 → last_in ss q end ≡ last_in ss q c
-last-change-pass ss q c end h m l e =
-    ap (λ (bs : List ℕ). last_change (level_at ss q) bs q) (levels-split ss q c end h m)
-    ∙ last-change-over (level_at ss q) (levels_in ss q c) (levels_in ss c end) q
-    (rw (levels-last ss q c h (omega (arith, m, l)), length_to ss q c h (omega (arith, m, l))) e)
-
 -- ---- the last long stillness, by places
 
 abbrev pub long_in : ℕ → List ℕ → ℕ → ℕ → ℕ
@@ -331,39 +283,65 @@ long-last limit ss q c end h m l n =
     at : q + length (levels_in ss q c) ≡ c
     at = length_to ss q c h (omega (arith, m, l))
 
--- ---- a block in which the data line does not change, at the front of a part, and at its end
+-- ---- the same, of a part by itself
 
-pub still-first : (ss : List ℕ) (q end : ℕ) (block : List ℕ) → q + 64 ≤ end → block ≡ take 64 (slice_range ss q end)
-    → last_change (level_at ss q) (map data_bit block) q ≡ 0 → last_in ss q (q + 64) ≡ 0
-still-first ss q end block h e n =
-    let count : q + 64 - q ≡ 64 = omega arith in
-    let same : take (q + 64 - q) (drop q ss) ≡ block = rw count (sym (take-take 64 (end - q) (drop q ss) (omega (arith, h))) ∙ sym e) in
-    ap (λ (xs : List ℕ). last_change (level_at ss q) (map data_bit xs) q) same ∙ n
+-- levels that do not change end at the level
+last-still : (level : ℕ) (xs : List ℕ) (i : ℕ) → last_change level xs i ≡ 0 → last_of level xs ≡ level
+unfolding last_change last_of
+last-still level [] i e = refl
+last-still level (x ∷ xs) i e =
+    let n : (last_change x xs (i + 1) ≡ 0) × (cond (eqb level x) 0 (i + 1) ≡ 0) = or_else_none (last_change x xs (i + 1)) (cond (eqb level x) 0 (i + 1)) e in
+    last-still x xs (i + 1) n.0 ∙ sym (eqb-true level x (clock-none (eqb level x) i n.1))
 
-pub still-last : (ss : List ℕ) (q end : ℕ) (block : List ℕ) → q + 64 ≤ end → end ≤ length ss
-    → block ≡ drop (length (slice_range ss q end) - 64) (slice_range ss q end)
-    → last_change (level_at ss (end - 64)) (map data_bit block) (end - 64) ≡ 0 → last_in ss (end - 64) end ≡ 0
-still-last ss q end block h l e n =
-    ap (λ (xs : List ℕ). last_change (level_at ss (end - 64)) (map data_bit xs) (end - 64)) same ∙ n
+-- a part of the states that does not change is passed: `passed` of them were before
+pub passed-more : (level : ℕ) (xs ys zs : List ℕ) (n passed : ℕ) → n ≤ length xs → ys ≡ take n xs → zs ≡ drop n xs
+    → last_change level (map data_bit ys) passed ≡ 0
+    → next_change level (map data_bit xs) passed ≡ next_change level (map data_bit zs) (passed + n)
+passed-more level xs ys zs n passed h p q e =
+    ap (λ (bs : List ℕ). next_change level bs passed) whole
+    ∙ next-change-over level (map data_bit ys) (map data_bit zs) passed e
+    ∙ ap (λ (l : ℕ). next_change l (map data_bit zs) (passed + length (map data_bit ys))) (last-still level (map data_bit ys) passed e)
+    ∙ ap (λ (k : ℕ). next_change level (map data_bit zs) (passed + k)) count
   where
-    k : ℕ
-    k = end - 64 - q
+    whole : map data_bit xs ≡ map data_bit ys ++ map data_bit zs
+    whole = ap (map data_bit) (sym (take-append-drop n xs)) ∙ map-append data_bit (take n xs) (drop n xs) ∙ rw (← p, ← q)
 
-    long : length (slice_range ss q end) ≡ k + 64
-    long = simp (length-take, length-drop) (omega (arith, h, l))
+    count : length (map data_bit ys) ≡ n
+    count = length-map ys data_bit ∙ rw p (simp length-take (omega (arith, h)))
 
-    to : q + k ≡ end - 64
-    to = omega (arith, h)
+-- a part at the end that does not change is left out
+pub behind-less : (level : ℕ) (xs ys zs : List ℕ) (t n : ℕ) → ys ≡ take n xs → zs ≡ drop n xs
+    → last_change (last_of level (map data_bit ys)) (map data_bit zs) (t + length (map data_bit ys)) ≡ 0
+    → last_change level (map data_bit xs) t ≡ last_change level (map data_bit ys) t
+behind-less level xs ys zs t n p q e =
+    ap (λ (bs : List ℕ). last_change level bs t) whole ∙ last-change-over level (map data_bit ys) (map data_bit zs) t e
+  where
+    whole : map data_bit xs ≡ map data_bit ys ++ map data_bit zs
+    whole = ap (map data_bit) (sym (take-append-drop n xs)) ∙ map-append data_bit (take n xs) (drop n xs) ∙ rw (← p, ← q)
 
-    same : take (end - (end - 64)) (drop (end - 64) ss) ≡ block
-    same =
-        let count : end - (end - 64) ≡ 64 = omega (arith, h) in
-        let whole : k + 64 ≡ end - q = omega (arith, h) in
-        let before : k ≡ length (slice_range ss q end) - 64 = omega (arith, long) in
-        ap (λ (n : ℕ). take n (drop (end - 64) ss)) count
-        ∙ ap (λ (n : ℕ). take 64 (drop n ss)) (sym to)
-        ∙ ap (take 64) (sym (drop-drop k q ss))
-        ∙ sym (drop-take k 64 (drop q ss))
-        ∙ ap (λ (n : ℕ). drop k (take n (drop q ss))) whole
-        ∙ ap (λ (n : ℕ). drop n (slice_range ss q end)) before
-        ∙ sym e
+-- from another place on
+pub next-from-place : (level : ℕ) (bs : List ℕ) (i : ℕ) → next_change level bs i ≡ i + next_change level bs 0
+unfolding next_change
+next-from-place level [] i = omega arith
+next-from-place level (b ∷ bs) i = go (eqb level b) (next-from-place b bs (i + 1)) (next-from-place b bs 1)
+  where
+    go : (z : Bool) → next_change b bs (i + 1) ≡ i + 1 + next_change b bs 0 → next_change b bs 1 ≡ 1 + next_change b bs 0
+        → cond z (next_change b bs (i + 1)) i ≡ i + cond z (next_change b bs 1) 0
+    go true p q = omega (arith, p, q)
+    go false p q = omega arith
+
+-- by how many states stand at the level before the first that does not
+pub next-by-count : (level : ℕ) (xs : List ℕ) (i : ℕ) → next_change level (map data_bit xs) i ≡ i + prefix_len (λ s. data_bit s == level) xs
+unfolding next_change
+next-by-count level [] i = omega arith
+next-by-count level (x ∷ xs) i = go (eqb level (data_bit x)) refl (next-by-count level xs (i + 1))
+  where
+    more : ℕ
+    more = prefix_len (λ s. data_bit s == level) xs
+
+    go : (z : Bool) → eqb level (data_bit x) ≡ z → next_change level (map data_bit xs) (i + 1) ≡ i + 1 + more
+        → cond z (next_change (data_bit x) (map data_bit xs) (i + 1)) i ≡ i + cond (data_bit x == level) (1 + more) 0
+    go true e rest =
+        let same : level ≡ data_bit x = eqb-true level (data_bit x) e in
+        rw (eq-eqb (data_bit x) level (sym same)) (ap (λ (l : ℕ). next_change l (map data_bit xs) (i + 1)) (sym same) ∙ omega (arith, rest))
+    go false e rest = rw (ne_eqb (data_bit x) level (λ z. eqb-false level (data_bit x) e (sym z))) (omega arith)

@@ -1,10 +1,12 @@
 // One state in each clock while the bit is set, by blocks of 64 states. In a block in which no count can come to the limit, or behind an expiry,
 // only what the block leaves of the lines is needed: it goes clock by clock only where an expiry may be in it.
-ghost use Rattle.std.specs.Prelude.{◌≡◌, ℕ, ◌+◌, ◌≤◌, ◌<◌, ◌^◌, true, ◌||◌, length};
+ghost use Rattle.std.specs.Prelude.{◌≡◌, ℕ, ◌+◌, ◌≤◌, ◌<◌, ◌^◌, true, ◌||◌, map, length};
+ghost use Rattle.watch.specs.Watch.{last_of};
 ghost use Rattle.watch.specs.Kept.{expired_by, listened};
 ghost use Rattle.watch.specs.Blocks.{bit_of, change_in, count_by, line_over, watch_over, may_expire, heard_on};
 
-use crate::kept::Listened;
+use crate::ear::comes_to;
+use crate::kept::{Listened, has_expired, hear, keep_from, run_on};
 use crate::watch::{Line, Watch};
 
 // One state in each clock while the bit is set, so many clocks being over.
@@ -49,7 +51,7 @@ fn listen_each(before: Listened, states: &[u8], clock: usize) -> Listened
     let mut expired = before.expired;
     for (i, state) in states.iter().enumerate() {
         expired = expired_or(expired, watch, clock + i);
-        watch = crate::kept::hear(watch, true, true, clock + i + 1, *state);
+        watch = hear(watch, true, true, clock + i + 1, *state);
     }
     Listened { watch, expired }
 }
@@ -58,7 +60,7 @@ fn listen_each(before: Listened, states: &[u8], clock: usize) -> Listened
 fn expired_or(before: bool, watch: Watch, clock: usize) -> bool
     ensures { result ≡ (before || expired_by true clock watch) }
 {
-    before || crate::kept::has_expired(watch, true, clock)
+    before || has_expired(watch, true, clock)
 }
 
 // A count may come to the limit within a block.
@@ -66,8 +68,8 @@ fn may_expire(watch: Watch, clock: usize) -> bool
     ensures { result ≡ may_expire clock watch }
 {
     let limit = u64::from(watch.limit);
-    crate::ear::comes_to(limit, crate::kept::run_on(watch.din.still, clock), 63)
-        || crate::ear::comes_to(limit, crate::kept::run_on(watch.loadi.still, clock), 63)
+    comes_to(limit, run_on(watch.din.still, clock), 63)
+        || comes_to(limit, run_on(watch.loadi.still, clock), 63)
 }
 
 // What a block leaves of the watchdog's lines.
@@ -100,7 +102,7 @@ fn count_by(changed: usize, still: u64) -> u64
     if changed == 0 {
         still
     } else {
-        crate::kept::keep_from(0, changed)
+        keep_from(0, changed)
     }
 }
 
@@ -129,20 +131,26 @@ pub fn stays(level: u8, din: bool, block: &[u8; 64]) -> bool
     other == 0
 }
 
-// The last change is looked for from the end of the block back.
-fn last_change(level: u8, din: bool, block: &[u8; 64], clock: usize) -> usize
-    requires { clock + 64 < 2 ^ 64 }
-    ensures { result ≡ change_in level din block.now clock }
+// The clock of a line's last change, or 0: looked for from the end back.
+pub fn last_change(level: u8, din: bool, states: &[u8], clock: usize) -> usize
+    requires { clock + length states.now < 2 ^ 64 }
+    ensures { result ≡ change_in level din states.now clock }
 {
-    for i in (1..64).rev() {
-        if level_of(din, block[i]) != level_of(din, block[i - 1]) {
+    for i in (0..states.len()).rev() {
+        if level_of(din, states[i]) != level_behind(level, din, &states[..i]) {
             return clock + i + 1;
         }
     }
-    if level_of(din, block[0]) != level {
-        clock + 1
-    } else {
-        0
+    0
+}
+
+// Where a line stands behind states.
+pub fn level_behind(level: u8, din: bool, states: &[u8]) -> u8
+    ensures { result ≡ last_of level (map (bit_of din) states.now) }
+{
+    match states.last() {
+        Some(state) => level_of(din, *state),
+        None => level,
     }
 }
 

@@ -1,11 +1,13 @@
 // The data line over a stretch of states at high load, by a few numbers, so that a watchdog whose device passes the stretch looks at none of its
 // states.
-ghost use Rattle.std.specs.Prelude.{◌≡◌, ◌+◌, ◌-◌, ◌≤◌, true, map, length, if◌then◌else◌, nat_lt, slice_index, slice_range};
+ghost use Rattle.std.specs.Prelude.{◌≡◌, ◌≤◌, ℕ, true, map, length, if◌then◌else◌, nat_lt, slice_index, slice_range, ◌==◌};
+ghost use Rattle.std.specs.List.{prefix_len};
 ghost use Rattle.watch.specs.Kept.{kept_from};
 ghost use Rattle.watch.specs.Watch.{data_bit};
-ghost use Rattle.watch.specs.Ear.{next_change, last_change, last_long, level_at, next_in, last_in, ear_from, ear_on, no_ear, comes_to, heard_by, followed, joined};
+ghost use Rattle.watch.specs.Ear.{next_change, last_change, last_long, level_at, ear_from, ear_on, no_ear, comes_to, heard_by, followed, joined};
 
-use crate::kept::Listened;
+use crate::blocks;
+use crate::kept::{Listened, has_expired, hear, keep_from, listen, part, run_on};
 use crate::watch::{Line, Watch};
 
 #[derive(Clone, Copy)]
@@ -58,8 +60,8 @@ pub fn join(watch: Watch, on: bool, ear: Ear, states: &[u8], at: usize, end: usi
             ear,
         };
     }
-    let before = crate::kept::has_expired(watch, on, at);
-    let first = crate::kept::hear(watch, on, on, at + 1, state_at(states, at));
+    let before = has_expired(watch, on, at);
+    let first = hear(watch, on, on, at + 1, state_at(states, at));
     let then = follow(first, on, ear, states, at + 1, end);
     Followed {
         heard: Listened {
@@ -79,7 +81,7 @@ pub fn follow(watch: Watch, on: bool, ear: Ear, states: &[u8], clock: usize, end
         follow_on(watch, ear, states, clock, end)
     } else {
         Followed {
-            heard: crate::kept::listen(watch, false, states, clock, end),
+            heard: listen(watch, false, states, clock, end),
             ear,
         }
     }
@@ -144,12 +146,12 @@ fn hear_by(watch: Watch, ear: Ear, clock: usize) -> Listened
     let last = ear.end - 1;
     let load = comes_to(
         limit,
-        crate::kept::run_on(watch.loadi.still, clock),
+        run_on(watch.loadi.still, clock),
         last.saturating_sub(clock),
     );
     let data = comes_to(
         limit,
-        crate::kept::run_on(watch.din.still, clock),
+        run_on(watch.din.still, clock),
         ear.next.min(last).saturating_sub(clock),
     );
     Listened {
@@ -169,7 +171,7 @@ fn still_by(still: u64, changed: usize, clock: usize) -> u64
     ensures { result ≡ (if nat_lt clock changed then kept_from changed 0 else still) }
 {
     if clock < changed {
-        crate::kept::keep_from(0, changed)
+        keep_from(0, changed)
     } else {
         still
     }
@@ -186,58 +188,57 @@ pub fn comes_to(limit: u64, count: u64, clocks: usize) -> bool
 fn next_change(states: &[u8], from: usize, to: usize) -> usize
     ensures { result ≡ next_change (level_at states.now from) (map data_bit (slice_range states.now from to)) from }
 {
-    let start = still_from(states, from, to);
-    let level = level_before(states, start);
-    let end = to.min(states.len());
-    for i in start..end {
-        if states[i] % 2 != level {
-            return i;
-        }
-    }
-    start.max(end)
+    from + before_change(level_before(states, from), part(states, from, to))
 }
 
-// The place behind the blocks from a place on in which the data line does not change.
-fn still_from(states: &[u8], from: usize, to: usize) -> usize
-    ensures { next_in states.now from to ≡ next_in states.now result to }
+// How many states stand before the first at which the data line changes. Blocks in which it does not are passed first.
+fn before_change(level: u8, states: &[u8]) -> usize
+    ensures value { result ≡ next_change level (map data_bit states.now) 0 }
+    ensures within { result ≤ length states.now }
 {
-    let end = to.min(states.len());
-    let mut i = from;
-    while i < end {
-        match states[i..end].first_chunk::<64>() {
-            Some(block) if crate::blocks::stays(level_before(states, i), true, block) => i += 64,
-            _ => return i,
+    let mut rest = states;
+    while let Some((block, behind)) = rest.split_first_chunk::<64>() {
+        if !blocks::stays(level, true, block) {
+            break;
         }
+        rest = behind;
     }
-    i
+    states.len() - rest.len() + count_at(level, rest)
 }
 
-// The clock of the last change, or 0: from the end back.
+// How many states stand at a level before the first that does not.
+fn count_at(level: u8, states: &[u8]) -> usize
+    ensures value { result ≡ prefix_len (λ s. data_bit s == level) states.now }
+    ensures within { result ≤ length states.now }
+{
+    states
+        .iter()
+        .take_while(|state| **state % 2 == level)
+        .count()
+}
+
+// The clock of the last change, or 0.
 fn last_change(states: &[u8], from: usize, to: usize) -> usize
     ensures { result ≡ last_change (level_at states.now from) (map data_bit (slice_range states.now from to)) from }
 {
-    let end = still_to(states, from, to);
-    for i in (from..end).rev() {
-        if level_before(states, i + 1) != level_before(states, i) {
-            return i + 1;
-        }
-    }
-    0
+    let level = level_before(states, from);
+    let moving = up_to_change(level, part(states, from, to));
+    blocks::last_change(level, true, moving, from)
 }
 
-// The place before the blocks at the end in which the data line does not change.
-fn still_to(states: &[u8], from: usize, to: usize) -> usize
-    ensures { (last_in states.now from to ≡ last_in states.now from result) × (result ≤ length states.now) }
+// The states without the blocks at the end in which the data line does not change.
+fn up_to_change(level: u8, states: &[u8]) -> &[u8]
+    ensures same { (t : ℕ) → last_change level (map data_bit states.now) t ≡ last_change level (map data_bit result.now) t }
+    ensures within { length result.now ≤ length states.now }
 {
-    let mut i = to.min(states.len());
-    while i > from {
-        match states[from..i].last_chunk::<64>() {
-            Some(block) if crate::blocks::stays(level_before(states, i - 64), true, block) => i -=
-                64,
-            _ => return i,
+    let mut rest = states;
+    while let Some((front, block)) = rest.split_last_chunk::<64>() {
+        if !blocks::stays(blocks::level_behind(level, true, front), true, block) {
+            break;
         }
+        rest = front;
     }
-    i
+    rest
 }
 
 // The clock of the last change that is followed by a stillness as long as the limit, or 0. From the end back, a limit at a time: a change within the

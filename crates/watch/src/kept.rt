@@ -4,6 +4,7 @@ ghost use Rattle.std.specs.Prelude.{◌≡◌, ◌+◌, ◌-◌, ◌<◌, ◌^�
 ghost use Rattle.watch.specs.Watch.{moved};
 ghost use Rattle.watch.specs.Kept.{run_on, kept_from, still_by, line_by, watch_by, expired_by, still_in, line_in, watch_in, moved_line, moved_in, listened};
 
+use crate::blocks::listen_on;
 use crate::watch::{Line, Watch};
 
 // A watchdog after states one to a clock, and whether it expired before the last of them.
@@ -60,12 +61,19 @@ pub fn move_lines(watch: Watch, on: bool, clock: usize, din: u8, loadi: u8) -> W
 pub fn listen(watch: Watch, on: bool, states: &[u8], from: usize, to: usize) -> Listened
     ensures { result ≡ listened on from (take (to - from) (drop from states.now)) watch }
 {
-    let sent = states.get(from..to.min(states.len())).unwrap_or(&[]);
+    let sent = part(states, from, to);
     if on {
-        crate::blocks::listen_on(watch, sent, from)
+        listen_on(watch, sent, from)
     } else {
         listen_off(watch, sent, from)
     }
+}
+
+// The states from a place up to another.
+pub fn part(states: &[u8], from: usize, to: usize) -> &[u8]
+    ensures { result.now ≡ take (to - from) (drop from states.now) }
+{
+    states.get(from..to.min(states.len())).unwrap_or(&[])
 }
 
 // While the bit is clear only the last state is looked at.

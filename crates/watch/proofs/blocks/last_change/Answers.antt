@@ -1,38 +1,28 @@
-use Rattle.std.proofs.Common.{◌≡◌, ◌+◌, ◌-◌, sym, ap, ◌∙◌, arith, eq-eqb, ne_eqb}
-use Rattle.watch.proofs.ByBlock.{change_of, change-whole, change-back, change-here, change-first}
+use Rattle.std.proofs.Common.{◌≡◌, ◌+◌, ◌-◌, sym, ap, ◌∙◌, arith}
+use Rattle.watch.specs.Ear.{last_change}
+use Rattle.watch.proofs.ByBlock.{change_of, change-whole, change-back, change-here}
 use Rattle.watch.proofs.blocks.last_change.Goals as goal
 
 pub loop-i-init : goal.loop-i-init
 loop-i-init c = let a = c.args in
-    record { some = omega arith; same = change-whole a.level a.din a.block.now a.clock 64 (omega arith) }
+    change-whole a.level a.din a.states.now a.clock _ (omega arith)
 
-pub returns-then-level_of : goal.returns-then-level_of
-returns-then-level_of c = let a = c.args in
+pub returns-then-level_of-level_behind : goal.returns-then-level_of-level_behind
+returns-then-level_of-level_behind c = let a = c.args in
     let i = c.loop-i.i in
     let one : i ≡ i - 1 + 1 = omega arith in
-    sym (c.loop-i.invariant.same ∙ ap (change_of a.level a.din a.block.now a.clock) one
-    ∙ change-here a.level a.din a.block.now a.clock (i - 1) (omega arith) (omega arith)
-    (rw (c.level_of.ensures, c.level_of-in-loop-i.ensures) at c.if-level_of.true))
+    sym (c.loop-i.invariant ∙ ap (change_of a.level a.din a.states.now a.clock) one
+    ∙ change-here a.level a.din a.states.now a.clock (i - 1) (omega arith) (rw (c.level_of.ensures, c.level_behind.ensures) at c.if-level_of-level_behind.true))
 
 pub loop-i-preserved : goal.loop-i-preserved
 loop-i-preserved c = let a = c.args in
     let i = c.loop-i.i in
     let one : i ≡ i - 1 + 1 = omega arith in
-    record {
-      some = omega arith;
-      same = c.loop-i.invariant.same ∙ ap (change_of a.level a.din a.block.now a.clock) one
-          ∙ change-back a.level a.din a.block.now a.clock (i - 1) (omega arith) (omega arith)
-          (rw (c.level_of.ensures, c.level_of-in-loop-i.ensures) at c.if-level_of.false);
-    }
+    c.loop-i.invariant ∙ ap (change_of a.level a.din a.states.now a.clock) one
+    ∙ change-back a.level a.din a.states.now a.clock (i - 1) (omega arith) (rw (c.level_of.ensures, c.level_behind.ensures) at c.if-level_of-level_behind.false)
 
-pub returns-then-level_of-level : goal.returns-then-level_of-level
-returns-then-level_of-level c = let a = c.args in
-    let one : c.loop-i.i ≡ 1 = omega arith in
-    sym (c.loop-i.invariant.same ∙ ap (change_of a.level a.din a.block.now a.clock) one ∙ change-first a.level a.din a.block.now a.clock (omega arith)
-    ∙ rw (← c.level_of-2.ensures, ne_eqb a.level c.level_of-2.result (λ z. c.if-level_of-level.true (sym z))))
-
-pub returns-else-level_of-level : goal.returns-else-level_of-level
-returns-else-level_of-level c = let a = c.args in
-    let one : c.loop-i.i ≡ 1 = omega arith in
-    sym (c.loop-i.invariant.same ∙ ap (change_of a.level a.din a.block.now a.clock) one ∙ change-first a.level a.din a.block.now a.clock (omega arith)
-    ∙ rw (← c.level_of-2.ensures, eq-eqb a.level c.level_of-2.result (sym c.if-level_of-level.false)))
+pub returns : goal.returns
+unfolding last_change
+returns c = let a = c.args in
+    let none : c.loop-i.i ≡ 0 = omega arith in
+    sym (c.loop-i.invariant ∙ ap (change_of a.level a.din a.states.now a.clock) none)

@@ -13,15 +13,15 @@ use Rattle.parts.specs.declared.command.Command.{Command}
 use Rattle.frames.specs.Frames.{tail_bits, told_rows}
 use Rattle.return_reader.specs.Returns.{count_of, return_table, return_refusal, return_read}
 use Rattle.frames.specs.declared.told.Tail.{Tail}
-use Rattle.return_reader.specs.declared.answer.ReturnRead.TheVariants as B
+use Rattle.std.specs.Prelude.{Ok, Err}
 use Rattle.frames.proofs.Accepted.{told_accepted}
 use Rattle.frame_laws.proofs.Packed as packed
 
 pub return_read_lem : (part devices : ℕ) (c : Command) (tail : Tail) (n : ℕ) → first (told_rows part devices tail) ≡ 0
     → tail.number < 2 ^ tail.length → n ≤ devices
-    → return_read part devices c tail (bytes_of (return_of c n (tail_bits tail))) ≡ B.Count n
+    → return_read part devices c tail (bytes_of (return_of c n (tail_bits tail))) ≡ Ok n
 unfolding return_read return_refusal
-return_read_lem part devices c tail n told low few = sym (rows.accepted B.Refused refl refused (ap B.Count (sym counted))) where
+return_read_lem part devices c tail n told low few = sym (rows.accepted Err refl refused (ap Ok (sym counted))) where
   f : List ℕ
   f = bytes_of (return_of c n (tail_bits tail))
 

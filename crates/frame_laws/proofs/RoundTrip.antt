@@ -22,9 +22,8 @@ use Rattle.frame_writer.specs.Writing.{settings_of, settings, list_wrong, value_
 use Rattle.frame_reader.specs.Reading.{held_fields, room_short, copy_high, copies_differ, body_rows, read_table, read_refusal, found, bytes_found, values_found, read, read_bytes, read_values}
 use Rattle.frames.specs.declared.told.Told.{Told}
 use Rattle.frames.specs.declared.told.Tail.{Tail}
-use Rattle.frame_writer.specs.declared.answer.Written.TheVariants as W
+use Rattle.std.specs.Prelude.{Result, Ok, Err}
 use Rattle.frame_reader.specs.declared.answer.Read.{Read}
-use Rattle.frame_reader.specs.declared.answer.Read.TheVariants as R
 use Rattle.frames.proofs.Tests as tests
 use Rattle.frame_reader.proofs.Tests.{replicate-same}
 use Rattle.tables.proofs.Tests.{same-replicate}
@@ -36,7 +35,7 @@ use Rattle.frame_laws.specs.RoundTrip.{ReadBack, WrittenAgain, byte_of, byte_rea
 use Rattle.frame_laws.proofs.Packed as packed
 use Rattle.frame_laws.proofs.Frame as frame
 
-bytes_apart : (k n : ℕ) → W.Bytes k ≡ W.Refused n → ⊥
+bytes_apart : (k n : ℕ) → ◌≡◌ {A = Result ℕ ℕ} (Ok k) (Err n) → ⊥
 bytes_apart k n e = let z : ◌≡◌ {A = ℕ} 0 1 = cc in omega arith
 
 -- ---- what the writer was given passes the reader's tests
@@ -128,7 +127,7 @@ module _ (t : Told) (tail : Tail) (byte : ℕ) (bytes values : List ℕ) (room :
   read_back xs ys short =
       let z = read_again (length xs) (length ys) short in
       record {
-        answers = sym (rows.accepted R.Refused refl z refl) ∙ ap (found t t.command) held;
+        answers = sym (rows.accepted Err refl z refl) ∙ ap (λ (l : List ℕ). Ok (found t t.command l)) held;
         bytes-held = sym (rows.changed xs refl z refl) ∙ ap (λ (l : List ℕ). bytes_found t.command l xs) held;
         values-held = sym (rows.changed ys refl z refl) ∙ ap (λ (l : List ℕ). values_found t.command l ys) held;
       }
@@ -145,20 +144,20 @@ take-over n ys l e = ap (λ (k : ℕ). take k (over ys l)) (sym e) ∙ bit.take-
 
 -- whatever the writer accepts, the reader, told the same and lent enough, accepts, and gives the same values
 pub written_read_lem : (t : Told) (tail : Tail) (byte : ℕ) (bytes values out : List ℕ) (n : ℕ) → byte < 256 → ((i : ℕ) → get_or bytes i 0 < 256)
-    → written t tail byte bytes values (length out) ≡ W.Bytes n → (lent-bytes lent-values : List ℕ)
+    → written t tail byte bytes values (length out) ≡ Ok n → (lent-bytes lent-values : List ℕ)
     → room_short t.command (field_count t) (length lent-bytes) (length lent-values) ≡ false
     → ReadBack t tail (take n (written_out t tail byte bytes values out)) (settings t byte bytes values) lent-bytes lent-values
 unfolding written written_out
 written_read_lem t tail byte bytes values out n small smalls e xs ys short =
     let sent = frame_of t tail (settings t byte bytes values) in
-    let z = accepted-zero W.Refused (W.Bytes (length sent)) (W.Bytes n) (write_refusal t tail byte bytes values (length out)) (bytes_apart n) e in
+    let z = accepted-zero Err (Ok (length sent)) (Ok n) (write_refusal t tail byte bytes values (length out)) (bytes_apart n) e in
     let l : length sent ≡ n = written-bytes (length sent) n z.1 in
     let o : take n (content (write_refusal t tail byte bytes values (length out)) out (over sent out)) ≡ sent
     = ap (take n) (sym (rows.changed out refl z.0 refl)) ∙ take-over n sent out l in
     subst (λ (f : List ℕ). ReadBack t tail f (settings t byte bytes values) xs ys) (sym o)
     (read_back t tail byte bytes values (length out) small smalls z.0 xs ys short)
   where
-    written-bytes : (a b : ℕ) → W.Bytes a ≡ W.Bytes b → a ≡ b
+    written-bytes : (a b : ℕ) → ◌≡◌ {A = Result ℕ ℕ} (Ok a) (Ok b) → a ≡ b
     written-bytes a b q = cc
 
 -- ---- what the reader found passes the writer's tests, and is the frame's
@@ -282,7 +281,7 @@ own-refusal t tail byte bytes values h room o =
     (own-list t.command (field_count t) byte bytes values h o) (own-high t t.command byte bytes values h o)
 
 read-own : (t : Told) (c : Command) (h bs us : List ℕ) (n : ℕ) → length h ≡ n
-    → SettingIs c (byte_of (found t c h)) (take n (bytes_found c h bs)) (take n (values_found c h us)) h
+    → SettingIs c (byte_of (Ok (found t c h))) (take n (bytes_found c h bs)) (take n (values_found c h us)) h
 unfolding SettingIs
 read-own t Individual h bs us n l = take-over n h us l
 read-own t Calibration h bs us n l = take-over n h bs l
@@ -291,20 +290,20 @@ read-own t Configuration h bs us n l = refl
 
 -- whatever the reader accepts, the writer, given what was read, accepts where there is room, and writes the same bytes
 pub read-written : (t : Told) (tail : Tail) (frame bytes values out : List ℕ) → ((i : ℕ) → get_or frame i 0 < 256)
-    → ((n : ℕ) → read t tail frame (length bytes) (length values) ≡ R.Refused n → ⊥) → length frame ≤ length out
+    → ((n : ℕ) → read t tail frame (length bytes) (length values) ≡ Err n → ⊥) → length frame ≤ length out
     → WrittenAgain t tail frame (byte_read t tail frame bytes values) (bytes_read t tail frame bytes values) (values_read t tail frame bytes values) out
 unfolding read read_bytes read_values written written_out
 read-written t tail fr bs us out small taken wide =
     record {
-      answers = sym (rows.accepted W.Refused refl refused (ap (λ (f : List ℕ). W.Bytes (length f)) (sym same)));
+      answers = sym (rows.accepted Err refl refused (ap (λ (f : List ℕ). Ok (length f)) (sym same)));
       out-held = sym (rows.changed out refl refused (ap (λ (f : List ℕ). over f out) (sym same)));
     }
   where
     h : List ℕ
     h = held_fields t fr
 
-    z : (read_refusal t tail fr (length bs) (length us) ≡ 0) × (found t t.command h ≡ read t tail fr (length bs) (length us))
-    z = accepted-zero R.Refused (found t t.command h) (read t tail fr (length bs) (length us)) (read_refusal t tail fr (length bs) (length us)) taken refl
+    z : (read_refusal t tail fr (length bs) (length us) ≡ 0) × (Ok (found t t.command h) ≡ read t tail fr (length bs) (length us))
+    z = accepted-zero Err (Ok (found t t.command h)) (read t tail fr (length bs) (length us)) (read_refusal t tail fr (length bs) (length us)) taken refl
 
     eb : bytes_found t.command h bs ≡ read_bytes t tail fr bs (length us)
     eb = rows.changed bs refl z.0 refl
@@ -328,7 +327,7 @@ read-written t tail fr bs us out small taken wide =
     own =
         subst (λ (l : List ℕ). SettingIs t.command byte bytes (take (field_count t) l) h) ev
         (subst (λ (l : List ℕ). SettingIs t.command byte (take (field_count t) l) (take (field_count t) (values_found t.command h us)) h) eb
-        (subst (λ (r : Read). SettingIs t.command (byte_of r) (take (field_count t) (bytes_found t.command h bs)) (take (field_count t) (values_found t.command h us)) h) z.1
+        (subst (λ (r : Result Read ℕ). SettingIs t.command (byte_of r) (take (field_count t) (bytes_found t.command h bs)) (take (field_count t) (values_found t.command h us)) h) z.1
         (read-own t t.command h bs us (field_count t) len)))
 
     again : (write_refusal t tail (get_or h 0 0) h h (length out) ≡ 0) × (frame_of t tail (settings t (get_or h 0 0) h h) ≡ fr)

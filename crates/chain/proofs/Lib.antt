@@ -1,4 +1,4 @@
--- What the loops over a lent chain share: the laws of a loop over a span of records (Sweep); and where a run stands in its
--- loop (Standing).
-pub mod Sweep
+-- What an accepted fault setting names (Named), what the outcome of a run says of its refusal (Outcome), and where a run stands in its loop (Standing).
+pub mod Named
+pub mod Outcome
 pub mod Standing

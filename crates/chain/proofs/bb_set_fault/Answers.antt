@@ -1,39 +1,42 @@
-use Rattle.std.proofs.Common.{◌≡◌, ◌∙◌, ℕ, ◌-◌, length, ap, sym, subst}
-use Rattle.std.proofs.Common.{not, eqb}
+-- What the records are judged to be is what the table says of them; of an accepted setting the device is one of the chain. Assumes nothing.
+use Rattle.std.proofs.Common.{◌∙◌, ◌-◌, ◌<◌, length, refl, sym, ap, arith, set, eqb, not}
+use Rattle.std.proofs.lemmas.List.{get_or_default}
+use Rattle.bits.specs.Bits.{digit}
+use Rattle.tables.proofs.Rows.{named, kept, changed}
 use Rattle.device.specs.declared.device.Device.{Device}
 use Rattle.device.specs.Step.{faulted}
-use Rattle.bits.specs.Bits.{digit}
-use Rattle.changes.specs.Changes.{fault_span}
-use Rattle.judgement.specs.declared.judging.Judged.{Judged}
+use Rattle.calls.specs.Chain.{blank}
+use Rattle.calls.specs.Calls.{fault_devices}
 use Rattle.refusals.proofs.Found.{fault-refusal-found}
-use Rattle.chain.proofs.Sweep.{one_of}
-use Rattle.changes.specs.declared.changes.Span.{Span}
-use Rattle.changes.specs.Changes.{span}
-use Rattle.chain.proofs.Sweep.{sweep, turns_of, Within, sweep-begins, sweep-goes, sweep-ends, fault-within, fault-swept}
+use Rattle.chain.proofs.Named.{fault-named}
 use Rattle.chain.proofs.bb_set_fault.Goals as goal
 
-pub loop-i-init : goal.loop-i-init
-loop-i-init c =
+pub overflow_sub-place : goal.overflow_sub-place
+overflow_sub-place c =
     let a = c.args in
-    let xs = a.chain.now in
-    let e : c.fault_span-span.result ≡ one_of xs a.device a.kind = c.fault_span-span.ensures ∙ ap (λ (z : Judged). fault_span z (length xs) a.device a.kind) c.judge-judged.ensures ∙ ap (λ (z : ℕ). span z (a.device - 1) a.device) (fault-refusal-found xs a.device a.kind) in
-    let w : Within c.fault_span-span.result (length xs) = subst (λ (s : Span). Within s (length xs)) (sym e) (fault-within xs a.device a.kind) in
-    sweep-begins (λ (d : Device). faulted d a.kind (digit (not (eqb a.flag 0)))) c.fault_span-span.result xs w
+    let found = rw c.judge-judged.ensures at c.in-Ok.ensures ∙ fault-refusal-found a.chain.now a.device a.kind in
+    (fault-named a.chain.now a.device a.kind (sym found)).0
 
-pub loop-i-preserved : goal.loop-i-preserved
-loop-i-preserved c =
+pub bounds-chain-place : goal.bounds-chain-place
+bounds-chain-place c =
     let a = c.args in
-    let xs = a.chain.now in
-    let e : c.fault_span-span.result ≡ one_of xs a.device a.kind = c.fault_span-span.ensures ∙ ap (λ (z : Judged). fault_span z (length xs) a.device a.kind) c.judge-judged.ensures ∙ ap (λ (z : ℕ). span z (a.device - 1) a.device) (fault-refusal-found xs a.device a.kind) in
-    let w : Within c.fault_span-span.result (length xs) = subst (λ (s : Span). Within s (length xs)) (sym e) (fault-within xs a.device a.kind) in
-    sweep-goes (λ (d : Device). faulted d a.kind (digit (not (eqb a.flag 0)))) c.fault_span-span.result xs c.loop-i.chain c.loop-i.i c.with_fault.result _ w c.loop-i.invariant c.loop-i-test.true c.with_fault.ensures
+    let found = rw c.judge-judged.ensures at c.in-Ok.ensures ∙ fault-refusal-found a.chain.now a.device a.kind in
+    let device = fault-named a.chain.now a.device a.kind (sym found) in
+    omega (arith, device.0, device.1)
 
-pub returns : goal.returns
-returns c =
+pub returns-in-Ok : goal.returns-in-Ok
+returns-in-Ok c =
     let a = c.args in
     let xs = a.chain.now in
-    let e : c.fault_span-span.result ≡ one_of xs a.device a.kind = c.fault_span-span.ensures ∙ ap (λ (z : Judged). fault_span z (length xs) a.device a.kind) c.judge-judged.ensures ∙ ap (λ (z : ℕ). span z (a.device - 1) a.device) (fault-refusal-found xs a.device a.kind) in (
-      ap (λ (s : Span). s.refusal) e,
-      sweep-ends (λ (d : Device). faulted d a.kind (digit (not (eqb a.flag 0)))) c.fault_span-span.result xs c.loop-i.chain c.loop-i.i _ c.loop-i.invariant c.loop-i-test.false
-          (ap (λ (s : Span). sweep (λ (d : Device). faulted d a.kind (digit (not (eqb a.flag 0)))) s.from (turns_of s) xs) e ∙ fault-swept xs a.device a.kind (not (eqb a.flag 0))),
-    )
+    let found = rw c.judge-judged.ensures at c.in-Ok.ensures ∙ fault-refusal-found xs a.device a.kind in
+    let device = fault-named xs a.device a.kind (sym found) in
+    let near : a.device - 1 < length xs = omega (arith, device.0, device.1) in
+    let made = c.with_fault.ensures ∙ ap (λ (d : Device). faulted d a.kind (digit (not (eqb a.flag 0)))) (get_or_default xs (a.device - 1) _ blank near) in
+    (found, changed xs found refl (ap (set xs (a.device - 1)) made))
+
+pub returns-in-Err : goal.returns-in-Err
+returns-in-Err c =
+    let a = c.args in
+    let xs = a.chain.now in
+    let found = rw c.judge-judged.ensures at c.in-Err.ensures ∙ fault-refusal-found xs a.device a.kind in
+    (c.from.ensures ∙ found, kept xs (fault_devices xs a.device a.kind (not (eqb a.flag 0))) found (named c.in-Err.refusal))

@@ -1,10 +1,11 @@
-use Rattle.std.proofs.Common.{◌-◌}
+-- The records so far are brought up, and the others are as they were.
+use Rattle.std.proofs.Common.{◌≡◌, map, take, drop}
 use Rattle.turns.specs.Ending.{by_clock_device}
-use Rattle.chain.proofs.Sweep.{Sweeping}
 use Rattle.chain.proofs.close.Given as goal
 
-abbrev pub invariant-loop-i : goal.invariant-loop-i
-invariant-loop-i l = Sweeping (by_clock_device l.clock) l.span l.fn.chain l.chain l.i
-
-abbrev pub decreases-loop-i : goal.decreases-loop-i
-decreases-loop-i l = l.span.to - l.i
+abbrev pub invariant-loop-device : goal.invariant-loop-device
+invariant-loop-device l =
+    record {
+      brought : take l.device-index l.chain ≡ map (by_clock_device l.clock) (take l.device-index l.initial.chain);
+      left : drop l.device-index l.chain ≡ drop l.device-index l.initial.chain;
+    }

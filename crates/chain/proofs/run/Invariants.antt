@@ -2,7 +2,7 @@ use Rattle.std.proofs.Common.{length}
 use Rattle.turns.specs.Front.{now_at}
 use Rattle.turns.proofs.Turns.{measure}
 use Rattle.chain.proofs.Standing.{Standing}
-use Rattle.chain.proofs.bb_run.Given as goal
+use Rattle.chain.proofs.run.Given as goal
 
 abbrev pub invariant-loop-cursor : goal.invariant-loop-cursor
 invariant-loop-cursor l = Standing l.fn.chain l.states l.fn.returned (now_at l.chain l.cursor l.returned)

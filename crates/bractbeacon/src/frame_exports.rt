@@ -2,7 +2,8 @@
 ghost use Rattle.std.specs.Prelude.{◌≡◌, length};
 ghost use Rattle.frames.specs.Frames.{tail_of};
 ghost use Rattle.frame_writer.specs.Writing.{written, written_out};
-ghost use Rattle.capi_frames.specs.FrameAnswers.{told_by, of_written, of_read, of_return_read, of_converted};
+ghost use Rattle.answers.specs.Answers.{of_answer};
+ghost use Rattle.capi_frames.specs.FrameAnswers.{told_by, of_read};
 ghost use Rattle.frame_reader.specs.Reading.{read, read_bytes, read_values};
 ghost use Rattle.parts.specs.Parts.{command_at};
 ghost use Rattle.return_reader.specs.Returns.{return_read};
@@ -25,7 +26,7 @@ pub extern "C" fn bb_write(
     out: &mut [u8],
 ) -> Answer
     ensures value { result
-        ≡ of_written
+        ≡ of_answer
         (written (told_by part devices command configuration) (tail_of tail long) byte bytes.now values.now
         (length out.old)) }
     ensures out_after { out.new
@@ -93,7 +94,7 @@ pub extern "C" fn bb_read_return(
     long: u32,
     frame: &[u8],
 ) -> Answer
-    ensures { result ≡ of_return_read (return_read part devices (command_at command) (tail_of tail long) frame.now) }
+    ensures { result ≡ of_answer (return_read part devices (command_at command) (tail_of tail long) frame.now) }
 {
     capi_frames::bb_read_return(part, devices, command, tail, long, frame)
 }
@@ -101,7 +102,7 @@ pub extern "C" fn bb_read_return(
 // The line states of a packed frame that is sent with an edge.
 #[unsafe(no_mangle)]
 pub extern "C" fn bb_states(frame: &[u8], bits: usize, edge: u8, states: &mut [u8]) -> Answer
-    ensures { (result ≡ of_converted (clocked_answer frame.now bits edge states.old))
+    ensures { (result ≡ of_answer (clocked_answer frame.now bits edge states.old))
         × (states.new ≡ clocked_out frame.now bits edge states.old) }
 {
     capi_frames::bb_states(frame, bits, edge, states)
@@ -110,7 +111,7 @@ pub extern "C" fn bb_states(frame: &[u8], bits: usize, edge: u8, states: &mut [u
 // The data bits of line states, packed.
 #[unsafe(no_mangle)]
 pub extern "C" fn bb_data_bytes(states: &[u8], out: &mut [u8]) -> Answer
-    ensures { (result ≡ of_converted (data_bytes_answer states.now out.old))
+    ensures { (result ≡ of_answer (data_bytes_answer states.now out.old))
         × (out.new ≡ data_bytes_out states.now out.old) }
 {
     capi_frames::bb_data_bytes(states, out)

@@ -64,6 +64,7 @@ pub fn device_total(
     ensures { result ≡ closed_total drive calibration.now bytes individual.now values }
 {
     let mut sum = 0;
+    // By number: to one byte go several values.
     for bank in 0..drive.banks {
         sum += bank_total(drive, calibration, bytes, individual, values, bank);
     }

@@ -31,6 +31,7 @@ pub fn write_figures(
     ensures figures_after { figures.new ≡ over (closed_figures drive calibration.now individual.now devices) figures.old }
 {
     let mut sum = 0;
+    // By number: to a device go three figures, and bytes and values as many as its part has.
     for i in 0..devices {
         let bytes = i * drive.banks;
         let values = i * (drive.banks * drive.each);

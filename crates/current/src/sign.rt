@@ -9,7 +9,7 @@ use crate::judge::judge;
 use sets::SetNumbers;
 
 // What the sign draws over 524,288 clocks, in eighths of a microamp: the total, its average rounded down and its remainder; or a refusal, beside
-// which all three are 0.
+// which all three are 0. A struct of numbers, for C.
 #[repr(C)]
 #[derive(Clone, Copy)]
 pub struct Current {

@@ -7,7 +7,7 @@ use crate::compared::Compared;
 use device::Device;
 
 // The first group and place at which the device of a number differs from what is its own, or all 0: configuration, calibration bytes,
-// global byte and individual values.
+// global byte and individual values. The answer is C's struct and no Option, since the theorems of the comparison speak of in_groups.
 pub fn device_differs(
     device: Device,
     number: usize,
@@ -106,6 +106,7 @@ fn turns_same(values: &[u16], mux0: &[u16; 24], mux1: &[u16; 24]) -> bool
     requires { (length values.now ≤ 48) × (length values.now % 16 ≡ 0) }
     ensures { result ≡ eqb (differs_at values.now (in_turns mux0.now mux1.now)) (length values.now) }
 {
+    // By number: sixteen of the values go to eight of either other list.
     for bank in 0..values.len() / 16 {
         let from = 8 * bank;
         let to = from + 8;
@@ -126,6 +127,7 @@ fn bank_same(values: &[u16], mux0: &[u16], mux1: &[u16]) -> bool
     ensures { result ≡ eqb (differs_at values.now (in_turns mux0.now mux1.now)) 16 }
 {
     let mut same = true;
+    // By number: two of the values go to one of either other list.
     for output in 0..8 {
         let even = output + output;
         let odd = even + 1;

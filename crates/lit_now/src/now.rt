@@ -7,7 +7,7 @@ ghost use Rattle.lit_now.specs.Asked.{asked_now};
 use device::Device;
 use tables::Refusal;
 
-// Lit or not, 1 or 0, and the phase, 0 MUX0 and 1 MUX1; or the refusal's number, and both are 0.
+// Lit or not, 1 or 0, and the phase, 0 MUX0 and 1 MUX1; or the refusal's number, and both are 0. A struct of numbers, for C.
 #[repr(C)]
 #[derive(Clone, Copy)]
 pub struct LitNow {

@@ -15,11 +15,11 @@ pub fn case<N: Display + Drop, T: Display + PartialEq + Drop>(
     line(rt, name, should, came, same)
 }
 
-// The same, where more is compared than is printed.
-pub fn line<N: Display + Drop, T: Display + Drop>(
+// The same, where something else is compared than is printed.
+pub fn line<N: Display + Drop, S: Display + Drop, T: Display + Drop>(
     rt: &impl Print,
     name: N,
-    should: T,
+    should: S,
     came: T,
     same: bool,
 ) -> io::Result<()> {

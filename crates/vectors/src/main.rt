@@ -3,6 +3,7 @@
 #![tactic(auto)]
 
 mod frame_cases; // a to f and h, of the 24-output parts: written, compared and read back
+mod setting; // what a frame sets
 mod sixteen_cases; // l to p, of the 16-output parts
 mod taken_cases; // what is refused, and what is just taken
 

@@ -1,5 +1,6 @@
 // Frames l to p, of the 16-output parts: a byte for each of the banks Z and Y, a value for each of 16 outputs.
 use crate::frame_cases::frame_case;
+use crate::setting::Setting;
 use cases::{frame_of, no_tail};
 use parts::Command;
 use std::io;
@@ -13,32 +14,26 @@ pub fn run(rt: &impl Print) -> io::Result<()> {
 fn byte_cases(rt: &impl Print) -> io::Result<()> {
     frame_case(
         rt,
-        b"l  6972, configuration 0x00",
+        "l  6972, configuration 0x00",
         frame_of(6972, 1, Command::Configuration, 0),
         no_tail(),
-        0,
-        b"",
-        &[0u16; 1],
+        Setting::Byte(0),
         b"\xE8\xFC\x00\x00\x00",
     )?;
     frame_case(
         rt,
-        b"m  6972, calibration Z A9, Y 10",
+        "m  6972, calibration Z A9, Y 10",
         frame_of(6972, 1, Command::Calibration, 0),
         no_tail(),
-        0,
-        b"\xA9\x10",
-        &[0u16; 1],
+        Setting::Bytes(b"\xA9\x10"),
         b"\xE8\x54\x00\xA9\x10",
     )?;
     frame_case(
         rt,
-        b"n  6972, global 96",
+        "n  6972, global 96",
         frame_of(6972, 1, Command::Global, 0),
         no_tail(),
-        96,
-        b"",
-        &[0u16; 1],
+        Setting::Byte(96),
         b"\xE8\xA8\x00\x60\x60",
     )
 }
@@ -47,22 +42,18 @@ fn byte_cases(rt: &impl Print) -> io::Result<()> {
 fn individual_cases(rt: &impl Print) -> io::Result<()> {
     frame_case(
         rt,
-        b"o  6972, all values 2560",
+        "o  6972, all values 2560",
         frame_of(6972, 1, Command::Individual, 0),
         no_tail(),
-        0,
-        b"",
-        &[2560u16; 16],
+        Setting::Values(&[2560; 16]),
         b"\xE8\x00\x00\xA0\x0A\x00\xA0\x0A\x00\xA0\x0A\x00\xA0\x0A\x00\xA0\x0A\x00\xA0\x0A\x00\xA0\x0A\x00\xA0\x0A\x00",
     )?;
     frame_case(
         rt,
-        b"p  6973, all values 1",
+        "p  6973, all values 1",
         frame_of(6973, 1, Command::Individual, 0),
         no_tail(),
-        0,
-        b"",
-        &[1u16; 16],
+        Setting::Values(&[1; 16]),
         b"\xE8\x00\x00\x00\x04\x00\x10\x00\x40\x01\x00\x04\x00\x10\x00\x40\x01\x00\x04\x00\x10\x00\x40\x01\x00\x04\x00\x10\x00\x40\x01",
     )
 }

@@ -12,6 +12,12 @@ use Rattle.answers.specs.declared.answer.Answer.{Answer}
 abbrev pub told_by : ℕ → ℕ → ℕ → ℕ → Told
 told_by part devices command configuration = told_of part devices (command_at command) configuration
 
+-- how many bytes or values stand in the lent list
+abbrev pub listed : Read → ℕ
+listed (R.Byte byte) = 0
+listed (R.Bytes n) = n
+listed (R.Values n) = n
+
 -- what an accepted frame gives: its byte, or how many bytes or values stand in the lent list
 abbrev pub value_given : Read → ℕ
 value_given (R.Byte byte) = byte

@@ -6,7 +6,7 @@ ghost use Rattle.frame_writer.specs.Writing.{written, written_out};
 ghost use Rattle.frame_reader.specs.Reading.{read, read_bytes, read_values};
 ghost use Rattle.return_reader.specs.Returns.{return_read};
 ghost use Rattle.answers.specs.Answers.{of_answer};
-ghost use Rattle.capi_frames.specs.FrameAnswers.{told_by, value_given, of_read};
+ghost use Rattle.capi_frames.specs.FrameAnswers.{told_by, listed, value_given, of_read};
 
 use answers::Answer;
 use frame_reader::Read;
@@ -112,8 +112,18 @@ fn told_by(part: u16, devices: usize, command: u8, configuration: u8) -> Told
 fn value_given(read: Read) -> usize
     ensures { result ≡ value_given read }
 {
-    match read {
-        Read::Byte(byte) => usize::from(byte),
-        Read::Bytes(n) | Read::Values(n) => n,
-    }
+    let Read::Byte(byte) = read else {
+        return listed(read);
+    };
+    usize::from(byte)
+}
+
+// How many bytes or values stand in the lent list.
+fn listed(read: Read) -> usize
+    ensures { result ≡ listed read }
+{
+    let (Read::Bytes(n) | Read::Values(n)) = read else {
+        return 0;
+    };
+    n
 }

@@ -6,7 +6,7 @@ ghost use Rattle.schedule.specs.Answers.{lit_answer, lit_clocks_answer};
 ghost use Rattle.device_light.specs.OfDevice.{device_answer, device_clocks_answer};
 ghost use Rattle.capi_light.specs.LightAnswers.{of_asked, of_lead, of_clocks};
 
-use answers::{Answer, accept, refuse};
+use answers::Answer;
 use device::Device;
 use schedule::{Moment, Output};
 use subframes::Intensity;
@@ -145,10 +145,7 @@ pub extern "C" fn bb_device_lit_clocks(
 fn of_asked(asked: Result<bool, Refusal>) -> Answer
     ensures { result ≡ of_asked (numbered asked) }
 {
-    match asked {
-        Ok(holds) => accept(holds.into()),
-        Err(refusal) => refuse(refusal.into()),
-    }
+    asked.map(usize::from).into()
 }
 
 fn of_lead(lead: Result<i32, Refusal>) -> Signed

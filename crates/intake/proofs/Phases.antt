@@ -27,8 +27,7 @@ use Rattle.registers.specs.declared.registers.Registers.{Registers}
 use Rattle.storing.specs.Stored.{stored}
 use Rattle.device.specs.declared.device.Device.{Device}
 use Rattle.device.specs.declared.device.Stepped.{Stepped}
-use Rattle.intake.specs.Intake.{stopped, dated_step, step_in, high_taken, unless_sent, headed_all, highs_end, full}
-use Rattle.intake.specs.declared.taken.Taken.{Taken}
+use Rattle.intake.specs.Intake.{Taken, stopped, dated_step, step_in, high_taken, unless_sent, headed_all, highs_end, full}
 use Rattle.intake.specs.declared.highs.Headed.{Headed}
 use Rattle.intake.proofs.Clauses.{drop-on, high_end}
 

@@ -23,8 +23,7 @@ use Rattle.positions.specs.Running.{dated}
 use Rattle.storing.specs.Stored.{stored, copies}
 use Rattle.device.specs.Step.{at, step_high, moved, sending, slice_length}
 use Rattle.device.specs.declared.device.Device.{Device}
-use Rattle.intake.specs.Intake.{stopped, dated_step, high_taken, full, progress_of, settled_by, settled, completed}
-use Rattle.intake.specs.declared.taken.Taken.{Taken}
+use Rattle.intake.specs.Intake.{Taken, stopped, dated_step, high_taken, full, progress_of, settled_by, settled, completed}
 use Rattle.intake.proofs.Phases.{after, high-none, high-low, high-at, high-normal}
 
 -- ---- a store and the slice

@@ -22,8 +22,7 @@ use Rattle.parts.proofs.Rows.{field-width-pos, field-narrow, fields_le, field_of
 use Rattle.phases.specs.declared.phase.Phase.TheVariants.{Slice, Passing}
 use Rattle.phases.specs.declared.phase.Sent.TheVariants.{Header}
 use Rattle.registers.specs.declared.registers.Registers.{Registers}
-use Rattle.intake.specs.Intake.{stopped, dated_step, high_taken, filled, field_after, lack_after, collecting, full}
-use Rattle.intake.specs.declared.taken.Taken.{Taken}
+use Rattle.intake.specs.Intake.{Taken, stopped, dated_step, high_taken, filled, field_after, lack_after, collecting, full}
 use Rattle.intake.specs.declared.field.Filled.{Filled}
 use Rattle.intake.proofs.Clauses.{drop-on, filled_none, filled-end, filled-low, filled_on}
 use Rattle.intake.proofs.Phases.{after, high-at}

@@ -14,12 +14,17 @@ use Rattle.phases.specs.declared.phase.Sent.TheVariants.{Nothing, One, Header}
 use Rattle.registers.specs.declared.registers.Registers.{Registers}
 use Rattle.device.specs.declared.device.Device.{Device}
 use Rattle.device.specs.declared.device.Stepped.{Stepped}
-use Rattle.intake.specs.declared.taken.Taken.{Taken}
 use Rattle.intake.specs.declared.taken.Progress.{Progress}
 use Rattle.intake.specs.declared.highs.Headed.{Headed}
 use Rattle.intake.specs.declared.field.Filled.{Filled}
 
--- the device, the place of the next state, and what was sent
+-- what a device makes of the states at hand: the device then, the place of the next state, and what was sent
+pub record Taken : Type 0 where
+  pub device : Device
+  pub at : ℕ
+  pub sent : Sent
+
+-- the same by its parts
 abbrev pub stopped : Device → ℕ → Sent → Taken
 stopped d i s = record { device = d; at = i; sent = s }
 

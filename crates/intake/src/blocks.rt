@@ -1,4 +1,4 @@
-// Where blocks of states end whose states all pass a test.
+// States are gone over in blocks, as long as all of a block pass a test.
 ghost use Rattle.std.specs.Prelude.{◌≡◌, true, ℕ, ◌<◌, ◌≤◌, ◌+◌, length, get_or, drop};
 
 // The states from a place on.
@@ -8,6 +8,7 @@ pub fn ahead(states: &[u8], from: usize) -> &[u8]
     states.get(from..).unwrap_or_default()
 }
 
+// The end of the whole blocks from a place on whose states all pass a test.
 pub fn blocks_end<const SIZE: usize, F: Fn(u8) -> bool>(
     states: &[u8],
     from: usize,

@@ -3,7 +3,8 @@ ghost use Rattle.std.specs.Prelude.{◌≡◌, ◌-◌, ◌<◌, ◌≤◌, IfSo
 ghost use Rattle.intake.specs.Intake.{filled};
 ghost use Rattle.intake.specs.Words.{four_bits};
 
-// A field's value, and the place of the next state.
+// A field's value, and the place of the next state. One generic pair for this, `Headed` and those of the crate turns would be no plainer: it would
+// call a value, a phase and a window by one name.
 #[derive(Clone, Copy)]
 pub struct Filled {
     pub value: u16,

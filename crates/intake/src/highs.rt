@@ -11,7 +11,7 @@ use device::Device;
 use phases::{Phase, Place, Sent};
 use registers::Registers;
 
-// A phase, and the place of the next state.
+// A phase, and the place of the next state: no generic pair, as for `Filled`.
 #[derive(Clone, Copy)]
 pub struct Headed {
     pub phase: Phase,
@@ -70,6 +70,7 @@ fn head_all(phase: Phase, states: &[u8], from: usize) -> Headed
     ensures { result ≡ headed_all phase (drop from states.now) from }
 {
     let mut phase = phase;
+    // By index, as the place is what is answered.
     for at in from..states.len() {
         let state = states[at];
         if !phases::in_header(phase) || state < 2 {

@@ -11,4 +11,4 @@ mod taken;
 pub use blocks::blocks_end;
 pub use highs::{highs_end, take};
 pub use slice::take_slice;
-pub use taken::{Progress, Taken, settle, stop, take_none};
+pub use taken::{Progress, settle, stop, take_none};

@@ -62,6 +62,7 @@ fn gather(
     let mut i = from;
     let mut k = t / width;
     let mut lack = width - t % width;
+    // No iterator has this step: a field takes as many states as it lacks, or fewer.
     while i < states.len() {
         if states[i] < 2 {
             return part_of(slice, command, count, t as u16, i);

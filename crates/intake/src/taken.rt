@@ -6,14 +6,6 @@ use device::Device;
 use phases::{Phase, Place, Sent};
 use registers::Registers;
 
-// The device, the place of the next state, and what was sent.
-#[derive(Clone, Copy)]
-pub struct Taken {
-    pub device: Device,
-    pub at: usize,
-    pub sent: Sent,
-}
-
 // How far a device got: its slice and its place in a frame, which are all that changes before it sends a header, the place of the next
 // state, and what was sent. So no record is moved while states are taken.
 #[derive(Clone, Copy)]
@@ -28,6 +20,7 @@ pub struct Progress {
 pub fn take_none(device: Device, from: usize, sent: Sent) -> Progress
     ensures { result ≡ progress_of (stopped device from sent) }
 {
+    // By a variable: the proof does not close where an array field goes straight into a literal.
     let slice = device.registers.slice;
     Progress {
         slice,

@@ -16,9 +16,8 @@ use Rattle.watch.proofs.Ears.{Right, Loaded, right-later, followed-on, followed-
 use Rattle.phases.specs.declared.phase.Sent.{Sent}
 use Rattle.phases.specs.declared.phase.Sent.TheVariants.{Nothing, One, Header}
 use Rattle.device.specs.declared.device.Device.{Device}
-use Rattle.intake.specs.Intake.{stopped, settled}
+use Rattle.intake.specs.Intake.{Taken, stopped, settled}
 use Rattle.intake.specs.declared.taken.Progress.{Progress}
-use Rattle.intake.specs.declared.taken.Taken.{Taken}
 use Rattle.turns.specs.Watching.{is_on, cleared_device, overheard, onward, hearing, watched_turn}
 
 -- ---- state by state

@@ -24,7 +24,7 @@ use Rattle.phases.specs.declared.phase.Sent.TheVariants.{Nothing, One, Header}
 use Rattle.registers.specs.declared.registers.Registers.{Registers}
 use Rattle.device.specs.declared.device.Device.{Device}
 use Rattle.device.proofs.Places.{place-phase}
-use Rattle.intake.specs.Intake.{stopped, high_taken, progress_of, highs_end}
+use Rattle.intake.specs.Intake.{Taken, stopped, high_taken, progress_of, highs_end}
 use Rattle.intake.proofs.Settled.{Settles, settled-high}
 use Rattle.watch.specs.Watch.{load_bit}
 use Rattle.watch.specs.Kept.{listened}
@@ -34,7 +34,6 @@ use Rattle.watch.proofs.Clocks.{listened-append, listened-bit}
 use Rattle.watch.specs.declared.kept.Listened.{Listened}
 use Rattle.turns.specs.Watching.{is_on, hearing, watched_turn}
 use Rattle.turns.proofs.Onward.{watched_taken, Ahead, right_from, watched-turn, watched-ear}
-use Rattle.intake.specs.declared.taken.Taken.{Taken}
 use Rattle.calls.specs.Chain.{all_fit, blank}
 use Rattle.cursor.specs.declared.cursor.Cursor.{Cursor}
 use Rattle.cursor.specs.Cursor.{index_of, cursor, turn_by_state, next_turn}

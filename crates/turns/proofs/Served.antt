@@ -24,8 +24,7 @@ use Rattle.registers.specs.Held.{with_watch, with_slice}
 use Rattle.registers.specs.declared.registers.Registers.{Registers}
 use Rattle.device.specs.Step.{step, at, sent_states}
 use Rattle.device.specs.declared.device.Device.{Device}
-use Rattle.intake.specs.Intake.{stopped, dated_by, step_in, progress_of}
-use Rattle.intake.specs.declared.taken.Taken.{Taken}
+use Rattle.intake.specs.Intake.{Taken, stopped, dated_by, step_in, progress_of}
 use Rattle.intake.specs.declared.taken.Progress.{Progress}
 use Rattle.intake.proofs.Settled.{Settles}
 use Rattle.turns.specs.Front.{after_header}

@@ -30,8 +30,7 @@ use Rattle.storing.specs.Stored.{stored, copies}
 use Rattle.device.specs.Step.{step, step_high, at, moved, sending, slice_length, sent_states}
 use Rattle.device.specs.declared.device.Device.{Device}
 use Rattle.device.specs.declared.device.Stepped.{Stepped}
-use Rattle.intake.specs.Intake.{stopped, dated_by, dated_step, step_in, unless_sent, high_taken}
-use Rattle.intake.specs.declared.taken.Taken.{Taken}
+use Rattle.intake.specs.Intake.{Taken, stopped, dated_by, dated_step, step_in, unless_sent, high_taken}
 use Rattle.intake.proofs.Settled.{dated-slice}
 use Rattle.turns.specs.Watching.{is_on, cleared_if, cleared_device, hearing}
 use Rattle.turns.proofs.Timed.{Timed, stamp, stamped, states, timed, step_timed, run_timed, timed-none, timed-cons, states-stamped}

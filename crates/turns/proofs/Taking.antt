@@ -26,8 +26,7 @@ use Rattle.registers.specs.declared.registers.Registers.{Registers}
 use Rattle.device.specs.declared.device.Device.{Device}
 use Rattle.device.specs.declared.device.Stepped.{Stepped}
 use Rattle.phases.proofs.Places.{Small}
-use Rattle.intake.specs.Intake.{stopped, dated_by, dated_step, step_in, unless_sent, high_taken}
-use Rattle.intake.specs.declared.taken.Taken.{Taken}
+use Rattle.intake.specs.Intake.{Taken, stopped, dated_by, dated_step, step_in, unless_sent, high_taken}
 use Rattle.intake.proofs.Clauses.{drop-on, high_end}
 use Rattle.intake.proofs.Settled.{Settles, settled-high}
 use Rattle.tables.proofs.Booleans.{cond_both}

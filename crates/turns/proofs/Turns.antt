@@ -15,9 +15,8 @@ use Rattle.phases.specs.declared.phase.Phase.{Phase}
 use Rattle.phases.specs.declared.phase.Sent.{Sent}
 use Rattle.phases.specs.declared.phase.Sent.TheVariants.{Nothing, One, Header}
 use Rattle.device.specs.declared.device.Device.{Device}
-use Rattle.intake.specs.Intake.{stopped, step_in, unless_sent, high_taken, highs_end}
+use Rattle.intake.specs.Intake.{Taken, stopped, step_in, unless_sent, high_taken, highs_end}
 use Rattle.intake.proofs.Phases.{high-cons}
-use Rattle.intake.specs.declared.taken.Taken.{Taken}
 use Rattle.calls.specs.Chain.{blank}
 use Rattle.cursor.specs.declared.cursor.Cursor.{Cursor}
 use Rattle.turns.specs.declared.front.PhaseRun.{PhaseRun}

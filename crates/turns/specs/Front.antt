@@ -11,8 +11,7 @@ use Rattle.phases.specs.declared.phase.Phase.TheVariants.{Hunting, Opening, Coun
 use Rattle.phases.specs.declared.phase.Sent.{Sent}
 use Rattle.phases.specs.declared.phase.Sent.TheVariants.{Nothing, One, Header}
 use Rattle.device.specs.declared.device.Device.{Device}
-use Rattle.intake.specs.Intake.{stopped, high_taken, progress_of, highs_end}
-use Rattle.intake.specs.declared.taken.Taken.{Taken}
+use Rattle.intake.specs.Intake.{Taken, stopped, high_taken, progress_of, highs_end}
 use Rattle.calls.specs.Chain.{blank}
 use Rattle.cursor.specs.declared.cursor.Cursor.{Cursor}
 use Rattle.cursor.specs.Cursor.{with_ahead, next_turn, halted, begin_run}

@@ -9,14 +9,15 @@ use device::Device;
 use intake::Progress;
 use phases::{Phase, Sent};
 
-// A phase, and the place of the next state.
+// A phase, and the place of the next state. One generic pair for this, `Heard` and those of the crate intake would be no plainer: it would call a
+// phase and a window by one name.
 #[derive(Clone, Copy)]
 pub struct PhaseRun {
     pub phase: Phase,
     pub at: usize,
 }
 
-// A window, and the place of the next state.
+// A window, and the place of the next state: no generic pair, as for `PhaseRun`.
 #[derive(Clone, Copy)]
 pub struct Heard {
     pub window: u16,
@@ -76,6 +77,7 @@ fn hear_each(window: u16, states: &[u8], from: usize) -> Heard
     ensures { result ≡ hear_all window (drop from states.now) from }
 {
     let mut window = window;
+    // By index, as the place is what is answered.
     for at in from..states.len() {
         let state = states[at];
         if state >= 2 {
@@ -107,6 +109,7 @@ fn run_phase(phase: Phase, states: &[u8], from: usize) -> PhaseRun
     ensures { result ≡ phase_run phase (drop from states.now) from }
 {
     let mut phase = phase;
+    // By index, as the place is what is answered.
     for at in from..states.len() {
         let state = states[at];
         if !is_phase_only(phase, state) {

@@ -22,10 +22,9 @@ pub fn put_values(values: &[u16], width: u32, out: &mut [u8], at: usize) -> usiz
 }
 
 // Calibration bytes.
-#[tactic(auto, unfolding(bits::specs::Bits::over, bits::specs::Bits::over_at))]
 pub fn put_bytes(bytes: &[u8], out: &mut [u8], at: usize) -> usize
     requires { at + length bytes.now ≤ length out.old }
-    ensures { (out.new ≡ over_at at bytes.now out.old) × (result ≡ at + length bytes.now) }
+    ensures { (out.new ≡ over_at at (bytes_of (fields 8 bytes.now)) out.old) × (result ≡ at + length bytes.now) }
 {
     let end = at + bytes.len();
     out[at..end].copy_from_slice(bytes);

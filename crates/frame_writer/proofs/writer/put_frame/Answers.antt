@@ -7,22 +7,22 @@ use Rattle.frame_writer.proofs.writer.put_frame.Goals as goal
 
 pub put_number-start-requires : goal.put_number-start-requires
 put_number-start-requires c = let a = c.args in
-    let w = accepted.writable a.told a.tail a.byte a.bytes.now a.values.now (length a.out.now) c.requires in
+    let w = accepted.writable a.told a.tail a.given.byte a.given.bytes.now a.given.values.now (length a.out.now) c.requires in
     (omega arith, omega (arith, w.wide, frame-room a.told a.tail))
 
 pub put_slices-end-requires : goal.put_slices-end-requires
 put_slices-end-requires c = let a = c.args in
-    let w = accepted.writable a.told a.tail a.byte a.bytes.now a.values.now (length a.out.now) c.requires in
+    let w = accepted.writable a.told a.tail a.given.byte a.given.bytes.now a.given.values.now (length a.out.now) c.requires in
     (w.told.few, w.list, omega (arith, w.wide, frame-room a.told a.tail, c.put_number-start.ensures.1))
 
 pub put_number-requires : goal.put_number-requires
 put_number-requires c = let a = c.args in
-    let w = accepted.writable a.told a.tail a.byte a.bytes.now a.values.now (length a.out.now) c.requires in
+    let w = accepted.writable a.told a.tail a.given.byte a.given.bytes.now a.given.values.now (length a.out.now) c.requires in
     (w.told.short, omega (arith, w.wide, frame-room a.told a.tail, c.put_number-start.ensures.1, c.put_slices-end.ensures.1))
 
 pub returns : goal.returns
 returns c = let a = c.args in
-    let w = accepted.writable a.told a.tail a.byte a.bytes.now a.values.now (length a.out.now) c.requires in
-    let long = accepted.length-settings_of a.told a.told.command a.byte a.bytes.now a.values.now w.list in
-    pieces.put-together a.told a.tail a.byte a.bytes.now a.values.now long a.out.now c.header_of.ensures c.put_number-start.ensures
+    let w = accepted.writable a.told a.tail a.given.byte a.given.bytes.now a.given.values.now (length a.out.now) c.requires in
+    let long = accepted.length-settings_of a.told a.told.command a.given.byte a.given.bytes.now a.given.values.now w.list in
+    pieces.put-together a.told a.tail a.given.byte a.given.bytes.now a.given.values.now long a.out.now c.header_of.ensures c.put_number-start.ensures
     c.put_slices-end.ensures c.put_number.ensures

@@ -23,7 +23,8 @@ use Rattle.compare.specs.Differences.{of_set, of_device, DiffersFirst, FirstDiff
 use Rattle.claims.specs.Claims.{SameHolds, HoldsSame, Named}
 use Rattle.differences.proofs.Lists.{differs-first}
 use Rattle.compare.proofs.Holding.{Sized, own_from-sized, sides, equal-holds, holds-groups, groups-equal, GroupAt, group-named, nowhere}
-use Rattle.compare.proofs.Found.{in_groups-none, begin-live, accepted-part}
+use Rattle.compare.proofs.Found.{in_groups-none}
+use Rattle.compare.proofs.Judged.{lists_long, accepted-part}
 
 -- ---- the devices
 
@@ -130,15 +131,11 @@ module _ (s : Set) (ds : List Device) where
     sized : All (Sized (part_of s.part)) os
     unfolding owned
     sized =
-        let l = (begin-live (set_numbers s.part s.devices s.configuration s.global) s.calibration s.individual ds e).1 in
-        own_from-sized (part_of s.part) s.devices s.configuration s.global s.calibration s.individual
-        (sym l.bytes_in ∙ zero-plus _) (sym l.values_in ∙ zero-plus _)
-      where
-        zero-plus : (n : ℕ) → 0 + n ≡ n
-        zero-plus n = omega arith
+        let l = lists_long (set_numbers s.part s.devices s.configuration s.global) s.calibration s.individual ds e in
+        own_from-sized (part_of s.part) s.devices s.configuration s.global s.calibration s.individual (sym l.bytes_in) (sym l.values_in)
 
     long : length os ≡ length ds
-    long = length-owned s ∙ (begin-live (set_numbers s.part s.devices s.configuration s.global) s.calibration s.individual ds e).1.devices
+    long = length-owned s ∙ (lists_long (set_numbers s.part s.devices s.configuration s.global) s.calibration s.individual ds e).devices
 
     comparable : All Arrays ds → Comparable s.part os ds
     comparable r = record { sized = sized; parts = accepted-part (set_numbers s.part s.devices s.configuration s.global) s.calibration s.individual ds e; arrays = r; lengths = long }

@@ -1,5 +1,6 @@
 // How many fields, bits and bytes a told frame has, for any N and any tail.
-ghost use Rattle.std.specs.Prelude.{◌≡◌};
+ghost use Rattle.std.specs.Prelude.{◌≡◌, ◌*◌, cond, leb};
+ghost use Rattle.parts.specs.Parts.{most_devices};
 ghost use Rattle.frames.specs.Frames.{told_fields, told_bits, told_length};
 
 use crate::told::{Tail, Told};
@@ -9,10 +10,10 @@ use crate::told::{Tail, Told};
 pub fn told_fields(told: Told) -> usize
     ensures { result ≡ told_fields told }
 {
-    if told.devices > parts::MOST_DEVICES {
-        return 0;
-    }
-    told.devices * slices::slice_fields(told.command, told.part, told.configuration) as usize
+    of_devices(
+        told.devices,
+        slices::slice_fields(told.command, told.part, told.configuration),
+    )
 }
 
 // The bits of all slices: 0 where N is over its limit.
@@ -20,10 +21,20 @@ pub fn told_fields(told: Told) -> usize
 pub fn told_bits(told: Told) -> usize
     ensures { result ≡ told_bits told }
 {
-    if told.devices > parts::MOST_DEVICES {
+    of_devices(
+        told.devices,
+        slices::slice_bits(told.command, told.part, told.configuration),
+    )
+}
+
+// So many for each device: 0 where N is over its limit.
+fn of_devices(devices: usize, each: u16) -> usize
+    ensures { result ≡ cond (leb devices most_devices) (devices * each) 0 }
+{
+    if devices > parts::MOST_DEVICES {
         return 0;
     }
-    told.devices * slices::slice_bits(told.command, told.part, told.configuration) as usize
+    devices * usize::from(each)
 }
 
 // The bytes of the frame: 0 where N is over its limit, or the tail has over 64 bits.

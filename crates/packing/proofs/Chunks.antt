@@ -1,6 +1,6 @@
--- The parts of n elements that std cuts a list into are the groups of specs/Groups of `bits`. Assumes nothing.
-use mathlib.Core.Path.{◌≡◌, refl, sym, ap, ◌∙◌}
-use mathlib.Core.List.{List, ◌∷◌}
+-- The parts of n elements that `as_chunks` cuts a list into. Assumes nothing.
+use mathlib.Core.Path.{◌≡◌, sym, ap, ◌∙◌}
+use mathlib.Core.List.{List}
 use Prim.Native.Nat.{ℕ, zero, suc, ◌+◌, ◌-◌, ◌*◌, ◌≤◌, ◌<◌}
 use native.Mathlib.Nat.{zero-mul, suc-mul, add_comm}
 use native.Mathlib.Omega.{arith}
@@ -8,12 +8,6 @@ use lib.ListN.{get_or, take, drop}
 use lib.Seq.{drop-drop, take-take}
 use Rattle.std.proofs.lemmas.List.{drop-take}
 use Rattle.std.specs.Simd.{first_chunks}
-use Rattle.bits.specs.Groups.{groups}
-
-pub chunks-groups : (n k : ℕ) (vs : List ℕ) → first_chunks n k vs ≡ groups n k vs
-unfolding groups
-chunks-groups n zero vs = refl
-chunks-groups n (suc k) vs = ap (λ (z : List (List ℕ)). take n vs ∷ z) (chunks-groups n k (drop n vs))
 
 pub chunk_at : (n k j : ℕ) (vs d : List ℕ) → j < k → get_or (first_chunks n k vs) j d ≡ take n (drop (j * n) vs)
 chunk_at n zero j vs d l = absurd (omega arith)

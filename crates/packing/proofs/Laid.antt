@@ -7,7 +7,6 @@ use Prim.Native.Nat.{ℕ, zero, suc, ◌+◌, ◌-◌, ◌*◌, ◌/◌, ◌%◌
 use native.Mathlib.Nat.{add-zero, add-mul, zero-mul, mul_assoc}
 use native.Mathlib.Omega.{arith}
 use lib.ListN.{length, get_or, take, drop, length-append, length-drop, length-map, drop_of_length-le}
-use Rattle.std.proofs.lemmas.List.{get_or-take, get_or-drop}
 use lib.Seq.{length-take-le, take-append-add, take_at, take-take, take_all, drop-drop, paste}
 use lib.Pow.{shl-shr, shl_exact}
 use Rattle.bits.specs.Bits.{bits, number, fields}
@@ -82,34 +81,18 @@ unfolding fields
 words-none k ws a from end = subst (λ (n : ℕ). Laid a a from n end []) (sym (zero-mul k)) (laid_none a from end)
 
 -- the next word, behind j of them
-words-next : (k j i : ℕ) (ws : List ℕ) {a b c : List ℕ} {from at end x : ℕ} → i ≡ j + 1 → k ≤ 8 → j < length ws → x ≡ get_or ws j 0 → at ≡ from + j * k
-    → at ≤ length b → at + 8 ≤ end → Laid a b from (j * k) end (fields (8 * k) (take j (high_bits (8 * k) ws))) → Stored b c at 8 (bits 64 x)
-    → Laid a c from (i * k) end (fields (8 * k) (take i (high_bits (8 * k) ws)))
+pub words-next : (k j : ℕ) (ws : List ℕ) {a b c : List ℕ} {from at end : ℕ} → k ≤ 8 → j < length ws → at ≡ from + j * k → at ≤ length b → at + 8 ≤ end
+    → Laid a b from (j * k) end (fields (8 * k) (take j (high_bits (8 * k) ws))) → Stored b c at 8 (bits 64 (get_or ws j 0))
+    → Laid a c from ((j + 1) * k) end (fields (8 * k) (take (j + 1) (high_bits (8 * k) ws)))
 unfolding high_bits
-words-next k j i ws {a} {b} {c} {from} {at} {end} {x} f h l v q room inside d e =
+words-next k j ws {a} {b} {c} {from} {at} {end} h l q room inside d e =
     let hs : List ℕ = high_bits (8 * k) ws in
-    let n : j * k + k ≡ i * k = omega (arith, ap (λ (m : ℕ). m * k) f, add-mul j 1 k) in
+    let n : j * k + k ≡ (j + 1) * k = omega (arith, add-mul j 1 k) in
     let m : j < length hs = omega (arith, length-high_bits (8 * k) ws) in
-    let bs : fields (8 * k) (take j hs) ++ bits (8 * k) (x / 2 ^ (64 - 8 * k)) ≡ fields (8 * k) (take i hs)
-    = ap (λ (z : List Bool). fields (8 * k) (take j hs) ++ z) (ap (λ (y : ℕ). bits (8 * k) (y / 2 ^ (64 - 8 * k))) v
-    ∙ sym (fields_at (8 * k) j hs m ∙ ap (bits (8 * k)) (get_d_map (λ (y : ℕ). y / 2 ^ (64 - 8 * k)) ws j l)))
-    ∙ fields-more (8 * k) j 1 hs ∙ ap (λ (m : ℕ). fields (8 * k) (take m hs)) (sym f) in
-    subst₂ (λ (m : ℕ) (z : List Bool). Laid a c from m end z) n bs (laid_then q inside d (laid_word k x h room e))
-
--- the next four words, stored k bytes apart
-pub words-four : (k j : ℕ) (ws four : List ℕ) {a b c d e f : List ℕ} {from at end : ℕ} → k ≤ 8 → j + 4 ≤ length ws → four ≡ take 4 (drop j ws) → at ≡ from + j * k
-    → at + 3 * k + 8 ≤ end → at + 3 * k ≤ length b → length c ≡ length b → length d ≡ length b → length e ≡ length b
-    → Laid a b from (j * k) end (fields (8 * k) (take j (high_bits (8 * k) ws)))
-    → Stored b c at 8 (bits 64 (get_or four 0 0)) → Stored c d (at + k) 8 (bits 64 (get_or four 1 0))
-    → Stored d e (at + 2 * k) 8 (bits 64 (get_or four 2 0)) → Stored e f (at + 3 * k) 8 (bits 64 (get_or four 3 0))
-    → Laid a f from ((j + 4) * k) end (fields (8 * k) (take (j + 4) (high_bits (8 * k) ws)))
-words-four k j ws four h l cut q inside room m n o laid s t u v =
-    let word : (i : ℕ) → i < 4 → get_or four i 0 ≡ get_or ws (j + i) 0
-    = λ i less. ap (λ (z : List ℕ). get_or z i 0) cut ∙ get_or-take 4 (drop j ws) i 0 less ∙ get_or-drop j ws i 0 in
-    words-next k (j + 3) (j + 4) ws (omega arith) h (omega arith) (word 3 (omega arith)) (omega (arith, add-mul j 3 k)) (omega arith) (omega arith)
-    (words-next k (j + 2) (j + 3) ws (omega arith) h (omega arith) (word 2 (omega arith)) (omega (arith, add-mul j 2 k)) (omega arith) (omega arith)
-    (words-next k (j + 1) (j + 2) ws (omega arith) h (omega arith) (word 1 (omega arith)) (omega (arith, add-mul j 1 k)) (omega arith) (omega arith)
-    (words-next k j (j + 1) ws (omega arith) h (omega arith) (word 0 (omega arith) ∙ ap (λ (i : ℕ). get_or ws i 0) (add-zero j)) q (omega arith) (omega arith) laid s) t) u) v
+    let bs : fields (8 * k) (take j hs) ++ bits (8 * k) (get_or ws j 0 / 2 ^ (64 - 8 * k)) ≡ fields (8 * k) (take (j + 1) hs)
+    = ap (λ (z : List Bool). fields (8 * k) (take j hs) ++ z) (sym (fields_at (8 * k) j hs m ∙ ap (bits (8 * k)) (get_d_map (λ (x : ℕ). x / 2 ^ (64 - 8 * k)) ws j l)))
+    ∙ fields-more (8 * k) j 1 hs in
+    subst₂ (λ (m : ℕ) (z : List Bool). Laid a c from m end z) n bs (laid_then q inside d (laid_word k (get_or ws j 0) h room e))
 
 -- all of them
 pub words-all : (k j n : ℕ) (ws : List ℕ) {a b : List ℕ} {from end : ℕ} → 8 * k ≡ n → j ≡ length ws

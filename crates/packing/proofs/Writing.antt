@@ -7,7 +7,7 @@ use Prim.Native.Nat.{ℕ, suc, ◌+◌, ◌-◌, ◌*◌, ◌/◌, ◌%◌, ◌^
 use native.Mathlib.Nat.{add-zero, mod-lt, add-mul, zero-mul, one-mul}
 use native.Mathlib.Omega.{arith}
 use lib.ListN.{length, get_or, take, drop, set, length-drop, take-append-drop}
-use lib.Seq.{length-take-le, take-suc-set, drop-drop, drop-set-lt}
+use lib.Seq.{length-take-le, take-suc-set, take-append-add, take_at, drop-append-add, drop_at, drop-drop, drop-set-lt}
 use lib.Pow.{pow_pos, shr-shr}
 use lib.Bits.{bit_or, bit_and, and_mask}
 use Rattle.bits.specs.Bits.{bits, number, fields}
@@ -62,23 +62,49 @@ stored_more v x k {a} {b} {at} {n} {bs} q l f d =
     s : at + (n + 1) ≡ at + n + 1
     s = omega arith
 
--- more of them behind those
-pub stored-then : {a b c : List ℕ} {at n m : ℕ} {bs cs : List Bool} → Stored a b at n bs → Stored b c (at + n) m cs → Stored a c at (n + m) (bs ++ cs)
-stored-then {a} {b} {c} {at} {n} {m} {bs} {cs} d e =
-    let s : at + (n + m) ≡ at + n + m = omega arith in
-    record {
-      said = ap (λ (k : ℕ). fields 8 (take k c)) s ∙ e.said ∙ ap (λ (z : List Bool). z ++ cs) d.said ∙ append_assoc (fields 8 (take at a)) bs cs;
-      rest =
-          ap (λ (k : ℕ). drop k c) s ∙ e.rest ∙ sym (drop-drop m (at + n) b) ∙ ap (drop m) d.rest ∙ drop-drop m (at + n) a
-          ∙ ap (λ (k : ℕ). drop k a) (sym s);
-    }
-
-pub bits-four-bytes : (y : ℕ) → bits 8 (y / 2 ^ 24) ++ bits 8 (y / 2 ^ 16) ++ bits 8 (y / 2 ^ 8) ++ bits 8 y ≡ bits 32 y
+bits-four-bytes : (y : ℕ) → bits 8 (y / 2 ^ 24) ++ bits 8 (y / 2 ^ 16) ++ bits 8 (y / 2 ^ 8) ++ bits 8 y ≡ bits 32 y
 bits-four-bytes y =
     sym (bits-add 24 8 y
     ∙ ap (λ (z : List Bool). z ++ bits 8 y) (bits-add 16 8 (y / 2 ^ 8)
     ∙ ap (λ (z : List Bool). z ++ bits 8 (y / 2 ^ 8)) (ap (bits 16) (shr-shr y 8 8) ∙ bits-add 8 8 (y / 2 ^ 16)
     ∙ ap (λ (z : ℕ). bits 8 z ++ bits 8 (y / 2 ^ 16)) (shr-shr y 16 8))))
+
+-- the four bytes of a word, as `to_be_bytes` gives them
+pub fields-word : (y : ℕ) → fields 8 (y / 2 ^ 24 % 256 ∷ y / 2 ^ 16 % 256 ∷ y / 2 ^ 8 % 256 ∷ y % 256 ∷ []) ≡ bits 32 y
+unfolding fields
+fields-word y =
+    simp append-nil (simp append_assoc at (ap₂ (λ (i j : List Bool). i ++ j)
+    (ap₂ (λ (i j : List Bool). i ++ j) (ap₂ (λ (i j : List Bool). i ++ j) (bits-mod-self 8 (y / 2 ^ 24)) (bits-mod-self 8 (y / 2 ^ 16))) (bits-mod-self 8 (y / 2 ^ 8)))
+    (bits-mod-self 8 y) ∙ bits-four-bytes y))
+
+pub fields-long : (x : ℕ) → fields 8 (x / 2 ^ 56 % 256 ∷ x / 2 ^ 48 % 256 ∷ x / 2 ^ 40 % 256 ∷ x / 2 ^ 32 % 256
+    ∷ x / 2 ^ 24 % 256 ∷ x / 2 ^ 16 % 256 ∷ x / 2 ^ 8 % 256 ∷ x % 256 ∷ []) ≡ bits 64 x
+fields-long x =
+    let low : List ℕ = x / 2 ^ 24 % 256 ∷ x / 2 ^ 16 % 256 ∷ x / 2 ^ 8 % 256 ∷ x % 256 ∷ [] in
+    let a : x / 2 ^ 32 / 2 ^ 24 ≡ x / 2 ^ 56 = shr-shr x 32 24 in
+    let b : x / 2 ^ 32 / 2 ^ 16 ≡ x / 2 ^ 48 = shr-shr x 32 16 in
+    let c : x / 2 ^ 32 / 2 ^ 8 ≡ x / 2 ^ 40 = shr-shr x 32 8 in
+    let high : fields 8 (x / 2 ^ 56 % 256 ∷ x / 2 ^ 48 % 256 ∷ x / 2 ^ 40 % 256 ∷ x / 2 ^ 32 % 256 ∷ []) ≡ bits 32 (x / 2 ^ 32)
+    = rw (← a, ← b, ← c) (fields-word (x / 2 ^ 32)) in
+    fields-append 8 (x / 2 ^ 56 % 256 ∷ x / 2 ^ 48 % 256 ∷ x / 2 ^ 40 % 256 ∷ x / 2 ^ 32 % 256 ∷ []) low
+    ∙ ap₂ (λ (y z : List Bool). y ++ z) high (fields-word x) ∙ sym (bits-add 32 32 x)
+
+-- n bytes copied into `&mut out[at..at + n]`
+pub stored-bytes : (out : List ℕ) (at k n : ℕ) (ys : List ℕ) {bs : List Bool} → at + n ≤ length out → length ys ≡ n → k ≡ n → fields 8 ys ≡ bs
+    → Stored out (take at out ++ (ys ++ drop k (drop at out))) at n bs
+stored-bytes out at k n ys {bs} room long same said =
+    let front : length (take at out) ≡ at = length-take-le at out (omega arith) in
+    let stop : at + n ≡ length (take at out) + n = omega arith in
+    let rest : List ℕ = ys ++ drop k (drop at out) in
+    record {
+      said =
+          ap (λ (j : ℕ). fields 8 (take j (take at out ++ rest))) stop ∙ ap (fields 8) (take-append-add (take at out) rest n)
+          ∙ ap (λ (z : List ℕ). fields 8 (take at out ++ z)) (take_at ys (drop k (drop at out)) n long)
+          ∙ fields-append 8 (take at out) ys ∙ ap (λ (z : List Bool). fields 8 (take at out) ++ z) said;
+      rest =
+          ap (λ (j : ℕ). drop j (take at out ++ rest)) stop ∙ drop-append-add (take at out) rest n ∙ drop_at ys (drop k (drop at out)) n long
+          ∙ ap (λ (j : ℕ). drop j (drop at out)) same ∙ drop-drop n at out;
+    }
 
 -- stored bytes that are m of the waiting bits
 pub stored-written_bits : (m h acc : ℕ) {a b : List ℕ} {at n : ℕ} → Stored a b at n (bits m (acc / 2 ^ h)) → written_bits b (at + n) h acc ≡ written_bits a at (m + h) acc

@@ -15,7 +15,7 @@ use Rattle.bits.specs.Bits.{bits, number, fields, split, over_at}
 use Rattle.unpacking.specs.Reading.{ahead, from, Pulled, Filled, Loaded}
 use Rattle.unpacking.specs.declared.reader.Reader.{Reader}
 use Rattle.unpacking.specs.declared.reader.Taken.{Taken}
-use Rattle.bits.proofs.Laws.{length-bits, bits-add, bits-mod-self, bits-push, below-nil, below-append, take-over_at}
+use Rattle.bits.proofs.Laws.{length-bits, bits-add, bits-mod-self, bits-append, bits-push, below-nil, below-append, take-over_at}
 use Rattle.bits.proofs.Laws.{fields-append, fields-one, length_fields, drop-fields, length-split, split-lt, split-fields, fields_split}
 
 -- ---- bytes taken in
@@ -37,6 +37,21 @@ loaded-more m {src} {at} {n} {k} {x} {y} f d e =
           ap₂ (λ (i j : ℕ). bits i (bit_or ((x * 2 ^ (8 * k)) % 2 ^ (m + 8 * n + 8 * k)) y) ++ fields 8 (drop j src)) w s
           ∙ ap (λ (z : List Bool). z ++ rest) (bits-push m (8 * n) (8 * k) x y f) ∙ append_assoc (bits (8 * n) x) (bits (8 * k) y) rest
           ∙ ap (λ (z : List Bool). bits (8 * n) x ++ z) e.said ∙ d.said;
+    }
+
+-- a byte behind n bytes, as `from_be_bytes` counts it
+pub loaded-byte : {src : List ℕ} {at n x : ℕ} → at + n < length src → get_or src (at + n) 0 < 256 → Loaded src at n x
+    → Loaded src at (n + 1) (x * 256 + get_or src (at + n) 0)
+loaded-byte {src} {at} {n} {x} l f d =
+    let y : ℕ = get_or src (at + n) 0 in
+    let w : 8 * (n + 1) ≡ 8 * n + 8 = omega arith in
+    let s : at + (n + 1) ≡ at + n + 1 = omega arith in
+    record {
+      said =
+          ap₂ (λ (i j : ℕ). bits i (x * 256 + y) ++ fields 8 (drop j src)) w s
+          ∙ ap (λ (z : List Bool). z ++ fields 8 (drop (at + n + 1) src)) (bits-append (8 * n) 8 x y f)
+          ∙ append_assoc (bits (8 * n) x) (bits 8 y) (fields 8 (drop (at + n + 1) src))
+          ∙ ap (λ (z : List Bool). bits (8 * n) x ++ z) (loaded-one src (at + n) l).said ∙ d.said;
     }
 
 -- `x >> 8 (n - s)`: the first s bytes of n

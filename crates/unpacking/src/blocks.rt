@@ -32,19 +32,15 @@ pub fn take_blocks(src: &[u8], at: usize, width: u32, values: &mut [u16]) -> usi
 }
 
 // A word for each of the next groups of four values, from the byte `first` on: eight bytes from the group's start on. Those that it has too
-// many are the next group's. They are loaded by fours: a `for` over the words, one by one, takes a seventh longer.
+// many are the next group's.
 fn load_words(src: &[u8], first: usize, width: u32, words: &mut [u64; 32])
     requires { (width ≤ 16) × (width % 2 ≡ 0) × (first + 32 * (width / 2) + (8 - width / 2) ≤ length src.now) }
     ensures { Pulled src.now (from first) (from (first + 32 * (width / 2))) (4 * width) (high_bits (4 * width) words.new) }
 {
-    let step = (width / 2) as usize;
     let mut at = first;
-    for j in 0..8 {
-        words[4 * j] = load_long(src, at);
-        words[4 * j + 1] = load_long(src, at + step);
-        words[4 * j + 2] = load_long(src, at + 2 * step);
-        words[4 * j + 3] = load_long(src, at + 3 * step);
-        at += 4 * step;
+    for word in words.iter_mut() {
+        *word = load_long(src, at);
+        at += (width / 2) as usize;
     }
 }
 

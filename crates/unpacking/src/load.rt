@@ -7,9 +7,7 @@ pub fn load_word(src: &[u8], at: usize) -> u32
     requires { at + 4 ≤ length src.now }
     ensures { Loaded src.now at 4 result }
 {
-    let two = ((src[at] as u32) << 8) | (src[at + 1] as u32);
-    let three = (two << 8) | (src[at + 2] as u32);
-    (three << 8) | (src[at + 3] as u32)
+    u32::from_be_bytes([src[at], src[at + 1], src[at + 2], src[at + 3]])
 }
 
 // Eight bytes, as a number. The compiler makes one load of the two.

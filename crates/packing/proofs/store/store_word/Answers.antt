@@ -1,46 +1,18 @@
--- Four bytes stored one after the other say the 32 bits. Assumes nothing.
-use mathlib.Core.Path.{refl, sym}
-use Prim.Native.Nat.{ℕ, ◌+◌, ◌/◌, ◌^◌}
-use native.Mathlib.Nat.{add-zero}
+-- The four bytes of a word say its 32 bits. Assumes nothing.
+use mathlib.Core.Path.{ap, ◌∙◌}
+use Prim.Native.Nat.{◌+◌, ◌-◌}
 use native.Mathlib.Omega.{arith}
-use lib.ListN.{length-set}
+use lib.ListN.{length}
 use lib.Bits.{bit_and, mask_lt}
+use Rattle.bits.specs.Bits.{fields}
 use Rattle.packing.proofs.Writing as writing
 use Rattle.packing.proofs.store.store_word.Goals as goal
 
--- the `u32` of which the bytes are taken
-abbrev low : ℕ → ℕ
-low x = bit_and x 0xffff_ffff
-
-pub overflow_cast-y : goal.overflow_cast-y
-overflow_cast-y c = record { fits = mask_lt c.args.x 32 }
-
-pub overflow_cast-out : goal.overflow_cast-out
-overflow_cast-out c = record { fits = mask_lt (low c.args.x / 2 ^ 24) 8 }
-
-pub overflow_cast-out-2 : goal.overflow_cast-out-2
-overflow_cast-out-2 c = record { fits = mask_lt (low c.args.x / 2 ^ 16) 8 }
-
-pub bounds-out-at-2 : goal.bounds-out-at-2
-bounds-out-at-2 c = simp length-set (omega arith)
-
-pub overflow_cast-out-3 : goal.overflow_cast-out-3
-overflow_cast-out-3 c = record { fits = mask_lt (low c.args.x / 2 ^ 8) 8 }
-
-pub bounds-out-at-3 : goal.bounds-out-at-3
-bounds-out-at-3 c = simp length-set (omega arith)
-
-pub overflow_cast-out-4 : goal.overflow_cast-out-4
-overflow_cast-out-4 c = record { fits = mask_lt (low c.args.x) 8 }
-
-pub bounds-out-at-4 : goal.bounds-out-at-4
-bounds-out-at-4 c = simp length-set (omega arith)
+pub overflow_cast-low : goal.overflow_cast-low
+overflow_cast-low c = record { fits = mask_lt c.args.x 32 }
 
 pub returns : goal.returns
-returns c = let y = low c.args.x in
-    let at = c.args.at in
-    rw (← writing.bits-word c.args.x, ← writing.bits-four-bytes y)
-    (writing.stored_more _ y (at + 3) refl (simp length-set (omega arith)) (writing.bits-byte y)
-    (writing.stored_more _ (y / 2 ^ 8) (at + 2) refl (simp length-set (omega arith)) (writing.bits-byte (y / 2 ^ 8))
-    (writing.stored_more _ (y / 2 ^ 16) (at + 1) refl (simp length-set (omega arith)) (writing.bits-byte (y / 2 ^ 16))
-    (writing.stored_more _ (y / 2 ^ 24) at (sym (add-zero at)) (omega arith) (writing.bits-byte (y / 2 ^ 24)) (writing.stored-none c.args.out.now at)))))
+returns c = let a = c.args in
+    let bytes_are = c.copy_from_slice.ensures.after ∙ c.to_be_bytes.ensures in
+    writing.stored-bytes a.out.now a.at (a.at + 4 - a.at) 4 _ (omega arith) (ap length bytes_are) (omega arith)
+    (ap (fields 8) bytes_are ∙ writing.fields-word (bit_and a.x 0xffff_ffff) ∙ writing.bits-word a.x)

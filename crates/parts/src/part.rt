@@ -1,4 +1,5 @@
-// Each part carries its own constants. A number that is no part's is read as the last row's; `is_known` tells them apart.
+// Each part carries its own constants, as a rule of the project wants it: a trait for them would only name each once more, for its clauses. A
+// number that is no part's is read as the last row's; `is_known` tells them apart.
 ghost use Rattle.std.specs.Prelude.{◌≡◌};
 ghost use Rattle.parts.specs.Parts.{known, part_of, row_index, outputs, limit, subframes, frame_clocks, constants_of};
 

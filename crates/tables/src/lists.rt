@@ -1,4 +1,5 @@
-// Tests of whole lists. No early end, so that the loops are vectorised.
+// Tests of whole lists. No early end, so that the loops are vectorised. Values and bytes have a function each: one for both is no plainer, since
+// it needs a trait by which both are numbers, with its law, which is longer than the loop.
 ghost use Rattle.std.specs.Prelude.{◌≡◌};
 ghost use Rattle.tables.specs.Lists.{all_below, or_all};
 

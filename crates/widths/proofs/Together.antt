@@ -13,9 +13,9 @@ use Rattle.tables.proofs.Tests.{or_all-below}
 use Rattle.widths.specs.Widths.{values_below}
 use Rattle.registers.specs.declared.registers.Registers.{Registers}
 
--- a list from a place on
-pub take_rest : (k : ℕ) (l : List ℕ) → take (length l - k) (drop k l) ≡ drop k l
-take_rest k l = ap (λ (i : ℕ). take i (drop k l)) (sym (length-drop k l)) ∙ take-length (drop k l)
+-- an array from a place on
+pub take_rest : (n k : ℕ) (l : List ℕ) → length l ≡ n → take (n - k) (drop k l) ≡ drop k l
+take_rest n k l e = ap (λ (i : ℕ). take i (drop k l)) (ap (λ (i : ℕ). i - k) (sym e) ∙ sym (length-drop k l)) ∙ take-length (drop k l)
 
 -- the bits of all values
 abbrev pub all_bits : Registers → ℕ → ℕ

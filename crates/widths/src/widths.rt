@@ -31,7 +31,8 @@ fn is_unused_zero(registers: Registers) -> bool
     ensures { result ≡ unused_zero registers }
 {
     let banks = parts::constants_of(registers.part).banks as usize;
-    bits_from(registers, 8 * banks) < 1 && tables::bytes_below(&registers.calibration[banks..], 1)
+    let calibration = registers.calibration;
+    bits_from(registers, 8 * banks) < 1 && tables::bytes_below(&calibration[banks..], 1)
 }
 
 // The bits of all values past the first ones, and of those of the slice that is coming in past twice as many.
@@ -42,9 +43,14 @@ fn bits_from(registers: Registers, first: usize) -> u16
         (or_all (drop first registers.active1)
         (or_all (drop first registers.active0) (or_all (drop first registers.waiting1) (or_all (drop first registers.waiting0) 0)))) }
 {
-    let bits = tables::or_all(&registers.waiting0[first..], 0);
-    let bits = tables::or_all(&registers.waiting1[first..], bits);
-    let bits = tables::or_all(&registers.active0[first..], bits);
-    let bits = tables::or_all(&registers.active1[first..], bits);
-    tables::or_all(&registers.slice[2 * first..], bits)
+    let waiting0 = registers.waiting0;
+    let waiting1 = registers.waiting1;
+    let active0 = registers.active0;
+    let active1 = registers.active1;
+    let slice = registers.slice;
+    let bits = tables::or_all(&waiting0[first..], 0);
+    let bits = tables::or_all(&waiting1[first..], bits);
+    let bits = tables::or_all(&active0[first..], bits);
+    let bits = tables::or_all(&active1[first..], bits);
+    tables::or_all(&slice[2 * first..], bits)
 }

@@ -13,15 +13,23 @@ use parts::Command;
 use registers::Registers;
 
 // Values of the slice, from a first one on, each a stride after the last, over the first values that a device holds. The loop goes over all
-// places, so that it is vectorised.
-fn store_every(held: &mut [u16; 24], slice: &[u16; 48], first: usize, stride: usize, outputs: usize)
+// places by their index, since the two arrays are out of step, and so that it is vectorised.
+fn over_first(
+    slice: [u16; 48],
+    first: usize,
+    stride: usize,
+    outputs: usize,
+    held: [u16; 24],
+) -> [u16; 24]
     requires { (first + stride * 23 < 48) × (outputs ≤ 24) }
-    ensures { held.new ≡ over (strided slice.now first stride outputs) held.old }
+    ensures { result ≡ over (strided slice first stride outputs) held }
 {
-    for (i, value) in held.iter_mut().enumerate() {
+    let mut values = held;
+    for i in 0..24 {
         let at = first + stride * i;
-        *value = if i < outputs { slice[at] } else { *value };
+        values[i] = if i < outputs { slice[at] } else { values[i] };
     }
+    values
 }
 
 // The low bytes of the first fields of the slice, over the first bytes that a device holds.
@@ -60,11 +68,15 @@ fn store_values(registers: &mut Registers)
     ensures { registers.new ≡ stored_values registers.old }
 {
     let outputs = parts::outputs_of(registers.part);
+    let slice = registers.slice;
     if registers.configuration % 2 == 0 {
-        store_every(&mut registers.waiting0, &registers.slice, 0, 1, outputs);
+        let values = over_first(slice, 0, 1, outputs, registers.waiting0);
+        registers.waiting0 = values;
     } else {
-        store_every(&mut registers.waiting0, &registers.slice, 0, 2, outputs);
-        store_every(&mut registers.waiting1, &registers.slice, 1, 2, outputs);
+        let even = over_first(slice, 0, 2, outputs, registers.waiting0);
+        let odd = over_first(slice, 1, 2, outputs, registers.waiting1);
+        registers.waiting0 = even;
+        registers.waiting1 = odd;
     }
 }
 

@@ -43,6 +43,7 @@ fn bits_from(registers: Registers, first: usize) -> u16
         (or_all (drop first registers.active1)
         (or_all (drop first registers.active0) (or_all (drop first registers.waiting1) (or_all (drop first registers.waiting0) 0)))) }
 {
+    // Copies of their own: with each list read where it stands in the record, a judgement takes a quarter longer.
     let waiting0 = registers.waiting0;
     let waiting1 = registers.waiting1;
     let active0 = registers.active0;

@@ -17,8 +17,8 @@ pub fn run(rt: &impl Print) -> io::Result<()> {
 fn sent_cases(rt: &impl Print) -> io::Result<()> {
     let device = still_for(0x02, 10, 0, 0, 0);
     let states = b"\x00\x01\x00\x01\x00";
-    first_case(rt, b"5f limit 10", device, device, states, kept(0, 5, 0, 0))?;
-    second_case(rt, b"5f limit 10", device, device, states, kept(5, 5, 0, 0))
+    first_case(rt, "5f limit 10", device, device, states, kept(0, 5, 0, 0))?;
+    second_case(rt, "5f limit 10", device, device, states, kept(5, 5, 0, 0))
 }
 
 // Levels follow the lines also while the bit is clear.
@@ -27,7 +27,7 @@ fn level_cases(rt: &impl Print) -> io::Result<()> {
     let states = b"\x01\x03\x03";
     first_case(
         rt,
-        b"5g limit 10, bit clear",
+        "5g limit 10, bit clear",
         device,
         device,
         states,
@@ -36,7 +36,7 @@ fn level_cases(rt: &impl Print) -> io::Result<()> {
     let set = configured(first_after(device, device, states), 0x02);
     first_case(
         rt,
-        b"5g limit 10, then bit set",
+        "5g limit 10, then bit set",
         set,
         device,
         b"\x03",
@@ -49,7 +49,7 @@ fn limit_cases(rt: &impl Print) -> io::Result<()> {
     let device = still_for(0x02, 3, 0, 0, 0);
     first_case(
         rt,
-        b"5h limit 3",
+        "5h limit 3",
         device,
         device,
         b"\x00\x00",
@@ -58,7 +58,7 @@ fn limit_cases(rt: &impl Print) -> io::Result<()> {
     let states = b"\x00\x00\x00";
     first_case(
         rt,
-        b"5h limit 3",
+        "5h limit 3",
         device,
         device,
         states,
@@ -67,7 +67,7 @@ fn limit_cases(rt: &impl Print) -> io::Result<()> {
     let again = with_values(first_after(device, device, states));
     first_case(
         rt,
-        b"5h limit 3, then values again",
+        "5h limit 3, then values again",
         again,
         device,
         b"\x00",
@@ -80,7 +80,7 @@ fn load_cases(rt: &impl Print) -> io::Result<()> {
     let device = still_for(0x02, 4, 0, 0, 0);
     first_case(
         rt,
-        b"5i limit 4",
+        "5i limit 4",
         device,
         device,
         b"\x01\x00\x01",
@@ -88,7 +88,7 @@ fn load_cases(rt: &impl Print) -> io::Result<()> {
     )?;
     first_case(
         rt,
-        b"5i limit 4",
+        "5i limit 4",
         device,
         device,
         b"\x01\x00\x01\x00",
@@ -101,7 +101,7 @@ fn single_case(rt: &impl Print) -> io::Result<()> {
     let device = still_for(0x02, 1, 0, 0, 0);
     first_case(
         rt,
-        b"5j limit 1, D0 is 0",
+        "5j limit 1, D0 is 0",
         device,
         device,
         b"\x00",
@@ -114,7 +114,7 @@ fn largest_case(rt: &impl Print) -> io::Result<()> {
     let device = still_for(0x02, 2000000, 2000000, 0, 0);
     first_case(
         rt,
-        b"5k limit 2000000, counts 2000000",
+        "5k limit 2000000, counts 2000000",
         device,
         device,
         b"\x00",

@@ -1,8 +1,9 @@
 // A store, a boundary or a burst in one clock. The watchdog looks at its end, by what is then held. The bit is clear in the devices that are
 // sent nothing.
 use crate::chains::{first_case, second_case};
-use crate::devices::{CALIBRATION, CONFIGURATION, at, still_for, storing, storing_values};
+use crate::devices::{at, still_for, storing, storing_values};
 use crate::seen::{cleared, kept};
+use parts::Command;
 use std::io;
 
 pub fn run(rt: &impl Print) -> io::Result<()> {
@@ -17,16 +18,16 @@ fn enabling_cases(rt: &impl Print) -> io::Result<()> {
     let other = still_for(0x00, 1, 0, 0, 0);
     first_case(
         rt,
-        b"5a limit 1, configuration 03 stored",
-        storing(still_for(0x00, 1, 0, 1, 1), CONFIGURATION, 0x03),
+        "5a limit 1, configuration 03 stored",
+        storing(still_for(0x00, 1, 0, 1, 1), Command::Configuration, 0x03),
         other,
         b"\x03",
         cleared(1, 1, 1, 1),
     )?;
     first_case(
         rt,
-        b"5b limit 10, counts 9, configuration 00 stored",
-        storing(still_for(0x02, 10, 9, 0, 1), CONFIGURATION, 0x00),
+        "5b limit 10, counts 9, configuration 00 stored",
+        storing(still_for(0x02, 10, 9, 0, 1), Command::Configuration, 0x00),
         other,
         b"\x02",
         kept(0, 0, 0, 1),
@@ -38,7 +39,7 @@ fn boundary_cases(rt: &impl Print) -> io::Result<()> {
     let other = still_for(0x00, 10, 0, 0, 0);
     first_case(
         rt,
-        b"5c limit 10, counts 9, from 524287",
+        "5c limit 10, counts 9, from 524287",
         at(still_for(0x02, 10, 9, 0, 0), 524287),
         other,
         b"\x00",
@@ -49,7 +50,7 @@ fn boundary_cases(rt: &impl Print) -> io::Result<()> {
     shown.active1 = 2;
     first_case(
         rt,
-        b"-  limit 10, counts 8, from 524287",
+        "-  limit 10, counts 8, from 524287",
         at(still_for(0x02, 10, 8, 0, 0), 524287),
         other,
         b"\x00",
@@ -62,7 +63,7 @@ fn value_cases(rt: &impl Print) -> io::Result<()> {
     let other = still_for(0x00, 10, 0, 0, 0);
     first_case(
         rt,
-        b"5d limit 10, counts 9, value 5 stored",
+        "5d limit 10, counts 9, value 5 stored",
         storing_values(still_for(0x02, 10, 9, 0, 1)),
         other,
         b"\x02",
@@ -72,7 +73,7 @@ fn value_cases(rt: &impl Print) -> io::Result<()> {
     stored.waiting0 = 5;
     first_case(
         rt,
-        b"-  limit 10, counts 8, value 5 stored",
+        "-  limit 10, counts 8, value 5 stored",
         storing_values(still_for(0x02, 10, 8, 0, 1)),
         other,
         b"\x02",
@@ -84,8 +85,8 @@ fn value_cases(rt: &impl Print) -> io::Result<()> {
 fn burst_case(rt: &impl Print) -> io::Result<()> {
     second_case(
         rt,
-        b"5e limit 1000, counts 500, a header sent on",
-        storing(still_for(0x00, 1000, 0, 0, 1), CALIBRATION, 0xA8),
+        "5e limit 1000, counts 500, a header sent on",
+        storing(still_for(0x00, 1000, 0, 0, 1), Command::Calibration, 0xA8),
         still_for(0x02, 1000, 500, 0, 1),
         b"\x02",
         kept(0, 0, 0, 1),

@@ -1,3 +1,2 @@
 -- The cases that a match leaves.
 pub mod Cases
-pub mod Answered

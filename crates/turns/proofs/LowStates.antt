@@ -1,14 +1,11 @@
 -- Low states in blocks. A window keeps the last nine bits, so that after nine low states it is made of these alone: pushed one after the other,
 -- they are the low nine digits of a number whose other digits are the window before, and these are lost modulo 512. So states that are all low,
 -- nine of them or more, are heard as the last nine of them are, from any window. By induction on the states before those nine. Assumes nothing.
-use mathlib.Core.Path.{◌≡◌, refl, ap, sym, ◌∙◌}
-use mathlib.Core.Bool.{Bool, true, false}
+use mathlib.Core.Path.{◌≡◌, ap, sym, ◌∙◌}
 use mathlib.Core.List.{List}
 use Prim.Native.Nat.{ℕ, zero, suc, ◌+◌, ◌*◌, ◌%◌, ◌<◌, ◌≤◌}
 use native.Mathlib.Omega.{arith}
-use lib.Dec.{ltb}
 use lib.ListN.{length, get_or, drop}
-use borrow.Author.Tests.{ltb-true, ltb-false}
 use Rattle.phases.specs.Phases.{pushed}
 use Rattle.intake.proofs.Slices.{pushed-mod}
 use Rattle.turns.specs.Front.{hear_all}
@@ -19,14 +16,6 @@ abbrev pub Lows : List ℕ → ℕ → ℕ → Type 0
 Lows ss i e = (k : ℕ) → i ≤ k → k < e → (k < length ss) × (get_or ss k 0 < 2)
 
 module _ (ss : List ℕ) where
-  -- one run behind another
-  pub lows-join : (i m e : ℕ) → Lows ss i m → Lows ss m e → Lows ss i e
-  lows-join i m e f g k a b = go (ltb k m) refl
-    where
-      go : (t : Bool) → ltb k m ≡ t → (k < length ss) × (get_or ss k 0 < 2)
-      go true q = f k a (ltb-true k m q)
-      go false q = g k (ltb-false k m q) b
-
   -- the same place, by another name
   pub lows-same : (i d e : ℕ) → d ≡ e → Lows ss i d → Lows ss i e
   lows-same i d e q f = rw (sym q) f

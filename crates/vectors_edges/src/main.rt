@@ -3,8 +3,7 @@
 #![tactic(auto)]
 
 mod arrival_cases; // 2g: when two devices store, with each edge
-mod edges; // a frame on the wire, and the words for its edge
-mod fresh; // fresh devices
+mod edges; // a frame on the wire, and the name of its edge
 mod rise_cases; // 2a to 2f and 2h: where one device is after a rising edge
 mod sent_cases; // 2i: what is sent on, with each edge
 mod states_cases; // the states operation, and its refusals

@@ -1,17 +1,7 @@
 // The states operation: what each edge makes of a frame, and what is refused.
-ghost use Rattle.std.specs.Prelude.{◌<◌};
-
-use crate::edges::{edge_words, front, states_of};
-use cases::least;
-use serial::Converted;
-use std::io;
-
-// What the operation answers, 0 where it writes, and whether the lent list is as it came in.
-#[derive(Clone, Copy)]
-struct Outcome {
-    refusal: u8,
-    kept: bool,
-}
+use crate::edges::{edge_name, states_of};
+use cases::{Bytes, Outcome, case, front};
+use std::{fmt, io};
 
 pub fn run(rt: &impl Print) -> io::Result<()> {
     frame_cases(
@@ -34,31 +24,23 @@ pub fn run(rt: &impl Print) -> io::Result<()> {
 fn frame_cases(rt: &impl Print, frame: &[u8], should: &[u8], first: u8) -> io::Result<()> {
     let exact = states_of(frame, serial::EXACT);
     frame_case(rt, frame, serial::EXACT, should)?;
-    let early = with_state(exact, 7, 2);
+    let mut early = exact;
+    early[7] = 2;
     frame_case(rt, frame, serial::EARLY, front(&early, 32))?;
-    let late = with_state(exact, 8, first);
+    let mut late = exact;
+    late[8] = first;
     frame_case(rt, frame, serial::LATE, front(&late, 32))
-}
-
-fn with_state(states: [u8; 104], place: usize, state: u8) -> [u8; 104]
-    requires { place < 104 }
-{
-    let mut next = states;
-    next[place] = state;
-    next
 }
 
 fn frame_case(rt: &impl Print, frame: &[u8], edge: u8, should: &[u8]) -> io::Result<()> {
     let states = states_of(frame, edge);
-    let came = front(&states, 32);
-    cases::text(rt, b"-  frame")?;
-    cases::bytes(rt, frame)?;
-    edge_words(rt, edge)?;
-    cases::text(rt, b": should be")?;
-    cases::bytes(rt, should)?;
-    cases::text(rt, b", came out")?;
-    cases::bytes(rt, came)?;
-    cases::verdict(rt, came == should)
+    let (frame, edge) = (Bytes(frame), edge_name(edge));
+    case(
+        rt,
+        format_args!("-  frame{frame}, {edge} edge"),
+        Bytes(should),
+        Bytes(front(&states, 32)),
+    )
 }
 
 // The lowest number wins: that of the length, the room, the edge.
@@ -74,6 +56,20 @@ fn refusal_cases(rt: &impl Print) -> io::Result<()> {
     refusal_case(rt, 32, 255, 0, 5)
 }
 
+// What the operation answers, and whether the lent list is as it came in.
+#[derive(Clone, Copy, PartialEq)]
+struct Left {
+    outcome: Outcome,
+    kept: bool,
+}
+
+impl fmt::Display for Left {
+    fn fmt<W: fmt::Write>(&self, f: &mut fmt::Formatter<W>) -> fmt::Result {
+        let written = if self.kept { "nothing" } else { "states" };
+        write!(f, "{}, {written} written", self.outcome)
+    }
+}
+
 // The line of a case: a frame of 4 bytes that is told to have so many bits, and room for so many states, 32 at most.
 fn refusal_case(
     rt: &impl Print,
@@ -82,47 +78,18 @@ fn refusal_case(
     room: usize,
     refusal: u8,
 ) -> io::Result<()> {
-    let kept = refusal != 0;
-    let came = outcome_of(bits, edge, room);
-    cases::text(rt, b"-  4 bytes as")?;
-    cases::count(rt, bits as u64)?;
-    cases::text(rt, b" bits, edge")?;
-    cases::count(rt, edge as u64)?;
-    cases::text(rt, b", room")?;
-    cases::count(rt, room as u64)?;
-    cases::text(rt, b": should be")?;
-    words(rt, Outcome { refusal, kept })?;
-    cases::text(rt, b", came out")?;
-    words(rt, came)?;
-    cases::verdict(rt, came.refusal == refusal && came.kept == kept)
-}
-
-fn outcome_of(bits: usize, edge: u8, room: usize) -> Outcome {
-    let mut states = [9u8; 32];
-    let end = least(room, 32);
-    let answer = serial::frame_states(b"\xE8\x54\x00\xA9", bits, edge, &mut states[0..end]);
-    Outcome {
-        refusal: refusal_of(answer),
-        kept: is_unwritten(states),
-    }
-}
-
-fn is_unwritten(states: [u8; 32]) -> bool {
-    states == [9u8; 32]
-}
-
-fn refusal_of(answer: Converted) -> u8 {
-    match answer {
-        Converted::Written(_) => 0,
-        Converted::Refused(number) => number,
-    }
-}
-
-fn words(rt: &impl Print, outcome: Outcome) -> io::Result<()> {
-    cases::refusal(rt, outcome.refusal)?;
-    if outcome.kept {
-        cases::text(rt, b", nothing written")
-    } else {
-        cases::text(rt, b", states written")
-    }
+    let mut states = [9; 32];
+    let lent = &mut states[..room.min(32)];
+    let outcome = Outcome::from(serial::frame_states(b"\xE8\x54\x00\xA9", bits, edge, lent));
+    let kept = states == [9; 32];
+    let should = Left {
+        outcome: Outcome(refusal),
+        kept: refusal != 0,
+    };
+    case(
+        rt,
+        format_args!("-  4 bytes as {bits} bits, edge {edge}, room {room}"),
+        should,
+        Left { outcome, kept },
+    )
 }

@@ -12,11 +12,8 @@ pub fn step_all(device: Device, states: &[u8]) -> Stepped {
         sent: 0,
         refusal: 0,
     };
-    let mut i: usize = 0;
-    while i < states.len() {
-        let reached = stepped.device;
-        stepped = bb_step(reached, states[i]);
-        i += 1;
+    for state in states {
+        stepped = bb_step(stepped.device, *state);
     }
     stepped
 }

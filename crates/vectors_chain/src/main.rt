@@ -2,8 +2,6 @@
 // `ok`, or `WRONG` where the two differ.
 #![tactic(auto)]
 
-mod fresh; // fresh devices
-mod lists; // a list copied
 mod order_cases; // the order of unequal individual values
 mod record_cases; // chains whose records are refused
 mod return_cases; // g and q, and 1023 devices: run, packed and read

@@ -1,16 +1,13 @@
 // Returns: the states of a frame are run through chains, and what comes back is packed, compared and read.
 ghost use Rattle.std.specs.Prelude.{◌≤◌};
 
-use crate::fresh::fresh_chain;
-use crate::lists::copy;
-use cases::{frame_of, least, no_tail, tail_of};
+use cases::{Bytes, case, frame_of, front, line, no_tail, tail_of};
 use device::Device;
 use frames::{Tail, Told};
 use parts::Command;
-use return_reader::ReturnRead;
-use serial::Converted;
-use std::io;
-use three::{fault_three, run_three};
+use std::{fmt, io};
+use tables::Refusal;
+use three::{fault_three, fresh_chain, run_three};
 
 // The fault kind of an open LED.
 const OPEN_LED: u8 = 1;
@@ -19,19 +16,19 @@ const OPEN_LED: u8 = 1;
 pub fn run(rt: &impl Print) -> io::Result<()> {
     fault_case(
         rt,
-        b"g  6974, N = 3, two open LEDs, calibration, tail A5",
+        "g  6974, N = 3, two open LEDs, calibration, tail A5",
         6974,
         b"\xA9\x10\x01\xA9\x10\x01\xA9\x10\x01",
     )?;
     fault_case(
         rt,
-        b"q  6972, N = 3, two open LEDs, calibration, tail A5",
+        "q  6972, N = 3, two open LEDs, calibration, tail A5",
         6972,
         b"\xA9\x10\xA9\x10\xA9\x10",
     )?;
     fault_case(
         rt,
-        b"-  6973, N = 3, two open LEDs, calibration, tail A5",
+        "-  6973, N = 3, two open LEDs, calibration, tail A5",
         6973,
         b"\xA9\x10\xA9\x10\xA9\x10",
     )
@@ -41,81 +38,71 @@ pub fn run(rt: &impl Print) -> io::Result<()> {
 pub fn run_joined(rt: &impl Print) -> io::Result<()> {
     joined_case(
         rt,
-        b"-  6974, N = 1023 as 341 chains of 3, all with open LEDs, configuration",
+        "-  6974, N = 1023 as 341 chains of 3, all with open LEDs, configuration",
         6974,
         3072,
     )?;
     joined_case(
         rt,
-        b"-  6972, N = 1023 as 341 chains of 3, all with open LEDs, configuration",
+        "-  6972, N = 1023 as 341 chains of 3, all with open LEDs, configuration",
         6972,
         2049,
     )
 }
 
 // Three devices, calibrated. A call that is refused leaves zeros, and the return is another.
-fn fault_case(rt: &impl Print, name: &[u8], part: u16, bytes: &[u8]) -> io::Result<()> {
+fn fault_case(rt: &impl Print, name: &str, part: u16, bytes: &[u8]) -> io::Result<()> {
     let told = frame_of(part, 3, Command::Calibration, 0);
     let tail = tail_of(0xA5, 8);
-    let long = least(bytes.len(), 9) + 4;
-    let bits = long * 8;
-    let mut frame = [0u8; 13];
-    frame_writer::write(told, tail, 0, bytes, &[0u16; 1], &mut frame);
-    let mut states = [0u8; 104];
-    serial::frame_states(&frame[..long], bits, serial::EXACT, &mut states);
-    let mut returned = [0u8; 127];
-    let ran = run_three(open_leds(part, 1, 0, 1), &states[..bits], &mut returned);
-    let end = least(ran.returned, 127);
-    return_case(
-        rt,
-        name,
-        told,
-        tail,
-        &returned[..end],
-        b"\xE8\x54\x02\xA5",
-        2,
-    )
+    let long = bytes.len().min(9) + 4;
+    let mut frame = [0; 13];
+    let _ = frame_writer::write(told, tail, 0, bytes, &[0], &mut frame);
+    let mut states = [0; 104];
+    let _ = serial::frame_states(&frame[..long], long * 8, serial::EXACT, &mut states);
+    let mut returned = [0; 127];
+    let chain = open_leds(part, 1, 0, 1);
+    let (ran, _) = run_three(chain, &states[..long * 8], &mut returned);
+    let should = Return {
+        frame: b"\xE8\x54\x02\xA5",
+        count: 2,
+    };
+    return_case(rt, name, told, tail, front(&returned, ran.returned), should)
 }
 
 // A configuration frame of so many bytes for 1023 devices.
-fn joined_case(rt: &impl Print, name: &[u8], part: u16, long: usize) -> io::Result<()>
+fn joined_case(rt: &impl Print, name: &str, part: u16, long: usize) -> io::Result<()>
     requires { long ≤ 3072 }
 {
     let told = frame_of(part, 1023, Command::Configuration, 0);
-    let bits = long * 8;
-    let mut frame = [0u8; 3072];
-    frame_writer::write(told, no_tail(), 0, b"", &[0u16; 1], &mut frame);
-    let mut states = [0u8; 24576];
-    serial::frame_states(&frame[..long], bits, serial::EXACT, &mut states);
-    let end = least(join(part, &mut states, bits, 341), 24576);
-    return_case(
-        rt,
-        name,
-        told,
-        no_tail(),
-        &states[..end],
-        b"\xE8\xFF\xFF",
-        1023,
-    )
+    let mut frame = [0; 3072];
+    let _ = frame_writer::write(told, no_tail(), 0, b"", &[0], &mut frame);
+    let mut states = [0; 24576];
+    let _ = serial::frame_states(&frame[..long], long * 8, serial::EXACT, &mut states);
+    let left = join(part, &mut states, long * 8, 341);
+    let should = Return {
+        frame: b"\xE8\xFF\xFF",
+        count: 1023,
+    };
+    return_case(rt, name, told, no_tail(), front(&states, left), should)
 }
 
 // The first `count` states go through so many chains. The answer is how many states the last chain returns: they stand in front.
 fn join(part: u16, states: &mut [u8], count: usize, chains: usize) -> usize {
     let mut left = count;
-    let mut done: usize = 0;
-    while done < chains {
+    for _ in 0..chains {
         left = through_three(part, states, left);
-        done += 1;
     }
     left
 }
 
 // What one chain returns takes the place of what it was given.
 fn through_three(part: u16, states: &mut [u8], count: usize) -> usize {
-    let mut returned = [0u8; 24599];
-    let end = least(count, states.len());
-    let ran = run_three(open_leds(part, 1, 1, 1), &states[..end], &mut returned);
-    copy(&returned, ran.returned, states)
+    let mut returned = [0; 24599];
+    let chain = open_leds(part, 1, 1, 1);
+    let (ran, _) = run_three(chain, front(states, count), &mut returned);
+    let end = ran.returned.min(states.len()).min(24599);
+    states[..end].copy_from_slice(&returned[..end]);
+    end
 }
 
 // A fresh chain in which each device has an open LED, 1, or none, 0.
@@ -126,56 +113,44 @@ fn open_leds(part: u16, first: u8, second: u8, third: u8) -> [Device; 3] {
     fault_three(two, 3, OPEN_LED, third)
 }
 
-// The line of a case: what came back is `should`, and its count `count`.
-fn return_case(
-    rt: &impl Print,
-    name: &[u8],
-    told: Told,
-    tail: Tail,
-    states: &[u8],
-    should: &[u8],
+// What comes back from a chain, packed, and the count that it says.
+#[derive(Clone, Copy, PartialEq)]
+struct Return<'a> {
+    frame: &'a [u8],
     count: u16,
-) -> io::Result<()> {
-    cases::text(rt, name)?;
-    cases::text(rt, b": should be")?;
-    cases::bytes(rt, should)?;
-    cases::text(rt, b", count")?;
-    cases::count(rt, count as u64)?;
-    cases::text(rt, b", came out")?;
-    let mut back = [0u8; 8];
-    match serial::pack_states(states, &mut back) {
-        Converted::Refused(number) => {
-            cases::refusal(rt, number)?;
-            cases::verdict(rt, false)
-        }
-        Converted::Written(n) => {
-            let end = least(n, 8);
-            let frame = &back[..end];
-            cases::bytes(rt, frame)?;
-            let counted = is_counted(rt, told, tail, frame, count)?;
-            cases::verdict(rt, frame == should && counted)
-        }
+}
+
+impl fmt::Display for Return<'_> {
+    fn fmt<W: fmt::Write>(&self, f: &mut fmt::Formatter<W>) -> fmt::Result {
+        write!(f, "{}, count {}", Bytes(self.frame), self.count)
     }
 }
 
-// The return is read, and gives the count.
-fn is_counted(
+// The line of a case.
+fn return_case(
     rt: &impl Print,
+    name: &str,
     told: Told,
     tail: Tail,
-    frame: &[u8],
-    count: u16,
-) -> io::Result<bool> {
-    let command = told.command;
-    cases::text(rt, b", count")?;
-    match return_reader::read_return(told.part, told.devices, command, tail, frame) {
-        ReturnRead::Count(n) => {
-            cases::count(rt, n as u64)?;
-            Ok(n == count)
-        }
-        ReturnRead::Refused(number) => {
-            cases::refusal(rt, number)?;
-            Ok(false)
-        }
+    states: &[u8],
+    should: Return<'_>,
+) -> io::Result<()> {
+    let mut back = [0; 8];
+    match packed_and_read(told, tail, states, &mut back) {
+        Ok(came) => case(rt, name, should, came),
+        Err(refusal) => line(rt, name, should, format_args!(" {refusal}"), false),
     }
+}
+
+fn packed_and_read<'a>(
+    told: Told,
+    tail: Tail,
+    states: &[u8],
+    back: &'a mut [u8],
+) -> Result<Return<'a>, Refusal> {
+    let n = serial::pack_states(states, back)?;
+    let frame = front(back, n);
+    let (part, devices, command) = (told.part, told.devices, told.command);
+    let count = return_reader::read_return(part, devices, command, tail, frame)?;
+    Ok(Return { frame, count })
 }

@@ -9,7 +9,7 @@ use crate::judging::judge;
 use device::Device;
 use differences::Compared;
 use parts::Command;
-use sets::SetNumbers;
+use sets::{GivenSet, SetNumbers};
 
 // The first difference between a set and a lent chain, all 0 where they are the same, or the refusal's number. The set's part, number of
 // devices, configuration, calibration bytes, global byte and individual values.
@@ -26,15 +26,19 @@ pub extern "C" fn bb_compare(
 ) -> Compared
     ensures { result ≡ comparison (set_of part devices configuration calibration.now global individual.now) chain.now }
 {
-    let given = SetNumbers {
-        part,
-        devices,
-        configuration,
-        global,
+    let given = GivenSet {
+        numbers: SetNumbers {
+            part,
+            devices,
+            configuration,
+            global,
+        },
+        calibration,
+        individual,
     };
     let judged = judgement::judge(chain);
-    match judge(given, calibration.len(), individual, judged, chain.len()) {
-        Ok(()) => first_difference(given, calibration, individual, chain),
+    match judge(given, judged, chain.len()) {
+        Ok(()) => first_difference(given, chain),
         Err(refusal) => Compared {
             device: 0,
             place: 0,
@@ -45,32 +49,28 @@ pub extern "C" fn bb_compare(
 }
 
 // Device after device, each with its own bytes and values.
-fn first_difference(
-    given: SetNumbers,
-    calibration: &[u8],
-    individual: &[u16],
-    chain: &[Device],
-) -> Compared
-    requires { ListsLong given (length calibration.now) (length individual.now) (length chain.now) }
-    ensures { result ≡ difference 1 (owned (set_by given calibration.now individual.now)) chain.now }
+fn first_difference(given: GivenSet<'_>, chain: &[Device]) -> Compared
+    requires { ListsLong given.numbers (length given.calibration.now) (length given.individual.now) (length chain.now) }
+    ensures { result ≡ difference 1 (owned (set_by given.entry.numbers given.entry.calibration.now given.entry.individual.now)) chain.now }
 {
-    let banks = slices::slice_fields(Command::Calibration, given.part, 0) as usize;
+    let numbers = given.numbers;
+    let banks = slices::slice_fields(Command::Calibration, numbers.part, 0) as usize;
     let fields = slices::slice_fields(
         Command::Individual,
-        given.part,
-        given.configuration,
+        numbers.part,
+        numbers.configuration,
     ) as usize;
-    let mut bytes = calibration;
-    let mut values = individual;
+    let mut bytes = given.calibration;
+    let mut values = given.individual;
     for (place, device) in chain.iter().enumerate() {
         let (own_bytes, bytes_after) = bytes.split_at(banks);
         let (own_values, values_after) = values.split_at(fields);
         let answer = differences::device_differs(
             *device,
             place + 1,
-            given.configuration,
+            numbers.configuration,
             own_bytes,
-            given.global,
+            numbers.global,
             own_values,
         );
         if answer.group != 0 {

@@ -1,32 +1,29 @@
 // When a comparison is refused.
-ghost use Rattle.std.specs.Prelude.{◌≡◌};
+ghost use Rattle.std.specs.Prelude.{◌≡◌, length};
 ghost use Rattle.tables.specs.Refusals.{first, carried};
 ghost use Rattle.compare.specs.Judging.{chain_fits, rows_by};
 
 use judgement::Judged;
-use sets::SetNumbers;
+use sets::{GivenSet, SetNumbers};
 use tables::Refusal;
 
 // By the set and by what was found in the records.
-pub fn judge(
-    given: SetNumbers,
-    bytes: usize,
-    individual: &[u16],
-    judged: Judged,
-    count: usize,
-) -> Result<(), Refusal>
-    ensures { carried result ≡ first (rows_by given bytes individual.now judged count) }
+pub fn judge(given: GivenSet<'_>, judged: Judged, count: usize) -> Result<(), Refusal>
+    ensures { carried result ≡ first (rows_by given.entry.numbers (length given.entry.calibration.now) given.entry.individual.now judged count) }
 {
-    if !(parts::is_known(given.part) && judged.known) {
+    let numbers = given.numbers;
+    if !(parts::is_known(numbers.part) && judged.known) {
         return Err(Refusal::UnknownPart);
     }
-    if !(parts::is_count(given.devices) && parts::is_count(count)) {
+    if !(parts::is_count(numbers.devices) && parts::is_count(count)) {
         return Err(Refusal::WrongDeviceCount);
     }
-    if !(sets::lists_fit(given, bytes, individual.len()) && chain_fits(given, judged, count)) {
+    if !(sets::lists_fit(numbers, given.calibration.len(), given.individual.len())
+        && chain_fits(numbers, judged, count))
+    {
         return Err(Refusal::WrongLength);
     }
-    if !sets::settings_fit(given, individual) {
+    if !sets::settings_fit(numbers, given.individual) {
         return Err(Refusal::HighValue);
     }
     if !judged.fits {

@@ -5,4 +5,4 @@ mod judge;
 mod numbers;
 
 pub use judge::{lists_fit, settings_fit};
-pub use numbers::SetNumbers;
+pub use numbers::{GivenSet, SetNumbers};

@@ -6,3 +6,11 @@ pub struct SetNumbers {
     pub configuration: u8,
     pub global: u8,
 }
+
+// The set: its numbers, calibration bytes and individual values, of any length. C gives them one by one.
+#[derive(Clone, Copy)]
+pub struct GivenSet<'a> {
+    pub numbers: SetNumbers,
+    pub calibration: &'a [u8],
+    pub individual: &'a [u16],
+}

@@ -15,9 +15,9 @@ pub loop-place-init : goal.loop-place-init
 unfolding owned
 loop-place-init c =
     let a = c.args in
-    let all : a.given.devices ≡ length a.chain.now - 0 = omega (arith, c.requires.devices) in
+    let all : a.given.numbers.devices ≡ length a.chain.now - 0 = omega (arith, c.requires.devices) in
     record {
-      so_far = from-start (part_of a.given.part) a.given.configuration a.given.global a.given.devices a.calibration.now a.individual.now a.chain.now c.requires.devices;
+      so_far = from-start (part_of a.given.numbers.part) a.given.numbers.configuration a.given.numbers.global a.given.numbers.devices a.given.calibration.now a.given.individual.now a.chain.now c.requires.devices;
       bytes_in = rw (sym all) c.requires.bytes_in;
       values_in = rw (sym all) c.requires.values_in;
     }
@@ -29,7 +29,7 @@ returns-then-answer-ne0 c =
     let answer = rw (c.split_at.ensures.front, c.split_at-in-loop-place.ensures.front, c.slice_fields-banks.ensures, c.slice_fields-fields.ensures) at c.device_differs-answer.ensures in
     answer
     ∙ sym (l.invariant.so_far
-    ∙ ends-here (part_of a.given.part) a.given.configuration a.given.global l.place l.bytes.now l.values.now a.chain.now _ c.loop-place-test.true
+    ∙ ends-here (part_of a.given.numbers.part) a.given.numbers.configuration a.given.numbers.global l.place l.bytes.now l.values.now a.chain.now _ c.loop-place-test.true
     (λ e. c.if-answer-ne0.true (ap (λ (r : Compared). r.group) answer ∙ e)))
 
 pub loop-place-preserved : goal.loop-place-preserved
@@ -37,7 +37,7 @@ loop-place-preserved c =
     let a = c.args in
     let l = c.loop-place in
     let answer = rw (c.split_at.ensures.front, c.split_at-in-loop-place.ensures.front, c.slice_fields-banks.ensures, c.slice_fields-fields.ensures) at c.device_differs-answer.ensures in
-    let next = goes-on (part_of a.given.part) a.given.configuration a.given.global l.place l.bytes.now l.values.now a.chain.now _ c.loop-place-test.true
+    let next = goes-on (part_of a.given.numbers.part) a.given.numbers.configuration a.given.numbers.global l.place l.bytes.now l.values.now a.chain.now _ c.loop-place-test.true
     (sym (ap (λ (r : Compared). r.group) answer) ∙ c.if-answer-ne0.false) in
     let left : length a.chain.now - l.place ≡ suc (length a.chain.now - (l.place + 1)) = omega arith in
     record {
@@ -50,4 +50,4 @@ pub returns : goal.returns
 returns c =
     let a = c.args in
     let l = c.loop-place in
-    sym (l.invariant.so_far ∙ from-end (part_of a.given.part) a.given.configuration a.given.global l.place l.bytes.now l.values.now a.chain.now c.loop-place-test.false)
+    sym (l.invariant.so_far ∙ from-end (part_of a.given.numbers.part) a.given.numbers.configuration a.given.numbers.global l.place l.bytes.now l.values.now a.chain.now c.loop-place-test.false)

@@ -11,8 +11,8 @@ use Rattle.compare.proofs.comparison.first_difference.Given as goal
 abbrev pub invariant-loop-place : goal.invariant-loop-place
 invariant-loop-place l =
     record {
-      so_far : difference 1 (owned (set_by l.given l.calibration l.individual)) l.chain
-          ≡ from (part_of l.given.part) l.given.configuration l.given.global l.place (length l.chain - l.place) l.bytes l.values (drop l.place l.chain);
-      bytes_in : (length l.chain - l.place) * (part_of l.given.part).banks ≡ length l.bytes;
-      values_in : (length l.chain - l.place) * slice_fields (part_of l.given.part) Individual (multiplex l.given.configuration) ≡ length l.values;
+      so_far : difference 1 (owned (set_by l.fn.given.numbers l.fn.given.calibration.now l.fn.given.individual.now)) l.chain
+          ≡ from (part_of l.fn.given.numbers.part) l.fn.given.numbers.configuration l.fn.given.numbers.global l.place (length l.chain - l.place) l.bytes l.values (drop l.place l.chain);
+      bytes_in : (length l.chain - l.place) * (part_of l.fn.given.numbers.part).banks ≡ length l.bytes;
+      values_in : (length l.chain - l.place) * slice_fields (part_of l.fn.given.numbers.part) Individual (multiplex l.fn.given.numbers.configuration) ≡ length l.values;
     }

@@ -1,6 +1,5 @@
 -- The numbers of a drive are small where the row can be used, so that no sum or product of the code goes over. The repeats, taken as often as a
--- subframe has clocks, are within the period; a bank's lit clocks are at most its values times a subframe's clocks; the rest are products of
--- these. Assumes nothing.
+-- subframe has clocks, are within the period; a bank's lit clocks are at most its values times a subframe's clocks. Assumes nothing.
 use mathlib.Core.List.{List}
 use Prim.Native.Nat.{ℕ, ◌+◌, ◌*◌, ◌^◌, ◌<◌, ◌≤◌}
 use native.Mathlib.Nat.{le_trans, mul_assoc, mul-le-mul, mul-le-mul_left, div-mul-le_self}
@@ -8,9 +7,8 @@ use native.Mathlib.Omega.{arith}
 use lib.ListN.{get_or}
 use lib.Pow.{pow_mono}
 use Rattle.parts.specs.Parts.{Part, subframes, phase_count, frame_clocks, period, period_frames, limit, Usable}
-use Rattle.schedule.specs.Light.{total}
 use Rattle.current.specs.declared.drive.Drive.{Drive}
-use Rattle.current.specs.Closed.{inside, bank_clocks, drive_of, Driven, bank_total, closed_total, closed_at, closed_sum}
+use Rattle.current.specs.Closed.{inside, bank_clocks, drive_of, Driven}
 use Rattle.schedule.proofs.Sums.{total-none, total-next, total-le}
 
 -- a loop that adds up
@@ -53,36 +51,5 @@ clocks-within edge end values from each h k =
 
 -- ---- of a drive so small
 
-module _ (d : Drive) (w : Driven d) where
-  pub clocks-below : (individual : List ℕ) (from : ℕ) → bank_clocks d.edge d.end individual from d.each ≤ 2 ^ 18
-  clocks-below individual from = clocks-within d.edge d.end individual from d.each w.each w.end
-
-  module _ (calibration : List ℕ) (b : (i : ℕ) → get_or calibration i 0 < 256) where
-    -- the current of a sink
-    pub sink-below : (i : ℕ) → d.least + d.step * get_or calibration i 0 < 2 ^ 20
-    sink-below i =
-        let h : get_or calibration i 0 ≤ 255 = omega (arith, b i) in
-        omega (arith, w.current, mul-le-mul_left d.step h)
-
-    module _ (bytes : ℕ) (individual : List ℕ) (values : ℕ) where
-      -- a bank
-      pub bank-below : (bank : ℕ) → bank_total d calibration bytes individual values bank ≤ 2 ^ 38
-      bank-below bank =
-          let h : d.least + d.step * get_or calibration (bytes + bank) 0 ≤ 2 ^ 20 = omega (arith, sink-below (bytes + bank)) in
-          mul-le-mul (clocks-below individual (values + bank * d.each)) h
-
-      -- the first n banks
-      pub banks-below : (n : ℕ) → total (bank_total d calibration bytes individual values) n ≤ n * 2 ^ 38
-      banks-below n = total-le (bank_total d calibration bytes individual values) (2 ^ 38) n (λ bank _. bank-below bank)
-
-      -- a device
-      pub closed-below : closed_total d calibration bytes individual values < 2 ^ 51
-      closed-below =
-          let h : total (bank_total d calibration bytes individual values) d.banks ≤ 3 * 2 ^ 38 = omega (arith, banks-below d.banks, w.banks) in
-          omega (arith, mul-le-mul w.repeats h)
-
-    -- the first n devices
-    pub sum_below : (individual : List ℕ) (n : ℕ) → closed_sum d calibration individual n ≤ n * 2 ^ 51
-    sum_below individual n =
-        total-le (closed_at d calibration individual) (2 ^ 51) n
-        (λ i _. omega (arith, closed-below (i * d.banks) individual (i * (d.banks * d.each))))
+pub clocks-below : (d : Drive) → Driven d → (individual : List ℕ) (from : ℕ) → bank_clocks d.edge d.end individual from d.each ≤ 2 ^ 18
+clocks-below d w individual from = clocks-within d.edge d.end individual from d.each w.each w.end

@@ -1,10 +1,10 @@
 // What is the same for every device of a sign, and what one device draws.
-ghost use Rattle.std.specs.Prelude.{◌≡◌, ◌/◌, ◌<◌, length};
+ghost use Rattle.std.specs.Prelude.{◌≡◌, ◌+◌, ◌*◌, ◌/◌, ◌^◌, ◌<◌, ◌≤◌, length};
 ghost use Rattle.parts.specs.Parts.{part_of, subframes, period};
 ghost use Rattle.current.specs.Closed.{drive_of, Driven, OwnInLists, bank_total, closed_total};
 
 use crate::clocks::bank_clocks;
-use sets::SetNumbers;
+use sets::{GivenSet, SetNumbers};
 
 // The clocks over which a current is averaged.
 pub const PERIOD: u32 = 524288;
@@ -53,38 +53,35 @@ fn period_frames(clocks: u32) -> u32
 
 // What a device draws in the period. Its calibration bytes begin at `bytes`, and its values at `values`.
 #[tactic(auto, using(crate::proofs::Bounds::adding))]
-pub fn device_total(
-    drive: Drive,
-    calibration: &[u8],
-    bytes: usize,
-    individual: &[u16],
-    values: usize,
-) -> u64
-    requires { Driven drive × OwnInLists drive (length calibration.now) bytes (length individual.now) values }
-    ensures { result ≡ closed_total drive calibration.now bytes individual.now values }
+pub fn device_total(drive: Drive, given: GivenSet<'_>, bytes: usize, values: usize) -> u64
+    requires { Driven drive × OwnInLists drive (length given.calibration.now) bytes (length given.individual.now) values }
+    ensures value { result ≡ closed_total drive given.entry.calibration.now bytes given.entry.individual.now values }
+    ensures few { result < 2 ^ 51 }
 {
     let mut sum = 0;
     // By number: to one byte go several values.
     for bank in 0..drive.banks {
-        sum += bank_total(drive, calibration, bytes, individual, values, bank);
+        sum += bank_total(drive, given, bytes, values, bank);
     }
     (drive.repeats as u64) * sum
 }
 
 // What a bank of it draws in an ON subframe.
-fn bank_total(
-    drive: Drive,
-    calibration: &[u8],
-    bytes: usize,
-    individual: &[u16],
-    values: usize,
-    bank: usize,
-) -> u64
-    requires { Driven drive × OwnInLists drive (length calibration.now) bytes (length individual.now) values × (bank < drive.banks) }
-    ensures { result ≡ bank_total drive calibration.now bytes individual.now values bank }
+fn bank_total(drive: Drive, given: GivenSet<'_>, bytes: usize, values: usize, bank: usize) -> u64
+    requires { Driven drive × OwnInLists drive (length given.calibration.now) bytes (length given.individual.now) values × (bank < drive.banks) }
+    ensures value { result ≡ bank_total drive given.entry.calibration.now bytes given.entry.individual.now values bank }
+    ensures few { result ≤ 2 ^ 38 }
 {
     let from = values + bank * drive.each;
-    let lit = bank_clocks(individual, from, drive.each, drive.edge, drive.end) as u64;
-    let sink = drive.least + drive.step * (calibration[bytes + bank] as u32);
-    lit * (sink as u64)
+    let lit = bank_clocks(given.individual, from, drive.each, drive.edge, drive.end) as u64;
+    lit * (sink_current(drive, given.calibration[bytes + bank]) as u64)
+}
+
+// The current of a lit sink at a calibration byte.
+fn sink_current(drive: Drive, byte: u8) -> u32
+    requires { Driven drive }
+    ensures value { result ≡ drive.least + drive.step * byte }
+    ensures few { result ≤ 2 ^ 20 }
+{
+    drive.least + drive.step * (byte as u32)
 }

@@ -4,32 +4,28 @@ ghost use Rattle.tables.specs.Refusals.{carried};
 ghost use Rattle.sets.specs.Sets.{set_by};
 ghost use Rattle.current.specs.Answers.{current_refusal};
 
-use sets::SetNumbers;
+use sets::GivenSet;
 use tables::Refusal;
 
 // By the set and the length of the lent list.
 #[tactic(auto, unfolding(crate::specs::Answers::current_refusal))]
-pub fn judge(
-    given: SetNumbers,
-    calibration: &[u8],
-    individual: &[u16],
-    room: usize,
-) -> Result<(), Refusal>
-    ensures { carried result ≡ current_refusal (set_by given calibration.now individual.now) room }
+pub fn judge(given: GivenSet<'_>, room: usize) -> Result<(), Refusal>
+    ensures { carried result ≡ current_refusal (set_by given.entry.numbers given.entry.calibration.now given.entry.individual.now) room }
 {
-    if !parts::is_known(given.part) {
+    let numbers = given.numbers;
+    if !parts::is_known(numbers.part) {
         return Err(Refusal::UnknownPart);
     }
-    if !parts::is_count(given.devices) {
+    if !parts::is_count(numbers.devices) {
         return Err(Refusal::WrongDeviceCount);
     }
-    if !sets::lists_fit(given, calibration.len(), individual.len()) {
+    if !sets::lists_fit(numbers, given.calibration.len(), given.individual.len()) {
         return Err(Refusal::WrongLength);
     }
-    if room < 3 * given.devices {
+    if room < 3 * numbers.devices {
         return Err(Refusal::NoRoom);
     }
-    if !sets::settings_fit(given, individual) {
+    if !sets::settings_fit(numbers, given.individual) {
         return Err(Refusal::HighValue);
     }
     Ok(())

@@ -6,7 +6,7 @@ ghost use Rattle.current.specs.Answers.{current, current_out, drawing, refused};
 use crate::drive::{PERIOD, drive_for};
 use crate::figures::write_figures;
 use crate::judge::judge;
-use sets::SetNumbers;
+use sets::{GivenSet, SetNumbers};
 
 // What the sign draws over 524,288 clocks, in eighths of a microamp: the total, its average rounded down and its remainder; or a refusal, beside
 // which all three are 0. A struct of numbers, for C.
@@ -35,16 +35,20 @@ pub extern "C" fn bb_current(
     ensures value { result ≡ current (set_of part devices configuration calibration.now global individual.now) (length figures.old) }
     ensures figures_after { figures.new ≡ current_out (set_of part devices configuration calibration.now global individual.now) figures.old }
 {
-    let given = SetNumbers {
-        part,
-        devices,
-        configuration,
-        global,
+    let given = GivenSet {
+        numbers: SetNumbers {
+            part,
+            devices,
+            configuration,
+            global,
+        },
+        calibration,
+        individual,
     };
-    match judge(given, calibration, individual, figures.len()) {
+    match judge(given, figures.len()) {
         Ok(()) => {
-            let drive = drive_for(given);
-            accept(write_figures(drive, devices, calibration, individual, figures))
+            let drive = drive_for(given.numbers);
+            accept(write_figures(drive, given, figures))
         }
         Err(refusal) => refuse(u8::from(refusal)),
     }

@@ -73,7 +73,8 @@ fn first_difference(given: GivenSet<'_>, chain: &[Device]) -> Compared
             numbers.global,
             own_values,
         );
-        if answer.group != 0 {
+        let differs = answer.group != 0;
+        if differs {
             return answer;
         }
         bytes = bytes_after;

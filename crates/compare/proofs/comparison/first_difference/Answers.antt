@@ -1,5 +1,5 @@
 -- The next device is answered for, or its bytes and values are taken off what is left. Assumes nothing.
-use Rattle.std.proofs.Common.{◌≡◌, ◌∙◌, ◌+◌, ◌-◌, ◌*◌, ℕ, suc, sym, ap, arith, length}
+use Rattle.std.proofs.Common.{◌≡◌, ◌∙◌, ◌+◌, ◌-◌, ◌*◌, ℕ, suc, sym, ap, arith, length, rules}
 use native.Mathlib.Nat.{suc-mul}
 use Rattle.parts.specs.Parts.{part_of}
 use Rattle.model.specs.Set.{owned}
@@ -22,23 +22,25 @@ loop-place-init c =
       values_in = rw (sym all) c.requires.values_in;
     }
 
-pub returns-then-answer-ne0 : goal.returns-then-answer-ne0
-returns-then-answer-ne0 c =
+pub returns-then-differs : goal.returns-then-differs
+returns-then-differs c =
     let a = c.args in
     let l = c.loop-place in
+    let some : c.device_differs-answer.result.group ≡ 0 → ⊥ = search rules in
     let answer = rw (c.split_at.ensures.front, c.split_at-in-loop-place.ensures.front, c.slice_fields-banks.ensures, c.slice_fields-fields.ensures) at c.device_differs-answer.ensures in
     answer
     ∙ sym (l.invariant.so_far
     ∙ ends-here (part_of a.given.numbers.part) a.given.numbers.configuration a.given.numbers.global l.place l.bytes.now l.values.now a.chain.now _ c.loop-place-test.true
-    (λ e. c.if-answer-ne0.true (ap (λ (r : Compared). r.group) answer ∙ e)))
+    (λ e. some (ap (λ (r : Compared). r.group) answer ∙ e)))
 
 pub loop-place-preserved : goal.loop-place-preserved
 loop-place-preserved c =
     let a = c.args in
     let l = c.loop-place in
+    let none : c.device_differs-answer.result.group ≡ 0 = search rules in
     let answer = rw (c.split_at.ensures.front, c.split_at-in-loop-place.ensures.front, c.slice_fields-banks.ensures, c.slice_fields-fields.ensures) at c.device_differs-answer.ensures in
     let next = goes-on (part_of a.given.numbers.part) a.given.numbers.configuration a.given.numbers.global l.place l.bytes.now l.values.now a.chain.now _ c.loop-place-test.true
-    (sym (ap (λ (r : Compared). r.group) answer) ∙ c.if-answer-ne0.false) in
+    (sym (ap (λ (r : Compared). r.group) answer) ∙ none) in
     let left : length a.chain.now - l.place ≡ suc (length a.chain.now - (l.place + 1)) = omega arith in
     record {
       so_far = rw (c.split_at.ensures.back, c.split_at-in-loop-place.ensures.back, c.slice_fields-banks.ensures, c.slice_fields-fields.ensures) (l.invariant.so_far ∙ next);

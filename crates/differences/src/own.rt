@@ -1,5 +1,6 @@
 // One device against its own part of a set. Of what it holds, the bytes of its part's banks and the values of its outputs are looked at.
 ghost use Rattle.std.specs.Prelude.{◌≡◌, ◌<◌, ◌≤◌, ◌%◌, eqb, length, slice_index};
+ghost use Rattle.registers.specs.Held.{bank_bytes};
 ghost use Rattle.model.specs.Set.{own_of};
 ghost use Rattle.differences.specs.Groups.{differs_at, differs_by, in_turns, active_values, groups, compared, same, in_groups};
 
@@ -22,8 +23,7 @@ pub fn device_differs(
     if configuration != registers.configuration {
         return differs(number, 1, 0);
     }
-    let banks = parts::constants_of(registers.part).banks as usize;
-    let byte = first_difference(calibration, &registers.calibration[..banks]);
+    let byte = bank_difference(calibration, device);
     if byte < calibration.len() {
         return differs(number, 2, byte);
     }
@@ -47,6 +47,15 @@ fn differs(device: usize, group: u8, place: usize) -> Compared
         group,
         refusal: 0,
     }
+}
+
+// The first place at which bytes differ from those of a device's banks, or where the first of the two lists ends.
+fn bank_difference(calibration: &[u8], device: Device) -> usize
+    ensures { (result ≡ differs_at calibration.now (bank_bytes device.registers)) × (result ≤ 48) }
+{
+    let registers = device.registers;
+    let banks = parts::constants_of(registers.part).banks as usize;
+    first_difference(calibration, &registers.calibration[..banks])
 }
 
 // The first place at which values differ from a device's active ones, or where the first of the two lists ends.

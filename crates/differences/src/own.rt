@@ -8,7 +8,8 @@ use crate::compared::Compared;
 use device::Device;
 
 // The first group and place at which the device of a number differs from what is its own, or all 0: configuration, calibration bytes,
-// global byte and individual values. The answer is C's struct and no Option, since the theorems of the comparison speak of in_groups.
+// global byte and individual values. They are given one by one, since docs/TRACE.md names this function and its contract stays. The answer is
+// C's struct and no Option, since the theorems of the comparison speak of in_groups.
 pub fn device_differs(
     device: Device,
     number: usize,

@@ -5,7 +5,8 @@ ghost use Rattle.sets.specs.Sets.{lengths_fit, settings_fit};
 use crate::numbers::SetNumbers;
 use parts::Command;
 
-// The settings lists have the lengths that their rules say.
+// The settings lists have the lengths that their rules say. Of lengths and not of a GivenSet, as `settings_fit` is of a list: docs/TRACE.md names
+// both, and what they promise of any numbers stays.
 pub fn lists_fit(given: SetNumbers, bytes: usize, values: usize) -> bool
     ensures { result ≡ lengths_fit given.part given.devices given.configuration bytes values }
 {

@@ -1,4 +1,5 @@
 -- By the tests of the four groups, each as it came out. Assumes nothing.
+use Rattle.std.proofs.Common.{◌≡◌, rules}
 use borrow.Author.Tests.{lt-ltb, le-ltb, eq-eqb, ne_eqb}
 use Rattle.differences.proofs.Groups.{found_by}
 use Rattle.differences.proofs.own.device_differs.Goals as goal
@@ -14,12 +15,13 @@ returns-then-byte-calibration c =
 pub returns-then-global-registers : goal.returns-then-global-registers
 returns-then-global-registers c =
     let byte = c.bank_difference-byte.ensures.0 in
+    let other : c.args.global ≡ c.args.device.registers.active → ⊥ = search rules in
     rw (
       found_by,
       c.differs-then-global-registers.ensures,
       eq-eqb _ _ c.if-configuration-registers.false,
       le-ltb _ _ (rw byte at c.if-byte-calibration.false),
-      ne_eqb _ _ c.if-global-registers.true,
+      ne_eqb _ _ other,
     )
 
 pub returns-then-value-individual : goal.returns-then-value-individual

@@ -1,5 +1,7 @@
 // Each part carries its own constants, as a rule of the project wants it: a trait for them would only name each once more, for its clauses. A
 // number that is no part's is read as the last row's; `is_known` tells them apart.
+// What is looked up by a part's number is found by tests, and not in a table by `row_of`, which was tried: it misses limits of speed (a record is
+// judged in a third more time, and restores of the 6972 are over twice plain Rust).
 ghost use Rattle.std.specs.Prelude.{◌≡◌};
 ghost use Rattle.parts.specs.Parts.{known, part_of, row_index, outputs, limit, subframes, frame_clocks, constants_of};
 
@@ -106,59 +108,51 @@ pub struct Constants {
     pub step: u32,
 }
 
-// The rows, by `row_of`: what each part's type says.
-const ROWS: [Constants; 4] = [
-    Constants {
-        number: Max6972::NUMBER,
-        banks: Max6972::BANKS,
-        width: Max6972::WIDTH,
-        edge: Max6972::EDGE,
-        clocks: Max6972::CLOCKS,
-        least: Max6972::LEAST_CURRENT,
-        step: Max6972::CURRENT_STEP,
-    },
-    Constants {
-        number: Max6973::NUMBER,
-        banks: Max6973::BANKS,
-        width: Max6973::WIDTH,
-        edge: Max6973::EDGE,
-        clocks: Max6973::CLOCKS,
-        least: Max6973::LEAST_CURRENT,
-        step: Max6973::CURRENT_STEP,
-    },
-    Constants {
-        number: Max6974::NUMBER,
-        banks: Max6974::BANKS,
-        width: Max6974::WIDTH,
-        edge: Max6974::EDGE,
-        clocks: Max6974::CLOCKS,
-        least: Max6974::LEAST_CURRENT,
-        step: Max6974::CURRENT_STEP,
-    },
-    Constants {
-        number: Max6975::NUMBER,
-        banks: Max6975::BANKS,
-        width: Max6975::WIDTH,
-        edge: Max6975::EDGE,
-        clocks: Max6975::CLOCKS,
-        least: Max6975::LEAST_CURRENT,
-        step: Max6975::CURRENT_STEP,
-    },
-];
-
-// Their subframes per frame.
-const SUBFRAMES: [[u16; 4]; 4] = [
-    Max6972::SUBFRAMES,
-    Max6973::SUBFRAMES,
-    Max6974::SUBFRAMES,
-    Max6975::SUBFRAMES,
-];
-
 // What a part's type says, by its number.
 pub fn constants_of(part: u16) -> Constants
     ensures { result ≡ constants_of (part_of part) }
 {
-    ROWS[row_of(part)]
+    if part == Max6972::NUMBER {
+        Constants {
+            number: Max6972::NUMBER,
+            banks: Max6972::BANKS,
+            width: Max6972::WIDTH,
+            edge: Max6972::EDGE,
+            clocks: Max6972::CLOCKS,
+            least: Max6972::LEAST_CURRENT,
+            step: Max6972::CURRENT_STEP,
+        }
+    } else if part == Max6973::NUMBER {
+        Constants {
+            number: Max6973::NUMBER,
+            banks: Max6973::BANKS,
+            width: Max6973::WIDTH,
+            edge: Max6973::EDGE,
+            clocks: Max6973::CLOCKS,
+            least: Max6973::LEAST_CURRENT,
+            step: Max6973::CURRENT_STEP,
+        }
+    } else if part == Max6974::NUMBER {
+        Constants {
+            number: Max6974::NUMBER,
+            banks: Max6974::BANKS,
+            width: Max6974::WIDTH,
+            edge: Max6974::EDGE,
+            clocks: Max6974::CLOCKS,
+            least: Max6974::LEAST_CURRENT,
+            step: Max6974::CURRENT_STEP,
+        }
+    } else {
+        Constants {
+            number: Max6975::NUMBER,
+            banks: Max6975::BANKS,
+            width: Max6975::WIDTH,
+            edge: Max6975::EDGE,
+            clocks: Max6975::CLOCKS,
+            least: Max6975::LEAST_CURRENT,
+            step: Max6975::CURRENT_STEP,
+        }
+    }
 }
 
 // A number is a part's where the row that it is read as has it.
@@ -172,11 +166,14 @@ pub fn is_known(part: u16) -> bool
 pub fn row_of(part: u16) -> usize
     ensures { result ≡ row_index part }
 {
-    match part {
-        Max6972::NUMBER => 0,
-        Max6973::NUMBER => 1,
-        Max6974::NUMBER => 2,
-        _ => 3,
+    if part == Max6972::NUMBER {
+        0
+    } else if part == Max6973::NUMBER {
+        1
+    } else if part == Max6974::NUMBER {
+        2
+    } else {
+        3
     }
 }
 
@@ -199,7 +196,15 @@ pub fn subframes_of(part: u16, configuration: u8) -> u16
     ensures { result ≡ subframes (part_of part) configuration }
 {
     let column = (configuration % 2 + 2 * (configuration / 16 % 2)) as usize;
-    SUBFRAMES[row_of(part)][column]
+    if part == Max6972::NUMBER {
+        Max6972::SUBFRAMES[column]
+    } else if part == Max6973::NUMBER {
+        Max6973::SUBFRAMES[column]
+    } else if part == Max6974::NUMBER {
+        Max6974::SUBFRAMES[column]
+    } else {
+        Max6975::SUBFRAMES[column]
+    }
 }
 
 // Clocks of a frame.

@@ -66,7 +66,7 @@ fn first_difference(given: GivenSet<'_>, chain: &[Device]) -> Compared
         let (own_bytes, bytes_after) = bytes.split_at(banks);
         let (own_values, values_after) = values.split_at(fields);
         let answer = differences::device_differs(
-            *device,
+            device,
             place + 1,
             numbers.configuration,
             own_bytes,

@@ -8,27 +8,26 @@ use crate::compared::Compared;
 use device::Device;
 
 // The first group and place at which the device of a number differs from what is its own, or all 0: configuration, calibration bytes,
-// global byte and individual values. They are given one by one, since docs/TRACE.md names this function and its contract stays. The answer is
-// C's struct and no Option, since the theorems of the comparison speak of in_groups.
+// global byte and individual values. They are given one by one, since docs/TRACE.md names this function and its contract stays; the record is
+// lent, so that it is not moved. The answer is C's struct and no Option, since the theorems of the comparison speak of in_groups.
 pub fn device_differs(
-    device: Device,
+    device: &Device,
     number: usize,
     configuration: u8,
     calibration: &[u8],
     global: u8,
     individual: &[u16],
 ) -> Compared
-    ensures { result ≡ in_groups number 1 (groups (own_of configuration calibration.now global individual.now) device) same }
+    ensures { result ≡ in_groups number 1 (groups (own_of configuration calibration.now global individual.now) device.now) same }
 {
-    let registers = device.registers;
-    if configuration != registers.configuration {
+    if configuration != device.registers.configuration {
         return differs(number, 1, 0);
     }
     let byte = bank_difference(calibration, device);
     if byte < calibration.len() {
         return differs(number, 2, byte);
     }
-    if global != registers.active {
+    if global != device.registers.active {
         return differs(number, 3, 0);
     }
     let value = active_difference(individual, configuration, device);
@@ -51,25 +50,27 @@ fn differs(device: usize, group: u8, place: usize) -> Compared
 }
 
 // The first place at which bytes differ from those of a device's banks, or where the first of the two lists ends.
-fn bank_difference(calibration: &[u8], device: Device) -> usize
-    ensures { (result ≡ differs_at calibration.now (bank_bytes device.registers)) × (result ≤ 48) }
+fn bank_difference(calibration: &[u8], device: &Device) -> usize
+    ensures { (result ≡ differs_at calibration.now (bank_bytes device.now.registers)) × (result ≤ 48) }
 {
-    let registers = device.registers;
-    let banks = parts::constants_of(registers.part).banks as usize;
-    first_difference(calibration, &registers.calibration[..banks])
+    let banks = parts::constants_of(device.registers.part).banks as usize;
+    first_difference(calibration, &device.registers.calibration[..banks])
 }
 
 // The first place at which values differ from a device's active ones, or where the first of the two lists ends.
-fn active_difference(values: &[u16], configuration: u8, device: Device) -> usize
-    ensures { (result ≡ differs_at values.now (active_values configuration device)) × (result ≤ 48) }
+fn active_difference(values: &[u16], configuration: u8, device: &Device) -> usize
+    ensures { (result ≡ differs_at values.now (active_values configuration device.now)) × (result ≤ 48) }
 {
-    let registers = device.registers;
-    let outputs = parts::outputs_of(registers.part);
+    let outputs = parts::outputs_of(device.registers.part);
     if configuration % 2 == 0 {
-        return first_difference(values, &registers.active0[..outputs]);
+        return first_difference(values, &device.registers.active0[..outputs]);
     }
     let in_use = values.len().min(2 * outputs);
-    turns_difference(&values[..in_use], &registers.active0, &registers.active1)
+    turns_difference(
+        &values[..in_use],
+        &device.registers.active0,
+        &device.registers.active1,
+    )
 }
 
 // The first place at which two lists differ, or where the first of them ends.

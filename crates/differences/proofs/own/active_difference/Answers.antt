@@ -12,7 +12,7 @@ returns-then-configuration-eq0 c =
 pub returns : goal.returns
 returns c =
     let a = c.args in
-    let r = a.device.registers in (
+    let r = a.device.now.registers in (
       rw (c.turns_difference.ensures.0, c.min-in_use.ensures, c.outputs_of-outputs.ensures, ne_eqb _ _ c.if-configuration-eq0.false)
           (turns-within (outputs (part_of r.part)) a.values.now r.active0 r.active1),
       search rules,

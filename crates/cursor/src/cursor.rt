@@ -25,10 +25,11 @@ pub struct Cursor {
     pub ear: Ear,
     // A header that is on its way to the front device, or out of the chain.
     pub pending: Sent,
+    // A flag and no Option around the rest: a run that is over still has states returned.
     pub going: bool,
 }
 
-// By the header under way, or by the next state.
+// By the header under way, or by the next state. The numbers stand side by side as in the definition, by which theorems of a run speak of it.
 pub fn next_turn(
     count: usize,
     front: usize,

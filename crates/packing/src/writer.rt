@@ -1,4 +1,5 @@
-// Bits put into bytes. Bits wait in an accumulator until there are 32, which are then stored at once.
+// Bits put into bytes. Bits wait in an accumulator until there are 32, which are then stored at once. The bytes stay a parameter beside the
+// writer: blocks store at places of their own in the same bytes, so a writer that holds them is no plainer.
 ghost use Rattle.std.specs.Prelude.{◌<◌};
 
 use crate::store::store_word;
@@ -98,6 +99,7 @@ impl Writer {
             acc,
             mut have,
         } = self;
+        // By the bits that wait: there is no list to go over.
         while 8 <= have {
             have -= 8;
             out[at] = ((acc >> have) & 255) as u8;

@@ -1,5 +1,6 @@
-// Each part carries its own constants, as a rule of the project wants it: a trait for them would only name each once more, for its clauses. A
-// number that is no part's is read as the last row's; `is_known` tells them apart.
+// A part is told by its number, as C and the record have it, and no enum: the definitions speak of any number. A number that is no part's is read
+// as the last row's; `is_known` tells them apart.
+// Each part carries its own constants, as a rule of the project wants it: a trait for them would only name each once more, for its clauses.
 // What is looked up by a part's number is found by tests, and not in a table by `row_of`, which was tried: it misses limits of speed (a record is
 // judged in a third more time, and restores of the 6972 are over twice plain Rust).
 ghost use Rattle.std.specs.Prelude.{◌≡◌};

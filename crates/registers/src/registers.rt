@@ -80,7 +80,8 @@ impl Registers {
         }
     }
 
-    // The fault of a kind is set: 0 overtemperature, else open LED.
+    // The fault of a kind is set: 0 overtemperature, else open LED. Kind and flag are numbers, as C tells and the record holds them: `flagged` speaks
+    // of any.
     pub fn flag(self, kind: u8, flag: u8) -> Registers
         ensures { result ≡ flagged self kind flag }
     {

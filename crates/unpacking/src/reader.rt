@@ -1,4 +1,5 @@
-// Bits taken out of bytes. Bytes are taken into an accumulator four at once, and near the end of the input one by one.
+// Bits taken out of bytes. Bytes are taken into an accumulator four at once, and near the end of the input one by one. The bytes stay a
+// parameter beside the reader: blocks load at places of their own in the same bytes, so a reader that holds them is no plainer.
 ghost use Rattle.std.specs.Prelude.{◌<◌};
 
 use crate::load::load_word;

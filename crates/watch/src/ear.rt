@@ -247,6 +247,7 @@ fn last_long(limit: usize, states: &[u8], from: usize, to: usize) -> usize
     ensures { result ≡ last_long limit (level_at states.now from) (map data_bit (slice_range states.now from to)) from }
 {
     let mut stop = to.min(states.len());
+    // A step goes as far back as it finds a change: there is no list to go over.
     while stop > from {
         if stop - from <= limit {
             return 0;

@@ -1,5 +1,6 @@
 // A watchdog within a run, as the run keeps it: counts less the clocks of the run that were over when they were written. So a watchdog is
-// looked at only where its device is sent something, and at the end.
+// looked at only where its device is sent something, and at the end. A watchdog, its bit and a clock are parameters side by side: the bit is meant
+// since a clock, before it or at its end, so a struct of the three would be made anew at each call and is no plainer.
 ghost use Rattle.std.specs.Prelude.{◌≡◌, ◌+◌, ◌-◌, ◌<◌, ◌^◌, min, false, [], ◌∷◌, length, take, drop};
 ghost use Rattle.watch.specs.Watch.{moved};
 ghost use Rattle.watch.specs.Kept.{run_on, kept_from, still_by, line_by, watch_by, expired_by, still_in, line_in, watch_in, moved_line, moved_in, listened};

@@ -34,13 +34,13 @@ pub fn read_front(told: Told, input: &[u8]) -> Result<Read, Refusal>
 pub fn byte_in(answer: Result<Read, Refusal>) -> Option<u8>
     ensures { result ≡ byte_in (numbered answer) }
 {
-    match answer {
-        Ok(Read::Byte(byte)) => Some(byte),
-        _ => None,
-    }
+    let Ok(Read::Byte(byte)) = answer else {
+        return None;
+    };
+    Some(byte)
 }
 
-// The first n bytes, or all where there are fewer.
+// The first n bytes, or all where there are fewer. `cases` has the same of any list, for programs alone: one line in a crate below both is no plainer.
 pub fn front(bytes: &[u8], n: usize) -> &[u8]
     ensures { result.now ≡ take n bytes.now }
 {

@@ -1,4 +1,4 @@
-// A fresh device, and one that is given line states. Each frame is given as its bytes, SYNC at low load.
+// A device that is given line states. Each frame is given as its bytes, SYNC at low load.
 use cases::front;
 use device::Device;
 use phases::Sent;
@@ -10,11 +10,6 @@ pub struct Fed {
     pub refusal: u8,
     pub sent: u32,
     pub count: u16,
-}
-
-// A fresh device. Its watchdog is enabled by bit 1 of the configuration, which no case here sets.
-pub fn fresh_of(part: u16) -> Device {
-    Device::fresh(part, 1, 2000000)
 }
 
 // A device that is given a frame, of 51 bytes at most.

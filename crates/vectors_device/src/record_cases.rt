@@ -1,9 +1,9 @@
 // Records that a step refuses: a part that is none of the four, and a 6972 that holds something where it has no output and no bank.
-use crate::feeding::fresh_of;
 use cases::Outcome;
 use device::Device;
 use registers::Registers;
 use std::io;
+use three::fresh_of;
 
 pub fn run(rt: &impl Print) -> io::Result<()> {
     part_cases(rt)?;

@@ -1,9 +1,10 @@
 // One device with 16 outputs, stepped by value: a slice of bytes has two copies, and what is not used stays 0.
-use crate::feeding::{feed, fresh_of};
+use crate::feeding::feed;
 use crate::seen::{PASSING, case, expected};
 use cases::{Phases, spaced};
 use device::Device;
 use std::io;
+use three::fresh_of;
 
 pub fn run(rt: &impl Print) -> io::Result<()> {
     copies_cases(rt)?;

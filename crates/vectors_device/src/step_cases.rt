@@ -1,10 +1,11 @@
 // One device, stepped by value: rules that no number of docs/RULES.md shows.
-use crate::feeding::{feed, fresh_of, start, step, steps};
+use crate::feeding::{feed, start, step, steps};
 use crate::seen::{LOST, PASSING, case, expected};
 use device::Device;
 use parts::Command;
 use phases::{Phase, Place};
 use std::io;
+use three::fresh_of;
 
 pub fn run(rt: &impl Print) -> io::Result<()> {
     lost_cases(rt)?;

@@ -28,11 +28,26 @@ impl Setting<'_> {
     pub fn is_read_back(self, told: Told, tail: Tail, frame: &[u8]) -> bool {
         let mut bytes = [0; 3];
         let mut values = [0; 24];
-        match frame_reader::read(told, tail, frame, &mut bytes, &mut values) {
-            Ok(Read::Byte(byte)) => self == Setting::Byte(byte),
-            Ok(Read::Bytes(n)) => self == Setting::Bytes(front(&bytes, n)),
-            Ok(Read::Values(n)) => self == Setting::Values(front(&values, n)),
-            Err(_) => false,
+        let answer = frame_reader::read(told, tail, frame, &mut bytes, &mut values);
+        match self {
+            Setting::Byte(byte) => {
+                let Ok(Read::Byte(found)) = answer else {
+                    return false;
+                };
+                found == byte
+            }
+            Setting::Bytes(list) => {
+                let Ok(Read::Bytes(n)) = answer else {
+                    return false;
+                };
+                front(&bytes, n) == list
+            }
+            Setting::Values(list) => {
+                let Ok(Read::Values(n)) = answer else {
+                    return false;
+                };
+                front(&values, n) == list
+            }
         }
     }
 }

@@ -3,4 +3,4 @@
 
 mod answer;
 
-pub use answer::Answer;
+pub use answer::{Answer, accept, refuse};

@@ -8,7 +8,6 @@ use arguments::Chain;
 use std::env::Env;
 use std::io;
 use std::io::Read;
-use tables::Refusal;
 
 fn main(rt: HostRuntime) -> io::Result<()> {
     // Linux hands over no argument that is longer.
@@ -16,7 +15,7 @@ fn main(rt: HostRuntime) -> io::Result<()> {
     let mut devices = [0u8; 131072];
     let first = argument(&rt, 1, &mut part);
     let second = argument(&rt, 2, &mut devices);
-    let asked = arguments::ask(&part[..first], &devices[..second]);
+    let asked = arguments::ask(&part[..first], &devices[..second]).map_err(u8::from);
     if asked.is_err() {
         return print(&rt, asked, b"");
     }
@@ -38,6 +37,7 @@ fn read_full(from: &mut impl Read, input: &mut [u8]) -> usize
     ensures { result ≤ length input.new }
 {
     let mut got = 0;
+    // By how many bytes each read gives: std has no method that reads until the room is full or the input ends.
     while got < input.len() {
         let more = from.read(&mut input[got..]).unwrap_or(0);
         if more == 0 {
@@ -48,7 +48,7 @@ fn read_full(from: &mut impl Read, input: &mut [u8]) -> usize
     got
 }
 
-fn print(rt: &impl Print, asked: Result<Chain, Refusal>, input: &[u8]) -> io::Result<()> {
+fn print(rt: &impl Print, asked: Result<Chain, u8>, input: &[u8]) -> io::Result<()> {
     let mut lines = [0; 640];
     let length = report::report(asked, input, &mut lines);
     rt.write_all(&lines[..length])

@@ -5,7 +5,8 @@ ghost use Rattle.packing.specs.Packing.{packed, packed_out};
 ghost use Rattle.unpacking.specs.Unpacking.{unpacked, unpacked_out};
 ghost use Rattle.capi_bits.specs.PackingAnswers.{of_packed};
 
-// What packing gives: no number of the table of refusals. Where nothing was done both are 0.
+// What packing gives: no number of the table of refusals. Where nothing was done both are 0. A struct of numbers, for
+// C.
 #[repr(C)]
 #[derive(Clone, Copy)]
 pub struct Packed {

@@ -8,7 +8,7 @@ use device::{Device, judge};
 use phases::Sent;
 
 // The next device, and what it sends on: nothing, one state, or the 24 states of a header, of which the command and the count say all.
-// Numbers that are not sent are 0, and so is the refusal where accepted.
+// Numbers that are not sent are 0, and so is the refusal where accepted. A struct of numbers, for C.
 #[repr(C)]
 #[derive(Clone, Copy)]
 pub struct Stepped {

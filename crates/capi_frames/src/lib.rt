@@ -1,5 +1,5 @@
-// Frames for C and Rust, as include/bractbeacon.h documents them: written, read, returned, and as line states. Each function takes the enum
-// of an operation apart and gives its numbers.
+// Frames for C and Rust, as include/bractbeacon.h documents them: written, read, returned, and as line states. Each function
+// makes its answer From that of an operation.
 #![tactic(auto)]
 
 mod conversion;

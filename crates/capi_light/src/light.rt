@@ -12,7 +12,7 @@ use schedule::{Moment, Output};
 use subframes::Intensity;
 use tables::Refusal;
 
-// A signed number, or a refusal. The number is 0 where refused, and the refusal 0 where accepted.
+// A signed number, or a refusal. The number is 0 where refused, and the refusal 0 where accepted. A struct of numbers, for C.
 #[repr(C)]
 #[derive(Clone, Copy)]
 pub struct Signed {
@@ -20,7 +20,7 @@ pub struct Signed {
     pub refusal: u8,
 }
 
-// Clocks from the first on and before the end, or a refusal: 0 as above, and both 0 where there are none.
+// Clocks from the first on and before the end, or a refusal: 0 as above, and both 0 where there are none. A struct of numbers, for C.
 #[repr(C)]
 #[derive(Clone, Copy)]
 pub struct Clocks {

@@ -5,7 +5,7 @@ ghost use Rattle.tables.specs.Refusals.{carried};
 use std::fmt;
 use tables::Refusal;
 
-// The refusal's number in docs/RULES.md; 0 where the call is taken.
+// The refusal's number in docs/RULES.md; 0 where the call is taken. A number and no name: the numbers to hold against are said by number there.
 #[derive(Clone, Copy, PartialEq)]
 pub struct Outcome(pub u8);
 

@@ -34,7 +34,7 @@ pub extern "C" fn bb_fresh(chain: &mut [Device], part: u16, bit: u8, limit: u32)
 pub extern "C" fn bb_run(chain: &mut [Device], states: &[u8], returned: &mut [u8]) -> Ran
     ensures { (result ≡ run_answer chain.old states.now (length returned.old)) × (chain.new ≡ run_after chain.old states.now (length returned.old)) × (returned.new ≡ run_room chain.old states.now returned.old) }
 {
-    cursor::answer(run(chain, states, returned))
+    run(chain, states, returned).into()
 }
 
 // How many states came back.

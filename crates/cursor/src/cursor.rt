@@ -19,7 +19,7 @@ pub struct Cursor {
     pub at: usize,
     // The states returned so far.
     pub written: usize,
-    // Where the high states that begin at the next state end; 0 until they are looked for.
+    // Where the high states that begin at the next state end; 0 until they are looked for, so that one test against the next state serves both.
     pub end: usize,
     // What watchdogs go by that pass those states.
     pub ear: Ear,

@@ -1,14 +1,14 @@
 // Where a run begins, and its answer.
 ghost use Rattle.std.specs.Prelude.{◌≡◌};
-ghost use Rattle.tables.specs.Refusals.{carried, numbered};
-ghost use Rattle.cursor.specs.Answer.{answered};
+ghost use Rattle.tables.specs.Refusals.{numbered};
+ghost use Rattle.cursor.specs.Answer.{answered, ran};
 ghost use Rattle.cursor.specs.Entry.{entered};
 
 use crate::cursor::{Cursor, turn_by_state};
 use judgement::Judged;
 use tables::Refusal;
 
-// How many states were returned, and the refusal's number: one of them is 0.
+// How many states were returned, and the refusal's number: one of them is 0. A struct of numbers, for C.
 #[repr(C)]
 #[derive(Clone, Copy)]
 pub struct Ran {
@@ -27,18 +27,30 @@ pub fn enter(judged: Judged, n: usize, states: &[u8], room: usize) -> Result<Cur
     })
 }
 
-// The answer of a run that returned some states, or was refused.
-pub fn answer(returned: Result<usize, Refusal>) -> Ran
-    ensures { result ≡ answered (numbered returned) }
+// The answer of a run under a refusal's number, or 0, that returned n states.
+pub fn answer(refusal: u8, n: usize) -> Ran
+    ensures { result ≡ ran refusal n }
 {
-    match returned {
-        Ok(returned) => Ran {
-            returned,
-            refusal: 0,
-        },
-        Err(refusal) => Ran {
+    if refusal != 0 {
+        return Ran {
             returned: 0,
-            refusal: u8::from(refusal),
-        },
+            refusal,
+        };
+    }
+    Ran {
+        returned: n,
+        refusal,
+    }
+}
+
+// The answer of a run that returned some states, or was refused.
+impl From<Result<usize, Refusal>> for Ran {
+    ghost from_gives = { λ returned ran. ran ≡ answered (numbered returned) };
+
+    fn from(returned: Result<usize, Refusal>) -> Ran {
+        match returned {
+            Ok(returned) => answer(0, returned),
+            Err(refusal) => answer(refusal.into(), 0),
+        }
     }
 }

@@ -73,7 +73,7 @@ fn active_difference(values: &[u16], configuration: u8, device: &Device) -> usiz
     )
 }
 
-// The first place at which two lists differ, or where the first of them ends.
+// The first place at which two lists differ, or where the first of them ends: a place and no Option, as the definition `differs_at` has it.
 fn first_difference<T: PartialEq>(given: &[T], held: &[T]) -> usize
     ensures value { result ≡ differs_by T.eq given.now held.now }
     ensures within { result ≤ length held.now }

@@ -5,3 +5,4 @@ pub mod Grouped
 pub mod Configuration
 pub mod RoundTrip
 pub mod Returns
+pub mod Cases

@@ -1,6 +1,6 @@
 -- Each call's refusal, by what one pass over the records found and their number. What a call refuses is said in calls/specs/Calls; that both
 -- are the same is in proofs/Found.
-use Rattle.std.specs.Prelude.{ℕ, Bool, false, not, ◌&&◌, Option, Some, None, List, [], ◌∷◌, ◌++◌, ltb, leb, length}
+use Rattle.std.specs.Prelude.{ℕ, Bool, not, ◌&&◌, Option, Some, None, List, [], ◌∷◌, ◌++◌, ltb, leb, length}
 use Rattle.parts.specs.Parts.{part_of, outputs, is_count}
 use Rattle.tables.specs.Refusals.{Row, ◌when◌}
 use Rattle.tables.specs.Lists.{all_below}
@@ -23,9 +23,9 @@ is_device n device = leb 1 device && leb device n
 abbrev pub fault_rows : Judged → ℕ → ℕ → ℕ → List Row
 fault_rows j n device kind = judged_rows j n ++ (13 when not (is_device n device && (ltb kind 2 && j.fits))) ∷ []
 
--- the first record's part says how many outputs there are
+-- the first record's part says how many outputs there are: where there is no record, what 0 is read as
 abbrev pub has_output : Option ℕ → ℕ → Bool
-has_output None output = false
+has_output None output = ltb output (outputs (part_of 0))
 has_output (Some part) output = ltb output (outputs (part_of part))
 
 -- the rows of a question about an output

@@ -91,9 +91,9 @@ fn is_device(n: usize, device: usize) -> bool
     1 <= device && device <= n
 }
 
-// A chain of that part has such an output.
+// A chain of that part has such an output: without a record, of what 0 is read as.
 fn has_output(part: Option<u16>, output: u32) -> bool
     ensures { result ≡ has_output part output }
 {
-    part.is_some_and(|part| (output as usize) < parts::outputs_of(part))
+    (output as usize) < parts::outputs_of(part.unwrap_or(0))
 }

@@ -1,7 +1,7 @@
 // The lines. Each takes at most 96 bytes.
 ghost use Rattle.std.specs.Prelude.{◌≡◌, ◌+◌, ◌≤◌, ◌++◌};
 ghost use Rattle.arrayvec.specs.ArrayVec.{array_vec_len};
-ghost use Rattle.tables.specs.Refusals.{number_of, numbered};
+ghost use Rattle.tables.specs.Refusals.{numbered};
 ghost use Rattle.report.specs.Lines.{refused_line, trailing_line, part_line, ending, frame_line};
 
 use crate::text::{Lines, put, put_labelled};
@@ -54,11 +54,11 @@ fn put_ending(lines: &mut Lines, answer: Result<Read, Refusal>)
 }
 
 // The line of refused arguments.
-pub fn put_refused(lines: &mut Lines, refusal: Refusal)
+pub fn put_refused(lines: &mut Lines, number: u8)
     requires { array_vec_len lines.old + 96 ≤ 640 }
-    ensures { lines.new.items ≡ lines.old.items ++ refused_line (number_of refusal) }
+    ensures { lines.new.items ≡ lines.old.items ++ refused_line number }
 {
-    put_labelled(lines, b"refused ", u64::from(u8::from(refusal)));
+    put_labelled(lines, b"refused ", u64::from(number));
     put(lines, b"\n");
 }
 

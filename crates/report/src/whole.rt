@@ -1,7 +1,6 @@
 // The whole report.
 ghost use Rattle.std.specs.Prelude.{◌≡◌, ◌+◌, ◌≤◌, ◌++◌, length};
 ghost use Rattle.arrayvec.specs.ArrayVec.{array_vec_len};
-ghost use Rattle.tables.specs.Refusals.{numbered};
 ghost use Rattle.bits.specs.Bits.{over};
 ghost use Rattle.frames.specs.Frames.{told_of};
 ghost use Rattle.report.specs.Report.{lines_of, later_commands, all_lines, configuration_of, answer_of, report_of};
@@ -12,13 +11,13 @@ use crate::text::Lines;
 use arguments::Chain;
 use frames::Told;
 use parts::Command;
-use tables::Refusal;
 
-// Puts the lines into `out`, and answers how many bytes they are.
+// Puts the lines into `out`, and answers how many bytes they are. A refusal is told by its number, and not by name: what is written for any number is
+// promised.
 #[tactic(auto, unfolding(bits::specs::Bits::over))]
-pub fn report(asked: Result<Chain, Refusal>, input: &[u8], out: &mut [u8; 640]) -> usize
-    ensures value { result ≡ length (report_of (numbered asked) input.now) }
-    ensures out_after { out.new ≡ over (report_of (numbered asked) input.now) out.old }
+pub fn report(asked: Result<Chain, u8>, input: &[u8], out: &mut [u8; 640]) -> usize
+    ensures value { result ≡ length (report_of asked input.now) }
+    ensures out_after { out.new ≡ over (report_of asked input.now) out.old }
     ensures room { result ≤ 640 }
 {
     let lines = gathered(asked, input);
@@ -28,13 +27,13 @@ pub fn report(asked: Result<Chain, Refusal>, input: &[u8], out: &mut [u8; 640]) 
 
 // The lines for what is asked.
 #[tactic(auto, unfolding(crate::specs::Report::report_of))]
-fn gathered(asked: Result<Chain, Refusal>, input: &[u8]) -> Lines
-    ensures { result.items ≡ report_of (numbered asked) input.now }
+fn gathered(asked: Result<Chain, u8>, input: &[u8]) -> Lines
+    ensures { result.items ≡ report_of asked input.now }
 {
     let mut lines = Lines::new();
     match asked {
         Ok(chain) => put_all(&mut lines, chain, input),
-        Err(refusal) => put_refused(&mut lines, refusal),
+        Err(number) => put_refused(&mut lines, number),
     }
     lines
 }

@@ -3,7 +3,7 @@ use cases::front;
 use device::Device;
 use phases::Sent;
 
-// A device that was given states, with what it sent on.
+// A device that was given states, with what it sent on. The refusal is a number, 0 where there is none, as docs/RULES.md says it.
 #[derive(Clone, Copy)]
 pub struct Fed {
     pub device: Device,

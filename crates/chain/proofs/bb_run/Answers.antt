@@ -8,7 +8,7 @@ pub returns : goal.returns
 returns c =
     let xs = c.args.chain.now in
     let ss = c.args.states.now in (
-      c.answer.ensures ∙ ap answered c.run.ensures.value ∙ answered-ran (run_refusal xs ss (length c.args.returned.now)) (length (returned xs ss)),
+      c.into.ensures ∙ ap answered c.run.ensures.value ∙ answered-ran (run_refusal xs ss (length c.args.returned.now)) (length (returned xs ss)),
       c.run.ensures.chain_after,
       c.run.ensures.returned_after,
     )

@@ -37,7 +37,7 @@ pub fn device_take(device: Device, pending: Sent, states: &[u8], at: usize) -> P
             return low_take(device, states, at);
         }
         // By the record's number, 4 for passing: no phase is made of a record that only lets a state by, which is most often what a turn finds.
-        // No state has gone out yet: `device_taken` says so by a one of 0, which the front then passes by.
+        // The front moves on: `device_taken` says so by a one of 0, for which no state is taken.
         if device.place.phase == 4 {
             return intake::take_none(device, at, Sent::One(0));
         }

@@ -107,8 +107,7 @@ writes t tail byte bytes values out =
 reads : (t : Told) (tail : Tail) (frame bytes values : List ℕ) → claim.Reads t tail frame bytes values
 unfolding read read_bytes read_values read_refusal
 reads t tail frame bytes values =
-    let table = read_table t tail frame (length bytes) (length values) in
-    (
+    let table = read_table t tail frame (length bytes) (length values) in (
       answers table refl refl number_in Err _ refl itself,
       leaves table refl refl number_in Err _ refl itself bytes _,
       leaves table refl refl number_in Err _ refl itself values _,

@@ -5,7 +5,7 @@ ghost use Rattle.device.specs.Step.{at};
 ghost use Rattle.phases.specs.declared.phase.Phase.TheVariants.{Passing};
 ghost use Rattle.intake.specs.Intake.{high_taken, progress_of, headed_all, highs_end};
 
-use crate::blocks::{ahead, blocks_end};
+use crate::blocks::{Kind, ahead, blocks_end};
 use crate::taken::{Progress, stop, take_none};
 use device::Device;
 use phases::{Phase, Place, Sent};
@@ -99,7 +99,22 @@ fn high_blocks<const SIZE: usize>(states: &[u8], from: usize) -> usize
     requires { 0 < SIZE }
     ensures { (from ≤ result) × ((k : ℕ) → from ≤ k → k < result → (k < length states.now) × (2 ≤ get_or states.now k 0)) }
 {
-    blocks_end::<SIZE, _>(states, from, |state| state >= 2)
+    blocks_end::<SIZE, HighStates>(states, from)
+}
+
+// High states: the least of a block is one.
+struct HighStates;
+
+impl Kind for HighStates {
+    ghost IsOf = { λ s. 2 ≤ s };
+
+    fn has_all(block: &[u8]) -> bool {
+        let mut least: u8 = 255;
+        for state in block {
+            least = least.min(*state);
+        }
+        least >= 2
+    }
 }
 
 // The place of the first low state, or the end.

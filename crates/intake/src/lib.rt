@@ -5,10 +5,11 @@
 mod blocks;
 mod field;
 mod highs;
+mod lows;
 mod slice;
 mod taken;
 
-pub use blocks::blocks_end;
 pub use highs::{highs_end, take};
+pub use lows::low_blocks;
 pub use slice::take_slice;
 pub use taken::{Progress, settle, stop, take_none};

@@ -1,5 +1,5 @@
 // What the device of a turn takes.
-ghost use Rattle.std.specs.Prelude.{◌≡◌, ℕ, ◌<◌, ◌≤◌, length, get_or, drop};
+ghost use Rattle.std.specs.Prelude.{◌≡◌, drop};
 ghost use Rattle.intake.specs.Intake.{progress_of};
 ghost use Rattle.turns.specs.Front.{is_lost, low_taken, device_taken};
 ghost use Rattle.phases.specs.declared.phase.Sent.TheVariants.{Nothing};
@@ -59,18 +59,11 @@ fn low_take(device: Device, states: &[u8], at: usize) -> Progress
 fn hear_all(window: u16, states: &[u8], from: usize) -> Heard
     ensures { result ≡ hear_all window (drop from states.now) from }
 {
-    let end = low_blocks(states, from);
+    let end = intake::low_blocks(states, from);
     if end - from < 9 {
         return hear_each(window, states, from);
     }
     hear_each(0, states, end - 9)
-}
-
-// Where blocks of low states alone end.
-fn low_blocks(states: &[u8], from: usize) -> usize
-    ensures { (from ≤ result) × ((k : ℕ) → from ≤ k → k < result → (k < length states.now) × (get_or states.now k 0 < 2)) }
-{
-    intake::blocks_end::<64, _>(states, from, |state| state < 2)
 }
 
 // Low states are heard one after the other, the window in a local.

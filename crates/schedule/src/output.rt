@@ -25,7 +25,8 @@ pub struct Clocks {
 }
 
 impl Output {
-    // Is it lit at a moment?
+    // Is it lit at a moment? Inlined, so that neither the output nor the moment goes through memory to be asked about.
+    #[inline(always)]
     #[tactic(auto, unfolding(crate::specs::Answers::lit_answer))]
     pub fn is_lit(self, moment: Moment) -> Result<bool, Refusal>
         ensures { numbered result
@@ -36,7 +37,8 @@ impl Output {
         Ok(self.is_lit_at(moment))
     }
 
-    // At which clocks of a subframe is it lit? Refused as the question about clock 0, which every part has.
+    // At which clocks of a subframe is it lit? Refused as the question about clock 0, which every part has. Inlined for the same reason.
+    #[inline(always)]
     #[tactic(auto, unfolding(crate::specs::Answers::lit_clocks_answer))]
     pub fn lit_clocks(self, subframe: u32, phase: u32) -> Result<Clocks, Refusal>
         ensures { numbered result

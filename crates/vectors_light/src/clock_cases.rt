@@ -1,4 +1,6 @@
 // j, k and r: the clocks at which an output is lit, each clock asked for and counted. s: outputs that a part has, and that it does not have.
+ghost use Rattle.std.specs.Prelude.{◌≡◌, ◌≤◌, ◌+◌};
+
 use cases::{Outcome, case};
 use schedule::{Moment, Output};
 use std::{fmt, io};
@@ -77,7 +79,9 @@ fn wide_cases(
     lit_case(rt, letter, part, 33, FIRST, odd, lit_for(1, 16351, 16351))
 }
 
-fn lit_for(count: usize, first: u32, last: u32) -> Lit {
+fn lit_for(count: usize, first: u32, last: u32) -> Lit
+    ensures { result.count ≡ count }
+{
     Lit { count, first, last }
 }
 
@@ -94,15 +98,27 @@ fn lit_case(
     case(rt, name, should, lit_clocks(part, value, output))
 }
 
-// Every clock of subframe 0 is asked for. It is ON: the global byte is the highest.
+// Every clock of subframe 0 is asked for, once. It is ON: the global byte is the highest.
 fn lit_clocks(part: u16, value: u16, output: u32) -> Lit {
     let output = output_of(part, value, output);
-    let is_lit = |clock: &u32| output.is_lit(at_clock(*clock)) == Ok(true);
-    let clocks = u32::from(parts::constants_of(part).clocks);
+    let mut came = lit_for(0, 0, 0);
+    for clock in 0..u32::from(parts::constants_of(part).clocks) {
+        if output.is_lit(at_clock(clock)) == Ok(true) {
+            came = with_clock(came, clock);
+        }
+    }
+    came
+}
+
+// A clock more, behind all that were asked for.
+fn with_clock(lit: Lit, clock: u32) -> Lit
+    requires { lit.count ≤ clock }
+    ensures { result.count ≤ clock + 1 }
+{
     Lit {
-        count: (0..clocks).filter(&is_lit).count(),
-        first: (0..clocks).find(&is_lit).unwrap_or(0),
-        last: (0..clocks).rev().find(&is_lit).unwrap_or(0),
+        count: lit.count + 1,
+        first: if lit.count == 0 { clock } else { lit.first },
+        last: clock,
     }
 }
 

@@ -1,3 +1,3 @@
 -- The laws behind the proofs of the functions.
 mod Decimals
-mod Restoring
+pub mod Restoring

@@ -1,6 +1,7 @@
 -- A refused run leaves all as it was; the turns of an accepted one end where the run ends, and then every device is brought up to its last clock.
 -- Assumes nothing.
 use Rattle.std.proofs.Common.{◌∙◌, length, map, ap, sym, subst, refl, ◌<◌, ◌^◌, arith, rules}
+use Rattle.std.proofs.lemmas.List.{append-nil, take_all, drop_all}
 use Rattle.std.specs.Prelude.{Ok, Err}
 use Rattle.tables.proofs.Rows.{named, refused, accepted, kept, changed}
 use Rattle.calls.specs.Calls.{run_refusal, returned, run_devices}
@@ -82,11 +83,11 @@ returns c =
     let short : length ss < 2 ^ 63 = search rules in
     let same = run-same xs ss os short in
     let written = written-is (run_refusal xs ss (length os)) _ _ zero same.0 in
+    let closed = ap (λ (r : Running). map (by_clock_device (length ss)) r.devices) last
+    ∙ changed (run_end xs ss os).devices (sym zero) refl refl
+    ∙ same.1 in
     record {
       value = accepted Err (sym zero) refl (ap Ok (ap (λ (r : Running). r.cursor.written) last ∙ written));
-      chain_after = c.close.ensures
-          ∙ ap (λ (r : Running). map (by_clock_device (length ss)) r.devices) last
-          ∙ changed (run_end xs ss os).devices (sym zero) refl refl
-          ∙ same.1;
+      chain_after = grind (arith, append-nil, take_all, drop_all, c.close.ensures, closed);
       returned_after = ap (λ (r : Running). r.out) last ∙ same.2;
     }

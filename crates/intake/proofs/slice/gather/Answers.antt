@@ -1,6 +1,6 @@
 use mathlib.Core.Path.{◌≡◌, sym, ap, ap₂, ◌∙◌}
-use Prim.Native.Nat.{ℕ, ◌+◌, ◌-◌, ◌%◌, ◌<◌, ◌≤◌, min}
-use lib.ListN.{length, get_or, set, drop, length-set}
+use Prim.Native.Nat.{ℕ, ◌+◌, ◌-◌, ◌%◌, ◌<◌, ◌≤◌}
+use lib.ListN.{set, drop, length-set}
 use native.Mathlib.Omega.{arith}
 use Rattle.device.specs.Step.{slice_length}
 use Rattle.parts.specs.Parts.{part_of, field_width}
@@ -8,7 +8,7 @@ use Rattle.parts.specs.declared.command.Command.{Command}
 use Rattle.parts.proofs.Laws.{usable}
 use Rattle.parts.proofs.Rows.{field-width-pos}
 use Rattle.registers.specs.declared.registers.Registers.{Registers}
-use Rattle.intake.specs.Intake.{filled, field_after, lack_after, progress_of, high_taken, collecting}
+use Rattle.intake.specs.Intake.{field_after, lack_after, progress_of, high_taken, collecting}
 use Rattle.intake.proofs.Slices.{FieldTaken, field_taken, slice-le, field_next, goes_on, goes-more, goes-full}
 use Rattle.intake.proofs.Clauses.{high_end}
 use Rattle.intake.proofs.Settled.{full-progress}
@@ -29,9 +29,7 @@ turn c =
     let ss = a.states.now in
     let i = l.i in
     field_taken a.registers a.command a.count ss sl l.t i c.field_width-width.result c.field_limit-below.result c.fill-filled.result v.0 v.1 v.4 v.3 c.loop-i-test.true (omega arith)
-    (c.fill-filled.ensures
-    ∙ ap (λ (x : ℕ). filled (get_or sl l.k 0) (i + x - i) (drop i ss) i) c.min.ensures
-    ∙ ap₂ (λ (k lack : ℕ). filled (get_or sl k 0) (i + min lack (length ss - i) - i) (drop i ss) i) v.5 v.6)
+    (grind (arith, c.fill-filled.ensures, c.min.ensures, v.5, v.6))
 
 -- and what is left to do
 onward : (c : After-fill-filled) → high_taken (collecting c.args.registers c.loop-i.slice c.args.command c.args.count c.loop-i.t) (drop c.loop-i.i c.args.states.now) c.loop-i.i

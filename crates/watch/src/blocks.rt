@@ -122,13 +122,11 @@ fn change_in(level: u8, din: bool, block: &[u8; 64], clock: usize) -> usize
 pub fn stays(level: u8, din: bool, block: &[u8; 64]) -> bool
     ensures { result ≡ true → (t : ℕ) → change_in level din block.now t ≡ 0 }
 {
-    let mut other: u8 = 0;
+    let mut all = true;
     for state in block {
-        if level_of(din, *state) != level {
-            other = 1;
-        }
+        all = all & (level_of(din, *state) == level);
     }
-    other == 0
+    all
 }
 
 // The clock of a line's last change, or 0: looked for from the end back.

@@ -184,15 +184,35 @@ pub fn comes_to(limit: u64, count: u64, clocks: usize) -> bool
     count.saturating_add(clocks as u64) >= limit
 }
 
-// The place of the next change, or the end.
+// The place of the next change, or the end. The first state is looked at by itself: often it is the change.
 fn next_change(states: &[u8], from: usize, to: usize) -> usize
     ensures { result ≡ next_change (level_at states.now from) (map data_bit (slice_range states.now from to)) from }
 {
-    from + before_change(level_before(states, from), part(states, from, to))
+    let level = level_before(states, from);
+    if from >= to.min(states.len()) || states[from] % 2 != level {
+        return from;
+    }
+    from + 1 + before_change(level, part(states, from + 1, to))
 }
 
-// How many states stand before the first at which the data line changes. Blocks in which it does not are passed first.
+// How many states stand before the first at which the data line changes. Often it changes within a block's length, so the first block is looked at by
+// itself.
 fn before_change(level: u8, states: &[u8]) -> usize
+    ensures value { result ≡ next_change level (map data_bit states.now) 0 }
+    ensures within { result ≤ length states.now }
+{
+    match states.split_first_chunk::<64>() {
+        Some((block, behind)) if blocks::stays(level, true, block) => {
+            64 + before_change_by_blocks(level, behind)
+        }
+        _ => count_at(level, states),
+    }
+}
+
+// The same, by blocks: those in which the data line does not change are passed first. It is not inlined, so that a search that ends near by keeps its
+// numbers in registers.
+#[inline(never)]
+fn before_change_by_blocks(level: u8, states: &[u8]) -> usize
     ensures value { result ≡ next_change level (map data_bit states.now) 0 }
     ensures within { result ≤ length states.now }
 {

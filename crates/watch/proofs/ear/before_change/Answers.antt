@@ -1,22 +1,17 @@
-use Rattle.std.proofs.Common.{◌≡◌, ◌+◌, ◌-◌, length, sym, ◌∙◌, arith}
+use Rattle.std.proofs.Common.{arith}
 use Rattle.watch.proofs.Changes.{passed-more, next-by-count}
 use Rattle.watch.proofs.ear.before_change.Goals as goal
 
-pub loop-block-preserved : goal.loop-block-preserved
-loop-block-preserved c = let a = c.args in
-    let l = c.loop-block in
+pub returns-in-Some-clause-value : goal.returns-in-Some-clause-value
+returns-in-Some-clause-value c = let a = c.args in
     let s = c.in-Some in
-    let parts = s.ensures.cases in
-    let passed = length a.states.now - length l.rest.now in
-    let count : passed + 64 ≡ length a.states.now - length s.behind.now = omega (arith, l.invariant.within, parts.2) in
-    record {
-      same = rw (← count)
-          (l.invariant.same
-          ∙ passed-more a.level l.rest.now s.block.now s.behind.now 64 passed (omega (arith, parts.2)) parts.0 parts.1 (c.stays.ensures c.if-not-stays.false passed));
-      within = omega (arith, l.invariant.within, parts.2);
-    }
+    let parts = s.ensures.cases in omega (
+      arith,
+      passed-more a.level a.states.now s.block.now s.behind.now 64 0 (omega (arith, parts.2)) parts.0 parts.1 (c.stays.ensures c.if-stays.true 0),
+      next-by-count a.level s.behind.now 64,
+      next-by-count a.level s.behind.now 0,
+      c.before_change_by_blocks.ensures.value,
+    )
 
-pub returns-clause-value : goal.returns-clause-value
-returns-clause-value c = let a = c.args in
-    let l = c.loop-block in
-    rw c.count_at.ensures.value (sym (l.invariant.same ∙ next-by-count a.level l.rest.now (length a.states.now - length l.rest.now)))
+pub returns-in_default-clause-value : goal.returns-in_default-clause-value
+returns-in_default-clause-value c = omega (arith, c.count_at.ensures.value, next-by-count c.args.level c.args.states.now 0)

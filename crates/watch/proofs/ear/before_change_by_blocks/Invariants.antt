@@ -1,7 +1,7 @@
 use Rattle.std.proofs.Common.{◌≡◌, ◌-◌, ◌≤◌, map, length}
 use Rattle.watch.specs.Watch.{data_bit}
 use Rattle.watch.specs.Ear.{next_change}
-use Rattle.watch.proofs.ear.before_change.Given as goal
+use Rattle.watch.proofs.ear.before_change_by_blocks.Given as goal
 
 abbrev pub invariant-loop-block : goal.invariant-loop-block
 invariant-loop-block l = record {

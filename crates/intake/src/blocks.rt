@@ -1,7 +1,7 @@
 // States are gone over in blocks, as long as all states of a block are of one kind.
 ghost use Rattle.std.specs.Prelude.{◌≡◌, true, ℕ, ◌<◌, ◌≤◌, ◌+◌, length, get_or, drop};
 
-// A kind of states, and how a block is seen to have no other. No early end in it, so that its loop is vectorised.
+// A kind of states, and how a block is seen to have no other.
 pub trait Kind {
     ghost IsOf: { ℕ → Type 0 };
 
@@ -22,14 +22,11 @@ pub fn blocks_end<const SIZE: usize, K: Kind>(states: &[u8], from: usize) -> usi
     ensures { (from ≤ result) × ((k : ℕ) → from ≤ k → k < result → (k < length states.now) × K.IsOf (get_or states.now k 0)) }
 {
     let mut end = from;
-    let mut rest = ahead(states, from);
-    while rest.len() >= SIZE {
-        let (block, behind) = rest.split_at(SIZE);
+    for block in ahead(states, from).chunks_exact(SIZE) {
         if !K::has_all(block) {
             break;
         }
         end += SIZE;
-        rest = behind;
     }
     end
 }

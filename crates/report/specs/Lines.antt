@@ -1,4 +1,4 @@
--- The lines of the bench program, as the bytes of their text (ASCII), and a text in a lent buffer. docs/RULES.md, "The bench program".
+-- The lines of the bench program, as the bytes of their text (ASCII). docs/RULES.md, "The bench program".
 use Rattle.std.specs.Prelude.{ℕ, zero, suc, ◌+◌, ◌/◌, ◌%◌, cond, List, [], ◌∷◌, ◌++◌, ltb, Result, Ok, Err}
 use Rattle.parts.specs.declared.command.Command.{Command}
 use Rattle.parts.specs.declared.command.Command.TheVariants.{Individual, Calibration, Global, Configuration}

@@ -17,15 +17,5 @@ pub fn take_bytes(frame: &[u8], n: usize, bytes: &mut [u8])
     requires { (3 + n ≤ length frame.now) × (n ≤ length bytes.old) }
     ensures { bytes.new ≡ over (take n (drop 3 frame.now)) bytes.old }
 {
-    copy_over(&mut bytes[..n], &frame[3..3 + n]);
-}
-
-// One list over another. By index, and not `copy_from_slice`, which asks for the C library's memmove: the library for C asks for no such name.
-fn copy_over(to: &mut [u8], from: &[u8])
-    requires { length to.old ≡ length from.now }
-    ensures { to.new ≡ from.now }
-{
-    for i in 0..to.len() {
-        to[i] = from[i];
-    }
+    bits::copy_over(bytes, &frame[3..3 + n]);
 }

@@ -26,19 +26,7 @@ pub fn put_bytes(bytes: &[u8], out: &mut [u8], at: usize) -> usize
     requires { at + length bytes.now ≤ length out.old }
     ensures { (out.new ≡ over_at at (bytes_of (fields 8 bytes.now)) out.old) × (result ≡ at + length bytes.now) }
 {
-    let end = at + bytes.len();
-    copy_over(&mut out[at..end], bytes);
-    end
-}
-
-// One list over another. By index, and not `copy_from_slice`, which asks for the C library's memmove: the library for C asks for no such name.
-fn copy_over(to: &mut [u8], from: &[u8])
-    requires { length to.old ≡ length from.now }
-    ensures { to.new ≡ from.now }
-{
-    for i in 0..to.len() {
-        to[i] = from[i];
-    }
+    at + bits::copy_over(&mut out[at..], bytes)
 }
 
 // One byte n times.

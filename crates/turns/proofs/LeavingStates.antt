@@ -9,10 +9,9 @@ use native.Mathlib.Nat.{mod-lt}
 use native.Mathlib.Omega.{arith}
 use lib.Dec.{ltb, leb, lit<}
 use lib.ListN.{length, set, take, drop, length-set, length-drop}
-use lib.Seq.{set_out, length-take-le}
-use borrow.Rule.Slice.PartMut.{put_mid, Post-is}
+use lib.Seq.{set_out, length-take-le, take_all}
 use borrow.Author.Tests.{le-leb, leb-true, leb-false}
-use Rattle.bits.specs.Bits.{is_one, digit, bits, over}
+use Rattle.bits.specs.Bits.{is_one, digit, bits, over, over_at}
 use Rattle.parts.specs.Parts.{code}
 use Rattle.parts.specs.Wire.{high, state_code, command_count, header, clocked_at, states_of}
 use Rattle.parts.specs.declared.command.Command.{Command}
@@ -36,10 +35,10 @@ put_full os w [] h = refl
 put_full os w (x ∷ xs) h =
     put_full (set os w x) (w + 1) xs (simp length-set (omega (arith, h))) ∙ set_out os w x h
 
-pub put-end-is : (room w k : ℕ) → w ≤ room → w + min k (room - w) ≡ put_end room w k
+pub put-end-is : (room w k : ℕ) → w ≤ room → w + min (room - w) k ≡ put_end room w k
 put-end-is room w k h = by_cases (leb (w + k) room) refl
   where
-    by_cases : (t : Bool) → leb (w + k) room ≡ t → w + min k (room - w) ≡ put_end room w k
+    by_cases : (t : Bool) → leb (w + k) room ≡ t → w + min (room - w) k ≡ put_end room w k
     by_cases true q = rw q (omega (arith, leb-true (w + k) room q))
     by_cases false q = rw q (omega (arith, leb-false (w + k) room q, h))
 
@@ -84,47 +83,24 @@ put-after os y w (x ∷ xs) =
     next : (k : ℕ) → suc k + 1 ≡ k + 1 + 1
     next k = omega arith
 
-pub put-over : (os xs : List ℕ) → length xs ≤ length os → put_all os 0 xs ≡ over xs os
+-- as many as there is room for
+put-first : (os xs : List ℕ) → put_all os 0 xs ≡ over (take (length os) xs) os
 unfolding put_all over
-put-over os [] h = refl
-put-over [] (x ∷ xs) h = absurd (omega (arith, h))
-put-over (o ∷ os) (x ∷ xs) h = put-after os x 0 xs ∙ ap (λ (r : List ℕ). x ∷ r) (put-over os xs (omega (arith, h)))
-
--- ---- as many states as there is room for are copied
-
-put-first : (os xs : List ℕ) → put_all os 0 xs ≡ take (min (length xs) (length os)) xs ++ drop (min (length xs) (length os)) os
-unfolding put_all
 put-first [] [] = refl
-put-first [] (x ∷ xs) =
-    let none : 0 ≡ min (suc (length xs)) 0 = omega arith in
-    put_full [] 1 xs (omega arith) ∙ ap (λ (n : ℕ). take n (x ∷ xs) ++ drop n []) none
-put-first (o ∷ os) [] =
-    let none : 0 ≡ min 0 (suc (length os)) = omega arith in
-    ap (λ (n : ℕ). take n [] ++ drop n (o ∷ os)) none
-put-first (o ∷ os) (x ∷ xs) =
-    let more : suc (min (length xs) (length os)) ≡ min (suc (length xs)) (suc (length os)) = omega arith in
-    put-after os x 0 xs ∙ ap (λ (r : List ℕ). x ∷ r) (put-first os xs)
-    ∙ ap (λ (n : ℕ). take n (x ∷ xs) ++ drop n (o ∷ os)) more
+put-first [] (x ∷ xs) = put_full [] 1 xs (omega arith)
+put-first (o ∷ os) [] = refl
+put-first (o ∷ os) (x ∷ xs) = put-after os x 0 xs ∙ ap (λ (r : List ℕ). x ∷ r) (put-first os xs)
 
-put-copied : (os : List ℕ) (w n : ℕ) (xs : List ℕ) → w ≤ length os → n ≡ min (length xs) (length os - w)
-    → take w os ++ (take n xs ++ drop (w + n) os) ≡ put_all os w xs
-put-copied os zero n xs h e =
-    let m : n ≡ min (length xs) (length os) = omega (arith, e) in
-    let z : 0 + n ≡ n = omega arith in
-    ap (λ (k : ℕ). take n xs ++ drop k os) z ∙ ap (λ (k : ℕ). take k xs ++ drop k os) m ∙ sym (put-first os xs)
-put-copied [] (suc w) n xs h e = absurd (omega (arith, h))
-put-copied (o ∷ os) (suc w) n xs h e =
-    let z : suc w + n ≡ suc (w + n) = omega arith in
-    ap (λ (k : ℕ). o ∷ (take w os ++ (take n xs ++ drop k (o ∷ os)))) z
-    ∙ ap (λ (r : List ℕ). o ∷ r) (put-copied os w n xs (omega (arith, h)) (omega (arith, e)))
-    ∙ sym (put-after os o w xs)
-    ∙ ap (λ (k : ℕ). put_all (o ∷ os) k xs) (add-one w)
+pub put-over : (os xs : List ℕ) → length xs ≤ length os → put_all os 0 xs ≡ over xs os
+put-over os xs h = put-first os xs ∙ ap (λ (z : List ℕ). over z os) (take_all (length os) xs h)
 
--- the same, as a copy into a part of the room leaves it
-pub put-mid : (os : List ℕ) (w n : ℕ) (xs ys : List ℕ) → w ≤ length os → n ≡ min (length xs) (length os - w) → ys ≡ take n xs
-    → put_mid w (w + n - w) os ys ≡ put_all os w xs
-put-mid os w n xs ys h e y =
-    rw (y, Post-is w (w + n) os (omega arith)) (put-copied os w n xs h e)
+-- the same from a place on, as a copy over the rest of the room leaves it
+pub put-copied : (os : List ℕ) (w : ℕ) (xs : List ℕ) → over_at w (take (length (drop w os)) xs) os ≡ put_all os w xs
+unfolding over_at over
+put-copied os zero xs = sym (put-first os xs)
+put-copied [] (suc w) xs = sym (put_full [] (suc w) xs (omega arith))
+put-copied (o ∷ os) (suc w) xs =
+    ap (λ (r : List ℕ). o ∷ r) (put-copied os w xs) ∙ sym (put-after os o w xs) ∙ ap (λ (k : ℕ). put_all (o ∷ os) k xs) (add-one w)
 
 -- ---- the 24 states of a header
 

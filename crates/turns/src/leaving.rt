@@ -64,19 +64,7 @@ fn append(returned: &mut [u8], from: usize, states: &[u8]) -> usize
     requires { from ≤ length returned.old }
     ensures { (result ≡ put_end (length returned.old) from (length states.now)) × (returned.new ≡ put_all returned.old from states.now) }
 {
-    let count = states.len().min(returned.len() - from);
-    copy_over(&mut returned[from..from + count], &states[..count]);
-    from + count
-}
-
-// One list over another. By index, and not `copy_from_slice`, which asks for the C library's memmove: the library for C asks for no such name.
-fn copy_over(to: &mut [u8], from: &[u8])
-    requires { length to.old ≡ length from.now }
-    ensures { to.new ≡ from.now }
-{
-    for i in 0..to.len() {
-        to[i] = from[i];
-    }
+    from + bits::copy_over(&mut returned[from..], states)
 }
 
 // The 24 states of a header: SYNC at low load, command and count at high.
